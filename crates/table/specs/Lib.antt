@@ -1,0 +1,4 @@
+pub mod Refusals
+pub mod Questions
+pub mod Encoding
+pub mod Places
