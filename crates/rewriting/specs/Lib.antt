@@ -1,0 +1,4 @@
+pub mod Marked
+pub mod Reach
+pub mod Steps
+pub mod Reducer

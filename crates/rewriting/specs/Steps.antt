@@ -1,0 +1,158 @@
+-- The eight steps, after document 01, "Eight steps", and lists of them.
+use mathlib.Core.Bool.{Bool, true, false, not, cond, _&&_}
+use mathlib.Core.List.{List, [], _∷_}
+use Prim.Native.Nat.{ℕ, zero, suc}
+use lib.Dec.{eqb, ltb}
+use lib.ListN.{getD, set}
+use Rattle.semantics.specs.Lists.{any, all, null, mem, within, without}
+use Rattle.semantics.specs.Programs.{Clause}
+use Rattle.rewriting.specs.Marked.{Entry, Marked, entry, left}
+use Rattle.rewriting.specs.Reach.{reach}
+
+pub data Kind : Type 0 where
+  tautology contradiction success noHead blocked failure loop subsumed : Kind
+
+-- document 01's number of each kind
+abbrev pub number : Kind → ℕ
+number tautology = 1
+number contradiction = 2
+number success = 3
+number noHead = 4
+number blocked = 5
+number failure = 6
+number loop = 7
+number subsumed = 8
+
+-- the kind of a number from 1 to 8; what other numbers give is never asked
+abbrev pub kindOf : ℕ → Kind
+kindOf zero = tautology
+kindOf (suc zero) = tautology
+kindOf (suc (suc zero)) = contradiction
+kindOf (suc (suc (suc zero))) = success
+kindOf (suc (suc (suc (suc zero)))) = noHead
+kindOf (suc (suc (suc (suc (suc zero))))) = blocked
+kindOf (suc (suc (suc (suc (suc (suc zero)))))) = failure
+kindOf (suc (suc (suc (suc (suc (suc (suc zero))))))) = loop
+kindOf (suc (suc (suc (suc (suc (suc (suc (suc w)))))))) = subsumed
+
+-- "A list is a slice of words, four a step: kind, target, partner, atom."
+pub record Step : Type 0 where
+  pub kind : Kind
+  pub target : ℕ
+  pub partner : ℕ
+  pub atom : ℕ
+
+abbrev pub step : Kind → ℕ → ℕ → ℕ → Step
+step k t p a = record { kind = k; target = t; partner = p; atom = a }
+
+-- "Kinds 1, 2, 4, 6, 7 have no partner word, kinds 3, 5, 8 no atom word"
+abbrev pub usesPartner : Kind → Bool
+usesPartner tautology = false
+usesPartner contradiction = false
+usesPartner success = true
+usesPartner noHead = false
+usesPartner blocked = true
+usesPartner failure = false
+usesPartner loop = false
+usesPartner subsumed = true
+
+abbrev pub usesAtom : Kind → Bool
+usesAtom tautology = true
+usesAtom contradiction = true
+usesAtom success = false
+usesAtom noHead = true
+usesAtom blocked = false
+usesAtom failure = true
+usesAtom loop = true
+usesAtom subsumed = false
+
+-- "one with p = q = 0 is a fact, even where h is 0 or above 1"
+abbrev pub fact : Clause → Bool
+fact d = null (d .pos) && null (d .neg)
+
+-- the list has exactly one element, and the test holds of it
+abbrev pub single : (ℕ → Bool) → List ℕ → Bool
+single f [] = false
+single f (b ∷ []) = f b
+single f (b ∷ c ∷ l) = false
+
+-- the atom is in the head of no clause
+unfoldable pub inNoHead : List Clause → ℕ → Bool
+inNoHead cs a = not (any (λ c. mem a (c .head)) cs)
+
+-- Each kind's condition, with the kept clauses cs, the target c, the partner d and the atom a, all as left:
+-- 1 "the atom is in the target's head and its positive body"
+-- 2 "the atom is in its positive and negative body"
+-- 3 "the partner is a fact with exactly one head atom, which is in the target's positive body"
+-- 4 "the atom is in its negative body and in the head of no kept clause"
+-- 5 "the partner is a fact whose head atoms are all in the target's negative body"
+-- 6 "the atom is in its positive body and in the head of no kept clause"
+-- 7 "the atom is in its positive body and outside the reach"
+-- 8 "each of the partner's three parts is within the target's same part"
+unfoldable pub condition : Kind → List Clause → Clause → Clause → ℕ → Bool
+unfolding inNoHead reach
+condition tautology cs c d a = mem a (c .head) && mem a (c .pos)
+condition contradiction cs c d a = mem a (c .pos) && mem a (c .neg)
+condition success cs c d a = fact d && single (λ b. mem b (c .pos)) (d .head)
+condition noHead cs c d a = mem a (c .neg) && inNoHead cs a
+condition blocked cs c d a = fact d && within (d .head) (c .neg)
+condition failure cs c d a = mem a (c .pos) && inNoHead cs a
+condition loop cs c d a = mem a (c .pos) && not (reach cs a)
+condition subsumed cs c d a = within (d .head) (c .head) && (within (d .pos) (c .pos) && within (d .neg) (c .neg))
+
+-- 13 "Is the target below m and kept?"
+abbrev pub targetKept : Marked → Step → Bool
+targetKept P s = entry P (s .target) .kept
+
+-- 14 "Is the partner below m, kept and another clause, or 0 where unused?"
+abbrev pub partnerKept : Marked → Step → Bool
+partnerKept P s = cond (usesPartner (s .kind)) (entry P (s .partner) .kept && not (eqb (s .partner) (s .target))) (eqb (s .partner) 0)
+
+-- 15 "Is the atom below n, or 0 where unused?"
+abbrev pub atomKnown : ℕ → Step → Bool
+atomKnown n s = cond (usesAtom (s .kind)) (ltb (s .atom) n) (eqb (s .atom) 0)
+
+-- 16 "Does the kind's condition hold?"
+unfoldable pub conditionHolds : Marked → Step → Bool
+unfolding condition left
+conditionHolds P s = condition (s .kind) (left P) (entry P (s .target) .clause) (entry P (s .partner) .clause) (s .atom)
+
+-- the step is applicable: questions 13 to 16
+unfoldable pub applies : ℕ → Marked → Step → Bool
+unfolding conditionHolds
+applies n P s = targetKept P s && (partnerKept P s && (atomKnown n s && conditionHolds P s))
+
+abbrev pub deleted : Clause → Entry
+deleted c = record { kept = false; clause = c }
+
+abbrev pub dropPos : ℕ → Clause → Entry
+dropPos a c = record { kept = true; clause = record { head = c .head; pos = without a (c .pos); neg = c .neg } }
+
+abbrev pub dropNeg : ℕ → Clause → Entry
+dropNeg a c = record { kept = true; clause = record { head = c .head; pos = c .pos; neg = without a (c .neg) } }
+
+-- what a step of each kind leaves of its target c, with the partner d and the atom a
+abbrev pub rewritten : Kind → Clause → Clause → ℕ → Entry
+rewritten tautology c d a = deleted c
+rewritten contradiction c d a = deleted c
+rewritten success c d a = dropPos (getD (d .head) 0 0) c
+rewritten noHead c d a = dropNeg a c
+rewritten blocked c d a = deleted c
+rewritten failure c d a = deleted c
+rewritten loop c d a = deleted c
+rewritten subsumed c d a = deleted c
+
+unfoldable pub effect : Marked → Step → Marked
+effect P s = set P (s .target) (rewritten (s .kind) (entry P (s .target) .clause) (entry P (s .partner) .clause) (s .atom))
+
+-- "each step is asked and made on the marks that the step before it left"
+unfoldable pub accepted : ℕ → Marked → List Step → Bool
+unfolding applies effect
+accepted n P [] = true
+accepted n P (s ∷ l) = applies n P s && accepted n (effect P s) l
+
+-- what a list leaves, up to the first step that is refused
+unfoldable pub leaves : ℕ → Marked → List Step → Marked
+unfolding applies effect
+leaves n P [] = P
+leaves n P (s ∷ l) = cond (applies n P s) (leaves n (effect P s) l) P
