@@ -181,7 +181,7 @@ unfolding andThen
 and-inv (To x) v e h = (x, refl, h)
 and-inv (Stop r) v e h = let z : _≡_ {A = ℕ} 0 1 = cc in absurd (omega arith)
 
-on-inv : (w : Walk) (f : ℕ → Walk) (e : ℕ) → onTo w f ≡ To e → (d : ℕ) × (w ≡ To d) × (f d ≡ To e)
+pub on-inv : (w : Walk) (f : ℕ → Walk) (e : ℕ) → onTo w f ≡ To e → (d : ℕ) × (w ≡ To d) × (f d ≡ To e)
 unfolding onTo
 on-inv (To d) f e h = (d, refl, h)
 on-inv (Stop r) f e h = let z : _≡_ {A = ℕ} 0 1 = cc in absurd (omega arith)

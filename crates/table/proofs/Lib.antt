@@ -1,2 +1,4 @@
 pub mod Laws
 pub mod Encoding
+pub mod Places
+pub mod View
