@@ -42,7 +42,7 @@ unfolding entriesFrom
 entriesFrom-after w k j v zero o h = refl
 entriesFrom-after w k j v (suc m) o h = rw (entryAt-other w k j v o (inl h), entriesFrom-after w k j v m (nextAt w o) (omega arith))
 
-start-le : (w : List ℕ) (o t : ℕ) → o ≤ startFrom w o t
+pub start-le : (w : List ℕ) (o t : ℕ) → o ≤ startFrom w o t
 unfolding startFrom
 start-le w o zero = omega arith
 start-le w o (suc t) = omega (arith, start-le w (nextAt w o) t)
@@ -139,8 +139,7 @@ part-cleared : (w k : List ℕ) (o len b : ℕ) → o + len ≤ length k → Ris
 part-cleared w k o len b l r m =
     let q = part-mem w k o len b m in
     let f = find-is w b o len (q .0) (q .1) (q .2) (q .3) in
-    let j = find w b o len in
-    (
+    let j = find w b o len in (
       f .0,
       f .1,
       part-drop w k j o len (f .0) (f .1) (omega arith) r ∙ ap (λ x. without x (part w k o len)) (f .2),
@@ -165,8 +164,7 @@ module _ (w k : List ℕ) (n o : ℕ) (g : Good w n o) (long : length w ≤ leng
   unfolding entryAt
   cleared-pos b m =
       let (x, y, z, v) = part-cleared w k (posAt w o) (getD w (o + 1) 0) b (omega (arith, g .fits)) (g .posRises) m in
-      let j = find w b (posAt w o) (getD w (o + 1) 0) in
-      (
+      let j = find w b (posAt w o) (getD w (o + 1) 0) in (
         omega arith,
         omega arith,
         rw (getD-set-other k j o 0 0 (λ e. omega arith), kept, part-other w k j 0 (headAt o) (getD w o 0) (inr x), z, part-other w k j 0 (negAt w o) (getD w (o + 2) 0) (inl y)),
@@ -177,8 +175,7 @@ module _ (w k : List ℕ) (n o : ℕ) (g : Good w n o) (long : length w ≤ leng
   unfolding entryAt
   cleared-neg b m =
       let (x, y, z, v) = part-cleared w k (negAt w o) (getD w (o + 2) 0) b (omega (arith, g .fits)) (g .negRises) m in
-      let j = find w b (negAt w o) (getD w (o + 2) 0) in
-      (
+      let j = find w b (negAt w o) (getD w (o + 2) 0) in (
         omega arith,
         omega arith,
         rw (getD-set-other k j o 0 0 (λ e. omega arith), kept, part-other w k j 0 (headAt o) (getD w o 0) (inr (omega arith)), part-other w k j 0 (posAt w o) (getD w (o + 1) 0) (inr x), z),
@@ -221,7 +218,7 @@ module _ (w k : List ℕ) (p : Passed w) (long : length w ≤ length k) where
       let l : t < getD w 1 0 = omega (arith, kept-lt (view w k) t x, length-view w k) in
       let e = entry-view w k t l in
       let r = cleared w k (getD w 0 0) (startOf w t) (passed-good w p t l) long (subst (λ c. So (c .kept)) e x) (s .kind) (left (view w k)) d (s .atom)
-          (subst (λ c. So (condition (s .kind) (left (view w k)) (c .clause) d (s .atom))) e z) in
+      (subst (λ c. So (condition (s .kind) (left (view w k)) (c .clause) d (s .atom))) e z) in
       (l, e, r .0, r .1, r .2, r .3)
 
   -- Clearing a step's mark is the step's effect on the program.

@@ -1,9 +1,9 @@
 -- A table's words and marks as a marked program, and the mark that each step clears.
 use mathlib.Core.Bool.{Bool, cond}
-use mathlib.Core.List.{List, [], _∷_}
+use mathlib.Core.List.{List, [], _∷_, _++_}
 use Prim.Native.Nat.{ℕ, zero, suc, _+_}
 use lib.Dec.{eqb}
-use lib.ListN.{length, getD, set, take, replicate}
+use lib.ListN.{length, getD, set, take, drop, replicate}
 use Rattle.semantics.specs.Lists.{count}
 use Rattle.semantics.specs.Programs.{Clause}
 use Rattle.rewriting.specs.Marked.{Entry, Marked, entry}
@@ -37,6 +37,10 @@ entriesFrom ws ms (suc m) at = entryAt ws ms at ∷ entriesFrom ws ms m (nextAt 
 unfoldable pub view : List ℕ → List ℕ → Marked
 unfolding entriesFrom
 view ws ms = entriesFrom ws ms (getD ws 1 0) 2
+
+-- "Every list starts with all marks 1": those of the table's words; marks past the table stay
+abbrev pub allKept : List ℕ → List ℕ → List ℕ
+allKept ws ms = replicate (length ws) 1 ++ drop (length ws) ms
 
 -- the place of the first of k words from `at` that is a
 unfoldable pub find : List ℕ → ℕ → ℕ → ℕ → ℕ
