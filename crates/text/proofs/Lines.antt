@@ -1,15 +1,13 @@
 -- A line that is written is read, and a line that is read is what is written of it.
-use Prim.Native.Nat.{ℕ, zero, suc, _+_, _-_, _*_, _/_, _%_, _^_, _≤_, _<_}
+use Prim.Native.Nat.{ℕ, zero, suc, _+_, _-_, _≤_, _<_}
 use mathlib.Core.Path.{_≡_, refl, sym, ap, subst, _∙_}
-use mathlib.Core.Logic.{by-cases}
-use mathlib.Core.List.{List, [], _∷_, _++_, append-assoc, append-nil}
-use mathlib.Core.Bool.{Bool, true, false, _&&_, _||_, not, cond}
+use mathlib.Core.List.{List, [], _∷_, _++_, append-assoc}
+use mathlib.Core.Bool.{Bool, true, false, _&&_, cond}
 use native.Mathlib.Omega.{arith}
-use native.Mathlib.Numerals.{add-one}
 use lib.ListN.{length, length-append, length-drop, getD, take, drop}
-use lib.Seq.{drop-drop, drop-append-seam, take-append-seam}
+use lib.Seq.{drop-drop, take-append-seam}
 use lib.Dec.{ltb, leb, eqb}
-use borrow.Author.Tests.{le-ltb, lt-ltb, le-leb, lt-leb, eq-eqb, ne-eqb, leb-true, leb-false, ltb-true, ltb-false, eqb-true, eqb-false}
+use borrow.Author.Tests.{lt-ltb, le-leb, eq-eqb, ne-eqb, leb-true, ltb-true, eqb-true}
 use Rattle.semantics.proofs.Tests.{and-iff}
 use Rattle.table.specs.declared.Refusal.{Refusal}
 use Rattle.table.specs.Encoding.{Ordered}
@@ -21,7 +19,7 @@ use Rattle.text.specs.declared.Order.{Order}
 use Rattle.text.specs.declared.Order.the-variants.{Ascends, NotBelow, NotAbove}
 use Rattle.text.specs.Digits.{width, places, digits, joined, commas}
 use Rattle.text.specs.Render.{lineText}
-use Rattle.text.specs.Reader.{Read, done, stop, ask, then, starts, run, ended, spanAt, Scanned, numbers, order, onSpan, onOrder, numberOf, numberAt, listOf, listAt}
+use Rattle.text.specs.Reader.{Read, done, stop, ask, then, starts, run, ended, spanAt, numbers, order, onSpan, onOrder, numberOf, numberAt, listOf, listAt}
 use Rattle.text.proofs.Numbers.{Small, numbers-of, numbers-inv}
 
 -- no line feed

@@ -7,24 +7,56 @@ use mathlib.Core.Bool.{Bool, true, false, _&&_, _||_, not, cond}
 use native.Mathlib.Omega.{arith}
 use native.Mathlib.Nat.{div-div-eq-div-mul, pow-suc, mul-comm}
 use native.Mathlib.Decide.{decLt}
-use lib.ListN.{length, length-append}
-use lib.Dec.{ltb, leb, eqb}
-use borrow.Author.Tests.{le-ltb, lt-ltb, le-leb, lt-leb, eq-eqb, ne-eqb, leb-true, leb-false, eqb-true, eqb-false}
+use lib.ListN.{length}
+use lib.Dec.{leb, eqb}
+use borrow.Author.Tests.{le-ltb, lt-ltb, le-leb, leb-true, eqb-true}
 use Rattle.semantics.proofs.Tests.{and-iff}
 use Rattle.text.specs.declared.Next.{Next}
 use Rattle.text.specs.declared.Next.the-variants.{Digit, Comma, Bad}
 use Rattle.text.specs.Digits.{width, places, digits, joined, commas}
-use Rattle.text.specs.Reader.{nextOf, Scanned, failed, emit, onNext, scan, numbers}
+use Rattle.text.specs.Reader.{nextOf, Scanned, emit, onNext, scan, numbers}
 
 -- ---- digits
 
-pub width-more : (v x : ℕ) → 0 < v → v ≤ 9999 → x < 10 → width (v * 10 + x) ≡ suc (width v)
+-- how many digits there are, case by case
+pub width-by : (F : ℕ → Type 0) (v : ℕ) → (v < 10 → F 1) → (10 ≤ v → v < 100 → F 2) → (100 ≤ v → v < 1000 → F 3) → (1000 ≤ v → v < 10000 → F 4) → (10000 ≤ v → F 5) → F (width v)
 unfolding width
+width-by F v a b c d e =
+    by-cases (decLt v 10) (λ h. rw (lt-ltb v 10 h) (a h))
+    (λ h. by-cases (decLt v 100) (λ i. rw (le-ltb v 10 (omega arith), lt-ltb v 100 i) (b (omega arith) i))
+    (λ i. by-cases (decLt v 1000) (λ j. rw (le-ltb v 10 (omega arith), le-ltb v 100 (omega arith), lt-ltb v 1000 j) (c (omega arith) j))
+    (λ j. by-cases (decLt v 10000) (λ k. rw (le-ltb v 10 (omega arith), le-ltb v 100 (omega arith), le-ltb v 1000 (omega arith), lt-ltb v 10000 k) (d (omega arith) k))
+    (λ k. rw (le-ltb v 10 (omega arith), le-ltb v 100 (omega arith), le-ltb v 1000 (omega arith), le-ltb v 10000 (omega arith)) (e (omega arith))))))
+
+pub width-some : (v : ℕ) → 0 < width v
+width-some v = width-by (λ k. 0 < k) v (λ a. omega arith) (λ a b. omega arith) (λ a b. omega arith) (λ a b. omega arith) (λ a. omega arith)
+
+pub width-five : (v : ℕ) → width v ≤ 5
+width-five v = width-by (λ k. k ≤ 5) v (λ a. omega arith) (λ a b. omega arith) (λ a b. omega arith) (λ a b. omega arith) (λ a. omega arith)
+
+-- "A number has one to four digits"
+pub width-four : (v : ℕ) → v ≤ 9999 → width v ≤ 4
+width-four v h = width-by (λ k. k ≤ 4) v (λ a. omega arith) (λ a b. omega arith) (λ a b. omega arith) (λ a b. omega arith) (λ a. absurd (omega arith))
+
+-- a digit more
+width-more : (v x : ℕ) → 0 < v → v ≤ 9999 → x < 10 → width (v * 10 + x) ≡ suc (width v)
 width-more v x p l h =
-    by-cases (decLt v 10) (λ a. simp (le-ltb (v * 10 + x) 10 (omega arith), lt-ltb (v * 10 + x) 100 (omega arith), lt-ltb v 10 a))
-    (λ a. by-cases (decLt v 100) (λ b. simp (le-ltb (v * 10 + x) 10 (omega arith), le-ltb (v * 10 + x) 100 (omega arith), lt-ltb (v * 10 + x) 1000 (omega arith), le-ltb v 10 (omega arith), lt-ltb v 100 b))
-    (λ b. by-cases (decLt v 1000) (λ d. simp (le-ltb (v * 10 + x) 10 (omega arith), le-ltb (v * 10 + x) 100 (omega arith), le-ltb (v * 10 + x) 1000 (omega arith), lt-ltb (v * 10 + x) 10000 (omega arith), le-ltb v 10 (omega arith), le-ltb v 100 (omega arith), lt-ltb v 1000 d))
-    (λ d. simp (le-ltb (v * 10 + x) 10 (omega arith), le-ltb (v * 10 + x) 100 (omega arith), le-ltb (v * 10 + x) 1000 (omega arith), le-ltb (v * 10 + x) 10000 (omega arith), le-ltb v 10 (omega arith), le-ltb v 100 (omega arith), le-ltb v 1000 (omega arith), lt-ltb v 10000 (omega arith)))))
+    let u = v * 10 + x in
+    width-by (λ j. j ≡ suc (width v)) u
+    (λ a. absurd (omega arith))
+    (λ a b. width-by (λ k. 2 ≡ suc k) v (λ c. refl) (λ c d. absurd (omega arith)) (λ c d. absurd (omega arith)) (λ c d. absurd (omega arith)) (λ c. absurd (omega arith)))
+    (λ a b. width-by (λ k. 3 ≡ suc k) v (λ c. absurd (omega arith)) (λ c d. refl) (λ c d. absurd (omega arith)) (λ c d. absurd (omega arith)) (λ c. absurd (omega arith)))
+    (λ a b. width-by (λ k. 4 ≡ suc k) v (λ c. absurd (omega arith)) (λ c d. absurd (omega arith)) (λ c d. refl) (λ c d. absurd (omega arith)) (λ c. absurd (omega arith)))
+    (λ a. width-by (λ k. 5 ≡ suc k) v (λ c. absurd (omega arith)) (λ c d. absurd (omega arith)) (λ c d. absurd (omega arith)) (λ c d. refl) (λ c. absurd (omega arith)))
+
+pub places-length : (v k : ℕ) → length (places v k) ≡ k
+unfolding places
+places-length v zero = refl
+places-length v (suc k) = ap suc (places-length v k)
+
+pub digits-length : (v : ℕ) → length (digits v) ≡ width v
+unfolding digits
+digits-length v = places-length v (width v)
 
 places-more : (v x k : ℕ) → x < 10 → places (v * 10 + x) (suc k) ≡ places v k ++ (48 + x) ∷ []
 unfolding places
@@ -34,11 +66,11 @@ places-more v x (suc k) h =
     let e : (v * 10 + x) / 10 ^ suc k ≡ v / 10 ^ k = rw (pow-suc 10 k, mul-comm (10 ^ k) 10, ← div-div-eq-div-mul (v * 10 + x) 10 (10 ^ k), d) in
     rw (e, places-more v x k h)
 
-pub digits-more : (v x : ℕ) → 0 < v → v ≤ 9999 → x < 10 → digits (v * 10 + x) ≡ digits v ++ (48 + x) ∷ []
+digits-more : (v x : ℕ) → 0 < v → v ≤ 9999 → x < 10 → digits (v * 10 + x) ≡ digits v ++ (48 + x) ∷ []
 unfolding digits
 digits-more v x p l h = rw (width-more v x p l h) (places-more v x (width v) h)
 
-pub digits-one : (v : ℕ) → v < 10 → digits v ≡ (48 + v) ∷ []
+digits-one : (v : ℕ) → v < 10 → digits v ≡ (48 + v) ∷ []
 unfolding digits width places
 digits-one v h = let e : 48 + v / 10 ^ 0 % 10 ≡ 48 + v = omega arith in simp (lt-ltb v 10 h) (rw e)
 
@@ -53,14 +85,14 @@ unfolding nextOf
 next-on v x h p l = let e : v * 10 + (48 + x - 48) ≡ v * 10 + x = omega arith in rw (le-leb 48 (48 + x) (omega arith), le-leb (48 + x) 57 (omega arith), le-leb 1 v p, le-leb v 999 l, e)
 
 -- a byte that goes on with a number is a digit
-pub record Goes (g : Bool) (v b w : ℕ) : Type 0 where
+record Goes (g : Bool) (v b w : ℕ) : Type 0 where
   pub x : ℕ
   pub small : x < 10
   pub byte : b ≡ 48 + x
   pub value : w ≡ v * 10 + x
   pub more : g ≡ true → (0 < v) × (v ≤ 999)
 
-pub next-digit : (g : Bool) (v b w : ℕ) → nextOf g v b ≡ Digit w → Goes g v b w
+next-digit : (g : Bool) (v b w : ℕ) → nextOf g v b ≡ Digit w → Goes g v b w
 unfolding nextOf
 next-digit g v b w h = go (leb 48 b && leb b 57) refl (leb v 999 && (not g || leb 1 v)) refl (g && eqb b 44) h
   where
@@ -80,7 +112,7 @@ next-digit g v b w h = go (leb 48 b && leb b 57) refl (leb v 999 && (not g || le
     go false p u q true e = let z : _≡_ {A = ℕ} 0 1 = cc in absurd (omega arith)
     go false p u q false e = let z : _≡_ {A = ℕ} 0 1 = cc in absurd (omega arith)
 
-pub next-comma : (g : Bool) (v b : ℕ) → nextOf g v b ≡ Comma → (g ≡ true) × (b ≡ 44)
+next-comma : (g : Bool) (v b : ℕ) → nextOf g v b ≡ Comma → (g ≡ true) × (b ≡ 44)
 unfolding nextOf
 next-comma g v b h = go (leb 48 b && leb b 57) (leb v 999 && (not g || leb 1 v)) (g && eqb b 44) refl h
   where
@@ -100,7 +132,7 @@ scan-comma : (v : ℕ) (l : List ℕ) → scan true v (44 ∷ l) ≡ emit v (sca
 unfolding scan nextOf
 scan-comma v l = refl
 
-pub scan-digits : (n x : ℕ) → x ≤ n → x ≤ 9999 → (r : List ℕ) → scan false 0 (digits x ++ r) ≡ scan true x r
+scan-digits : (n x : ℕ) → x ≤ n → x ≤ 9999 → (r : List ℕ) → scan false 0 (digits x ++ r) ≡ scan true x r
 scan-digits zero x a b r =
     rw (digits-one x (omega arith)) (scan-on false 0 x (48 + x) r (next-begin x (omega arith)))
 scan-digits (suc n) x a b r = by-cases (decLt x 10)
@@ -115,14 +147,14 @@ abbrev pub Small : List ℕ → Type 0
 Small [] = Unit {0}
 Small (x ∷ xs) = (x ≤ 9999) × Small xs
 
-pub scan-joined : (x : ℕ) (xs : List ℕ) → Small (x ∷ xs) → scan false 0 (joined x xs) ≡ record { ok = true; xs = x ∷ xs }
+scan-joined : (x : ℕ) (xs : List ℕ) → Small (x ∷ xs) → scan false 0 (joined x xs) ≡ record { ok = true; xs = x ∷ xs }
 unfolding joined scan
 scan-joined x [] s = ap (λ l. scan false 0 l) (sym (append-nil (digits x))) ∙ scan-digits x x (omega arith) (s .0) []
 scan-joined x (y ∷ ys) s = scan-digits x x (omega arith) (s .0) (44 ∷ joined y ys) ∙ scan-comma x (joined y ys) ∙ ap (emit x) (scan-joined y ys (s .1))
 
 -- ---- from what reads as numbers to their digits
 
-pub record Found (s : Scanned) (t : List ℕ) : Type 0 where
+record Found (s : Scanned) (t : List ℕ) : Type 0 where
   pub x : ℕ
   pub rest : List ℕ
   pub is : s .xs ≡ x ∷ rest
@@ -162,15 +194,9 @@ scan-inv g v (b ∷ l) a z h =
 -- ---- values
 
 digits-some : (x : ℕ) → (b : ℕ) × (l : List ℕ) × (digits x ≡ b ∷ l)
-unfolding digits width places
-digits-some x = go (width x) (wide x)
+unfolding digits places
+digits-some x = go (width x) (width-some x)
   where
-    wide : (x : ℕ) → 0 < width x
-    wide x = by-cases (decLt x 10) (λ a. simp (lt-ltb x 10 a) (omega arith)) (λ a. by-cases (decLt x 100) (λ b. simp (le-ltb x 10 (omega arith), lt-ltb x 100 b) (omega arith))
-        (λ b. by-cases (decLt x 1000) (λ c. simp (le-ltb x 10 (omega arith), le-ltb x 100 (omega arith), lt-ltb x 1000 c) (omega arith))
-        (λ c. by-cases (decLt x 10000) (λ d. simp (le-ltb x 10 (omega arith), le-ltb x 100 (omega arith), le-ltb x 1000 (omega arith), lt-ltb x 10000 d) (omega arith))
-        (λ d. simp (le-ltb x 10 (omega arith), le-ltb x 100 (omega arith), le-ltb x 1000 (omega arith), le-ltb x 10000 (omega arith)) (omega arith)))))
-
     go : (k : ℕ) → 0 < k → (b : ℕ) × (l : List ℕ) × (places x k ≡ b ∷ l)
     go zero h = absurd (omega arith)
     go (suc k) h = (48 + x / 10 ^ k % 10, places x k, refl)

@@ -1,23 +1,17 @@
 -- A text is read exactly when it is the text of a program within the limits, and it is read as that program.
-use Prim.Native.Nat.{ℕ, zero, suc, _+_, _-_, _*_, _≤_, _<_}
+use Prim.Native.Nat.{ℕ, zero, suc, _+_, _-_, _*_, _≤_}
 use mathlib.Core.Path.{_≡_, refl, sym, ap, subst, subst₂, _∙_}
-use mathlib.Core.Logic.{by-cases, _↔_}
 use mathlib.Core.List.{List, [], _∷_, _++_, append-assoc, append-nil, List·Memᴰ·head, List·Memᴰ·tail, List·Memᴰ·not-nil}
-use mathlib.Core.Bool.{Bool, true, false, cond}
 use native.Mathlib.Omega.{arith}
-use native.Mathlib.Decide.{decLt}
-use native.Mathlib.Nat.{add-zero}
-use lib.ListN.{length, length-append, length-drop, getD, take, drop, drop-of-length-le}
-use lib.Dec.{ltb, leb}
-use borrow.Author.Tests.{le-leb, leb-true, lt-ltb, le-ltb}
-use Rattle.text.specs.Digits.{width, places, digits, joined, commas}
+use lib.ListN.{length, length-append, length-drop, drop, drop-of-length-le}
+use borrow.Author.Tests.{le-leb, leb-true}
+use Rattle.text.specs.Digits.{digits, joined, commas}
 use Rattle.semantics.specs.Lists.{_∈_}
 use Rattle.semantics.specs.Programs.{Clause, Program, program}
-use Rattle.table.specs.Encoding.{clauseWords, clausesWords, encode, Ordered, OrderedClause, Within}
-use Rattle.table.proofs.Encoding.{rising-iff}
+use Rattle.table.specs.Encoding.{clauseWords, clausesWords, encode, OrderedClause, Within}
 use Rattle.text.specs.Render.{atomsKey, clausesKey, headKey, posKey, negKey, lineText, clauseText, clausesText, render}
-use Rattle.text.specs.Reader.{Read, done, stop, ask, then, numberAt, listAt, clauseAt, clausesAt, programAt, readText}
-use Rattle.text.proofs.Numbers.{Small}
+use Rattle.text.specs.Reader.{done, ask, then, clauseAt, clausesAt, programAt, readText}
+use Rattle.text.proofs.Numbers.{Small, width-four, digits-length}
 use Rattle.text.proofs.Lines.{ordered-small, ask-inv, then-inv, list-of, list-inv, number-of, number-inv}
 
 -- ---- a clause
@@ -97,25 +91,10 @@ clauses-inv ts n (suc m) used at e cs o h =
 
 -- ---- a program's text is short enough
 
-width-small : (v : ℕ) → v ≤ 9999 → width v ≤ 4
-unfolding width
-width-small v h = by-cases (decLt v 10) (λ a. simp (lt-ltb v 10 a) (omega arith)) (λ a. by-cases (decLt v 100) (λ b. simp (le-ltb v 10 (omega arith), lt-ltb v 100 b) (omega arith))
-    (λ b. by-cases (decLt v 1000) (λ c. simp (le-ltb v 10 (omega arith), le-ltb v 100 (omega arith), lt-ltb v 1000 c) (omega arith))
-    (λ c. simp (le-ltb v 10 (omega arith), le-ltb v 100 (omega arith), le-ltb v 1000 (omega arith), lt-ltb v 10000 (omega arith)) (omega arith))))
-
-pub places-length : (v k : ℕ) → length (places v k) ≡ k
-unfolding places
-places-length v zero = refl
-places-length v (suc k) = ap suc (places-length v k)
-
-pub digits-length : (v : ℕ) → length (digits v) ≡ width v
-unfolding digits
-digits-length v = places-length v (width v)
-
 joined-short : (x : ℕ) (xs : List ℕ) → Small (x ∷ xs) → length (joined x xs) ≤ 4 + 5 * length xs
 unfolding joined
-joined-short x [] s = omega (arith, digits-length x, width-small x (s .0))
-joined-short x (y ∷ ys) s = omega (arith, length-append (digits x) (44 ∷ joined y ys), digits-length x, width-small x (s .0), joined-short y ys (s .1))
+joined-short x [] s = omega (arith, digits-length x, width-four x (s .0))
+joined-short x (y ∷ ys) s = omega (arith, length-append (digits x) (44 ∷ joined y ys), digits-length x, width-four x (s .0), joined-short y ys (s .1))
 
 commas-short : (xs : List ℕ) → Small xs → length (commas xs) ≤ 5 * length xs
 unfolding commas
@@ -147,7 +126,7 @@ render-short P g =
     let A = lineText atomsKey (digits (P .atoms)) in
     let B = lineText clausesKey (digits (length (P .clauses))) in
     omega (arith, length-append A (B ++ clausesText (P .clauses)), length-append B (clausesText (P .clauses)), line-length atomsKey (digits (P .atoms)), line-length clausesKey (digits (length (P .clauses))),
-      digits-length (P .atoms), digits-length (length (P .clauses)), width-small (P .atoms) (omega (arith, g .fewAtoms)), width-small (length (P .clauses)) (omega (arith, g .fewClauses)),
+      digits-length (P .atoms), digits-length (length (P .clauses)), width-four (P .atoms) (omega (arith, g .fewAtoms)), width-four (length (P .clauses)) (omega (arith, g .fewClauses)),
       clauses-short (P .atoms) (P .clauses) (g .fewAtoms) (g .ordered), g .fewWords, g .fewClauses)
 
 -- ---- a whole text
