@@ -198,8 +198,7 @@ list-inv ts key xs n used at e h =
     let (o, h4) = onOrder-inv _ _ _ xs e h3 in
     let q : numbers (cut ts from (end - from)) .xs ≡ xs = cc in
     let w : end + 1 ≡ e = cc in
-    let v = numbers-inv (cut ts from (end - from)) ok in
-    (
+    let v = numbers-inv (cut ts from (end - from)) ok in (
       line-inv ts key at from end s ∙ ap (λ t. lineText key t ++ drop (end + 1) ts) (v .0 ∙ ap commas q) ∙ ap (λ x. lineText key (commas xs) ++ drop x ts) w,
       subst (λ l. Ordered n l) q (rising-iff n (numbers (cut ts from (end - from)) .xs) .0 (order-inv n 0 (numbers (cut ts from (end - from)) .xs) o)),
       subst (λ l. used + length l ≤ 8192) q (leb-true (used + length (numbers (cut ts from (end - from)) .xs)) 8192 fits),

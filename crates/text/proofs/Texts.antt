@@ -111,8 +111,18 @@ clause-short n c l g =
     let H = lineText headKey (commas (c .head)) in
     let P = lineText posKey (commas (c .pos)) in
     let Q = lineText negKey (commas (c .neg)) in
-    omega (arith, clause-length c, length-append H (P ++ Q), length-append P Q, line-length headKey (commas (c .head)), line-length posKey (commas (c .pos)), line-length negKey (commas (c .neg)),
-      commas-short (c .head) (ordered-small n (c .head) l (g .head)), commas-short (c .pos) (ordered-small n (c .pos) l (g .pos)), commas-short (c .neg) (ordered-small n (c .neg) l (g .neg)))
+    omega (
+      arith,
+      clause-length c,
+      length-append H (P ++ Q),
+      length-append P Q,
+      line-length headKey (commas (c .head)),
+      line-length posKey (commas (c .pos)),
+      line-length negKey (commas (c .neg)),
+      commas-short (c .head) (ordered-small n (c .head) l (g .head)),
+      commas-short (c .pos) (ordered-small n (c .pos) l (g .pos)),
+      commas-short (c .neg) (ordered-small n (c .neg) l (g .neg)),
+    )
 
 clauses-short : (n : ℕ) (cs : List Clause) → n ≤ 1024 → Each n cs → length (clausesText cs) ≤ 5 * length (clausesWords cs) + length cs
 unfolding clausesText clausesWords
@@ -125,9 +135,20 @@ unfolding render encode
 render-short P g =
     let A = lineText atomsKey (digits (P .atoms)) in
     let B = lineText clausesKey (digits (length (P .clauses))) in
-    omega (arith, length-append A (B ++ clausesText (P .clauses)), length-append B (clausesText (P .clauses)), line-length atomsKey (digits (P .atoms)), line-length clausesKey (digits (length (P .clauses))),
-      digits-length (P .atoms), digits-length (length (P .clauses)), width-four (P .atoms) (omega (arith, g .fewAtoms)), width-four (length (P .clauses)) (omega (arith, g .fewClauses)),
-      clauses-short (P .atoms) (P .clauses) (g .fewAtoms) (g .ordered), g .fewWords, g .fewClauses)
+    omega (
+      arith,
+      length-append A (B ++ clausesText (P .clauses)),
+      length-append B (clausesText (P .clauses)),
+      line-length atomsKey (digits (P .atoms)),
+      line-length clausesKey (digits (length (P .clauses))),
+      digits-length (P .atoms),
+      digits-length (length (P .clauses)),
+      width-four (P .atoms) (omega (arith, g .fewAtoms)),
+      width-four (length (P .clauses)) (omega (arith, g .fewClauses)),
+      clauses-short (P .atoms) (P .clauses) (g .fewAtoms) (g .ordered),
+      g .fewWords,
+      g .fewClauses,
+    )
 
 -- ---- a whole text
 
