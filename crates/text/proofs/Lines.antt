@@ -9,6 +9,7 @@ use lib.Seq.{drop-drop, take-append-seam}
 use lib.Dec.{ltb, leb, eqb}
 use borrow.Author.Tests.{lt-ltb, le-leb, eq-eqb, ne-eqb, leb-true, ltb-true, eqb-true}
 use Rattle.semantics.proofs.Tests.{and-iff}
+use Rattle.table.specs.declared.ByteQuestion.{ByteQuestion}
 use Rattle.table.specs.declared.Refusal.{Refusal}
 use Rattle.table.specs.Encoding.{Ordered}
 use Rattle.table.specs.Places.{cut}
@@ -19,7 +20,7 @@ use Rattle.text.specs.declared.Order.{Order}
 use Rattle.text.specs.declared.Order.the-variants.{Ascends, NotBelow, NotAbove}
 use Rattle.text.specs.Digits.{width, places, digits, joined, commas}
 use Rattle.text.specs.Render.{lineText}
-use Rattle.text.specs.Reader.{Read, done, stop, ask, then, starts, run, ended, spanAt, numbers, order, onSpan, onOrder, numberOf, numberAt, listOf, listAt}
+use Rattle.text.specs.Reader.{Read, done, stop, ask, then, starts, run, ended, spanAt, numbers, order, onSpan, onOrder, numberOf, numberAt, countAt, listOf, listAt}
 use Rattle.text.proofs.Numbers.{Small, numbers-of, numbers-inv}
 
 -- no line feed
@@ -211,14 +212,14 @@ one [] h = absurd (omega arith)
 one (x ∷ []) h = refl
 one (x ∷ y ∷ xs) h = absurd (omega arith)
 
-pub number-of : (ts key r : List ℕ) (x at : ℕ) → drop at ts ≡ lineText key (digits x) ++ r → x ≤ 9999 → (e : ℕ) × (numberAt ts key at ≡ done x e) × (drop e ts ≡ r)
+number-of : (ts key r : List ℕ) (x at : ℕ) → drop at ts ≡ lineText key (digits x) ++ r → x ≤ 9999 → (e : ℕ) × (numberAt ts key at ≡ done x e) × (drop e ts ≡ r)
 unfolding numberAt numberOf onSpan ask
 number-of ts key r x at h l =
     let k = line-of ts key (digits x) r at h (free-digits x) in
     let q : numbers (digits x) ≡ record { ok = true; xs = x ∷ [] } = unfold commas joined in numbers-of (x ∷ []) (l, tt) in
     (at + length key + length (digits x) + 1, rw (k .span, k .value, q), k .rest)
 
-pub number-inv : (ts key : List ℕ) (x at e : ℕ) → numberAt ts key at ≡ done x e → (drop at ts ≡ lineText key (digits x) ++ drop e ts) × (x ≤ 9999)
+number-inv : (ts key : List ℕ) (x at e : ℕ) → numberAt ts key at ≡ done x e → drop at ts ≡ lineText key (digits x) ++ drop e ts
 unfolding numberAt numberOf
 number-inv ts key x at e h =
     let (from, end, s, h1) = span-inv _ _ _ x e h in
@@ -230,4 +231,19 @@ number-inv ts key x at e h =
     let w : end + 1 ≡ e = cc in
     let v = numbers-inv (cut ts from (end - from)) fine in
     let t : cut ts from (end - from) ≡ digits x = v .0 ∙ ap commas (o ∙ ap (λ y. y ∷ []) q) ∙ (unfold commas joined in refl) in
-    (line-inv ts key at from end s ∙ ap (λ t. lineText key t ++ drop (end + 1) ts) t ∙ ap (λ z. lineText key (digits x) ++ drop z ts) w, (subst (λ l. Small l) (o ∙ ap (λ y. y ∷ []) q) (v .1)) .0)
+    line-inv ts key at from end s ∙ ap (λ t. lineText key t ++ drop (end + 1) ts) t ∙ ap (λ z. lineText key (digits x) ++ drop z ts) w
+
+-- ---- a line with a limit
+
+module _ (ts key : List ℕ) (limit : ℕ) (q : ByteQuestion) where
+  pub count-of : (r : List ℕ) (x at : ℕ) → drop at ts ≡ lineText key (digits x) ++ r → x ≤ limit → limit ≤ 9999 → (e : ℕ) × (countAt ts key limit q at ≡ done x e) × (drop e ts ≡ r)
+  unfolding countAt then ask
+  count-of r x at h l m = let (e, a, d) = number-of ts key r x at h (omega arith) in (e, rw (a, le-leb x limit l), d)
+
+  pub count-inv : (x at e : ℕ) → countAt ts key limit q at ≡ done x e → (drop at ts ≡ lineText key (digits x) ++ drop e ts) × (x ≤ limit)
+  unfolding countAt
+  count-inv x at e h =
+      let (n, d, a, h1) = then-inv _ _ x e h in
+      let (t, h2) = ask-inv _ _ _ x e h1 in
+      let w : n ≡ x = cc in
+      (number-inv ts key x at e (a ∙ h2), subst (λ z. z ≤ limit) w (leb-true n limit t))

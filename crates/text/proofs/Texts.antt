@@ -5,6 +5,7 @@ use mathlib.Core.List.{List, [], _∷_, _++_, append-assoc, append-nil, List·Me
 use native.Mathlib.Omega.{arith}
 use lib.ListN.{length, length-append, length-drop, drop, drop-of-length-le}
 use borrow.Author.Tests.{le-leb, leb-true}
+use Rattle.table.specs.declared.ByteQuestion.the-variants.{TextAtomLimit, TextClauseLimit}
 use Rattle.text.specs.Digits.{digits, joined, commas}
 use Rattle.semantics.specs.Lists.{_∈_}
 use Rattle.semantics.specs.Programs.{Clause, Program, program}
@@ -12,7 +13,7 @@ use Rattle.table.specs.Encoding.{clauseWords, clausesWords, encode, OrderedClau
 use Rattle.text.specs.Render.{atomsKey, clausesKey, headKey, posKey, negKey, lineText, clauseText, clausesText, render}
 use Rattle.text.specs.Reader.{done, ask, then, clauseAt, clausesAt, programAt, readText}
 use Rattle.text.proofs.Numbers.{Small, width-four, digits-length}
-use Rattle.text.proofs.Lines.{ordered-small, ask-inv, then-inv, list-of, list-inv, number-of, number-inv}
+use Rattle.text.proofs.Lines.{ordered-small, ask-inv, then-inv, list-of, list-inv, count-of, count-inv}
 
 -- ---- a clause
 
@@ -158,12 +159,12 @@ unfolding readText programAt ask then render encode
 read-render P room g big =
     let ts = render P in
     let B = lineText clausesKey (digits (length (P .clauses))) in
-    let (e1, a1, d1) = number-of ts atomsKey (B ++ clausesText (P .clauses)) (P .atoms) 0 refl (omega (arith, g .fewAtoms)) in
-    let (e2, a2, d2) = number-of ts clausesKey (clausesText (P .clauses)) (length (P .clauses)) e1 d1 (omega (arith, g .fewClauses)) in
+    let (e1, a1, d1) = count-of ts atomsKey 1024 TextAtomLimit (B ++ clausesText (P .clauses)) (P .atoms) 0 refl (g .fewAtoms) (omega arith) in
+    let (e2, a2, d2) = count-of ts clausesKey 2048 TextClauseLimit (clausesText (P .clauses)) (length (P .clauses)) e1 d1 (g .fewClauses) (omega arith) in
     let (e3, a3, d3) = clauses-of ts [] (P .atoms) 2 e2 (P .clauses) (d2 ∙ sym (append-nil (clausesText (P .clauses)))) (g .fewAtoms) (g .ordered) (omega (arith, g .fewWords)) in
     let k : length ts - e3 ≡ 0 = sym (length-drop e3 ts) ∙ ap length d3 in
     let s = render-short P g in
-    (e3, rw (le-leb (length ts) 65536 (omega arith), le-leb 8192 room big, a1, le-leb (P .atoms) 1024 (g .fewAtoms), a2, le-leb (length (P .clauses)) 2048 (g .fewClauses), a3, le-leb (length ts) e3 (omega arith)))
+    (e3, rw (le-leb (length ts) 65536 (omega arith), le-leb 8192 room big, a1, a2, a3, le-leb (length ts) e3 (omega arith)))
 
 -- (b) a text that is read is the text of a program within the limits
 pub read-inv : (ts : List ℕ) (room : ℕ) (P : Program) (e : ℕ) → readText ts room ≡ done P e → Within P × (render P ≡ ts)
@@ -172,18 +173,16 @@ read-inv ts room P e h =
     let (s1, h1) = ask-inv _ _ _ P e h in
     let (s2, h2) = ask-inv _ _ _ P e h1 in
     let (n, b1, a1, h3) = then-inv _ _ P e h2 in
-    let (s3, h4) = ask-inv _ _ _ P e h3 in
-    let (m, b2, a2, h5) = then-inv _ _ P e h4 in
-    let (s4, h6) = ask-inv _ _ _ P e h5 in
-    let (cs, b3, a3, h7) = then-inv _ _ P e h6 in
-    let (s5, h8) = ask-inv _ _ _ P e h7 in
-    let (t1, l1) = number-inv ts atomsKey n 0 b1 a1 in
-    let (t2, l2) = number-inv ts clausesKey m b1 b2 a2 in
+    let (m, b2, a2, h4) = then-inv _ _ P e h3 in
+    let (cs, b3, a3, h5) = then-inv _ _ P e h4 in
+    let (s3, h6) = ask-inv _ _ _ P e h5 in
+    let (t1, l1) = count-inv ts atomsKey 1024 TextAtomLimit n 0 b1 a1 in
+    let (t2, l2) = count-inv ts clausesKey 2048 TextClauseLimit m b1 b2 a2 in
     let (t3, g3, u3, l3) = clauses-inv ts n m 2 b2 b3 cs (omega arith) a3 in
     let Q : Program = program n cs in
     let q : Q ≡ P = cc in
-    let f : drop b3 ts ≡ [] = drop-of-length-le ts (leb-true (length ts) b3 s5) in
-    let g : Within Q = record { fewAtoms = leb-true n 1024 s3; fewClauses = rw l3 (leb-true m 2048 s4); fewWords = omega arith; ordered = g3 } in
+    let f : drop b3 ts ≡ [] = drop-of-length-le ts (leb-true (length ts) b3 s3) in
+    let g : Within Q = record { fewAtoms = l1; fewClauses = rw l3 l2; fewWords = omega arith; ordered = g3 } in
     let A = lineText atomsKey (digits n) in
     let B = lineText clausesKey (digits m) in
     let z : render Q ≡ ts = rw l3 (sym (t1 ∙ ap (λ x. A ++ x) (t2 ∙ ap (λ x. B ++ x) (t3 ∙ ap (λ x. clausesText cs ++ x) f ∙ append-nil (clausesText cs))))) in

@@ -8,6 +8,7 @@ use lib.Seq.{sets}
 use lib.Dec.{ltb, leb, eqb}
 use Rattle.semantics.specs.Programs.{Clause, Program, program}
 use Rattle.table.specs.declared.CallQuestion.the-variants.{TextLength, TableSlice}
+use Rattle.table.specs.declared.ByteQuestion.{ByteQuestion}
 use Rattle.table.specs.declared.ByteQuestion.the-variants.{TextAtomLimit, TextClauseLimit, TextAtomBelow, TextAscending, LineThere, ValueInForm, WordLimit, TextAllUsed}
 use Rattle.table.specs.declared.Refusal.{Refusal}
 use Rattle.table.specs.declared.Refusal.the-variants.{Call, Byte}
@@ -116,6 +117,10 @@ numberOf s at end = ask (s .ok && eqb (length (s .xs)) 1) (Byte ValueInForm at) 
 unfoldable pub numberAt : List ℕ → List ℕ → ℕ → Read ℕ
 numberAt ts key at = onSpan (spanAt ts key at) at (λ from end. numberOf (numbers (cut ts from (end - from))) at end)
 
+-- "Then 2 or 3 for the first two lines (here too with the line's place)"
+unfoldable pub countAt : List ℕ → List ℕ → ℕ → ByteQuestion → ℕ → Read ℕ
+countAt ts key limit q at = then (numberAt ts key at) (λ n e. ask (leb n limit) (Byte q at) (done n e))
+
 -- "6 and 7 for each number": `low` is one above the number before, 0 at the line's first
 unfoldable pub order : ℕ → ℕ → List ℕ → Order
 order n low [] = Ascends
@@ -153,13 +158,13 @@ clausesAt ts n zero used at = done [] at
 clausesAt ts n (suc k) used at =
     then (clauseAt ts n used at) (λ c d. then (clausesAt ts n k (used + length (clauseWords c)) d) (λ cs e. done (c ∷ cs) e))
 
--- "Then 2 or 3 for the first two lines (here too with the line's place)". "After the last line: 27 Is no byte left (place of the first)?"
+-- "2 Is n at most 1,024? 3 Is m at most 2,048", then the clauses' lines. "After the last line: 27 Is no byte left (place of the first)?"
 unfoldable pub programAt : List ℕ → Read Program
 programAt ts =
-    then (numberAt ts atomsKey 0) (λ n b. ask (leb n 1024) (Byte TextAtomLimit 0) (
-    then (numberAt ts clausesKey b) (λ m c. ask (leb m 2048) (Byte TextClauseLimit b) (
-    then (clausesAt ts n m 2 c) (λ cs e. ask (leb (length ts) e) (Byte TextAllUsed e) (
-    done (program n cs) e))))))
+    then (countAt ts atomsKey 1024 TextAtomLimit 0) (λ n b.
+    then (countAt ts clausesKey 2048 TextClauseLimit b) (λ m c.
+    then (clausesAt ts n m 2 c) (λ cs e.
+    ask (leb (length ts) e) (Byte TextAllUsed e) (done (program n cs) e))))
 
 -- "22 Are there at most 65,536 bytes? 23 Has the table slice at least 8,192 words?" Then line by line.
 unfoldable pub readText : List ℕ → ℕ → Read Program
