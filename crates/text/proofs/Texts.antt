@@ -11,7 +11,7 @@ use Rattle.semantics.specs.Lists.{_∈_}
 use Rattle.semantics.specs.Programs.{Clause, Program, program}
 use Rattle.table.specs.Encoding.{clauseWords, clausesWords, encode, OrderedClause, Within}
 use Rattle.text.specs.Render.{atomsKey, clausesKey, headKey, posKey, negKey, lineText, clauseText, clausesText, render}
-use Rattle.text.specs.Reader.{done, ask, then, clauseAt, clausesAt, programAt, readText}
+use Rattle.text.specs.Reader.{done, ask, then, clauseAt, clausesAt, restAt, programAt, readText}
 use Rattle.text.proofs.Numbers.{Small, width-four, digits-length}
 use Rattle.text.proofs.Lines.{ordered-small, ask-inv, then-inv, list-of, list-inv, count-of, count-inv}
 
@@ -155,7 +155,7 @@ render-short P g =
 
 -- (a) the text of a program within the limits is read as that program
 pub read-render : (P : Program) (room : ℕ) → Within P → 8192 ≤ room → (e : ℕ) × (readText (render P) room ≡ done P e)
-unfolding readText programAt ask then render encode
+unfolding readText programAt restAt ask then render encode
 read-render P room g big =
     let ts = render P in
     let B = lineText clausesKey (digits (length (P .clauses))) in
@@ -168,7 +168,7 @@ read-render P room g big =
 
 -- (b) a text that is read is the text of a program within the limits
 pub read-inv : (ts : List ℕ) (room : ℕ) (P : Program) (e : ℕ) → readText ts room ≡ done P e → Within P × (render P ≡ ts)
-unfolding readText programAt render encode
+unfolding readText programAt restAt render encode
 read-inv ts room P e h =
     let (s1, h1) = ask-inv _ _ _ P e h in
     let (s2, h2) = ask-inv _ _ _ P e h1 in

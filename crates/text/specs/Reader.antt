@@ -158,13 +158,16 @@ clausesAt ts n zero used at = done [] at
 clausesAt ts n (suc k) used at =
     then (clauseAt ts n used at) (λ c d. then (clausesAt ts n k (used + length (clauseWords c)) d) (λ cs e. done (c ∷ cs) e))
 
--- "2 Is n at most 1,024? 3 Is m at most 2,048", then the clauses' lines. "After the last line: 27 Is no byte left (place of the first)?"
+-- the lines of m clauses. "After the last line: 27 Is no byte left (place of the first)?"
+unfoldable pub restAt : List ℕ → ℕ → ℕ → ℕ → Read Program
+restAt ts n m at = then (clausesAt ts n m 2 at) (λ cs e. ask (leb (length ts) e) (Byte TextAllUsed e) (done (program n cs) e))
+
+-- "2 Is n at most 1,024? 3 Is m at most 2,048", then the clauses' lines
 unfoldable pub programAt : List ℕ → Read Program
 programAt ts =
     then (countAt ts atomsKey 1024 TextAtomLimit 0) (λ n b.
     then (countAt ts clausesKey 2048 TextClauseLimit b) (λ m c.
-    then (clausesAt ts n m 2 c) (λ cs e.
-    ask (leb (length ts) e) (Byte TextAllUsed e) (done (program n cs) e))))
+    restAt ts n m c))
 
 -- "22 Are there at most 65,536 bytes? 23 Has the table slice at least 8,192 words?" Then line by line.
 unfoldable pub readText : List ℕ → ℕ → Read Program
