@@ -13,26 +13,12 @@ use lib.Seq.{getD-set-same, getD-set-other}
 use borrow.Author.Tests.{eqb-true, eq-eqb, ne-eqb}
 use Rattle.semantics.specs.Lists.{_∈_, any, all, mem}
 use Rattle.semantics.specs.Programs.{Clause}
-use Rattle.table.proofs.Parts.{kept-of, scan-step, scan-end}
+use Rattle.table.proofs.Parts.{kept-of, scan-end}
 use Rattle.search.specs.Stamps.{stamped, isStamped, Stamps}
 
--- ---- one word of a walk
-
-module _ (part ms : List ℕ) (i : ℕ) (l : i < length part) (b : length part ≤ length ms) where
-  abbrev here : List ℕ
-  here = kept-of (drop i part) (drop i ms)
-
-  abbrev next : List ℕ
-  next = kept-of (drop (i + 1) part) (drop (i + 1) ms)
-
-  pub walk-gone : getD ms i 0 ≢ 1 → here ≡ next
-  walk-gone h = scan-step part ms i l (omega arith) ∙ ap (λ t. cond t (getD part i 0 ∷ next) next) (ne-eqb _ _ h)
-
-  pub walk-kept : getD ms i 0 ≡ 1 → here ≡ getD part i 0 ∷ next
-  walk-kept h = scan-step part ms i l (omega arith) ∙ ap (λ t. cond t (getD part i 0 ∷ next) next) (eq-eqb _ _ h)
-
-pub walk-end : (part ms : List ℕ) (i : ℕ) → length part ≤ i → kept-of (drop i part) (drop i ms) ≡ []
-walk-end part ms i h = scan-end part (drop i ms) i h
+-- a walk of a part, at its end
+pub part-done : (part ms : List ℕ) (i : ℕ) → length part ≤ i → kept-of (drop i part) (drop i ms) ≡ []
+part-done part ms i h = scan-end part (drop i ms) i h
 
 -- ---- what is stamped
 

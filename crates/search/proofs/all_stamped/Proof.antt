@@ -9,7 +9,8 @@ use borrow.Author.Tests.{eq-eqb, ne-eqb}
 use Rattle.semantics.specs.Lists.{all}
 use Rattle.table.proofs.Parts.{kept-of}
 use Rattle.search.specs.Stamps.{isStamped}
-use Rattle.search.proofs.Stamps.{walk-gone, walk-kept, walk-end, not-stamped, is-stamped}
+use Rattle.parts.proofs.Laws.{kept-some, kept-on}
+use Rattle.search.proofs.Stamps.{part-done, not-stamped, is-stamped}
 use borrow.Author.Needs.{needs}
 use Rattle.search.proofs.all_stamped.Statement.{statement}
 use Rattle.search.proofs.all_stamped.Tie as tie
@@ -41,7 +42,7 @@ loop-less c = search needs
 
 -- src/lib.rt:65:5
 loop-again : tie.Need-loop-again Inv-loop μ-loop
-loop-again c = (search needs, (search needs, ap (all (isStamped (c .before .before .before .before .before .before .before .args .stamps .now) (c .before .before .before .before .before .before .before .args .offset))) (sym (walk-gone (c .before .before .before .before .before .before .before .args .part .now) (c .before .before .before .before .before .before .before .args .marks .now) (c .before .before .before .loop .i) (omega (arith, c .before .before .loop-test .taken, c .before .before .before .loop .inv .1 .0)) (c .before .before .before .before .before .before .before .pre .0) (c .if1 .taken))) ∙ c .before .before .before .loop .inv .1 .1))
+loop-again c = (search needs, (search needs, ap (all (isStamped (c .before .before .before .before .before .before .before .args .stamps .now) (c .before .before .before .before .before .before .before .args .offset))) (sym (kept-on (c .before .before .before .before .before .before .before .args .part .now) (c .before .before .before .before .before .before .before .args .marks .now) (c .before .before .before .loop .i) (omega (arith, c .before .before .loop-test .taken, c .before .before .before .loop .inv .1 .0)) (c .before .before .before .before .before .before .before .pre .0) (c .if1 .taken))) ∙ c .before .before .before .loop .inv .1 .1))
 
 -- src/lib.rt:69:40
 mul-wide : tie.Need-mul-wide Inv-loop μ-loop
@@ -66,7 +67,7 @@ shared-slice-read-if2 c = let b = c .before .before .before .before .before .bef
 -- src/lib.rt:70:13
 returns : tie.Need-returns Inv-loop μ-loop
 returns c =
-    let e = walk-kept (c .before .before .before .before .before .before .before .before .before .before .before .args .part .now) (c .before .before .before .before .before .before .before .before .before .before .before .args .marks .now) (c .before .before .before .before .before .before .before .loop .i) (omega (arith, c .before .before .before .before .before .before .loop-test .taken, c .before .before .before .before .before .before .before .loop .inv .1 .0)) (c .before .before .before .before .before .before .before .before .before .before .before .pre .0) (c .before .before .before .before .if1 .left) in
+    let e = kept-some (c .before .before .before .before .before .before .before .before .before .before .before .args .part .now) (c .before .before .before .before .before .before .before .before .before .before .before .args .marks .now) (c .before .before .before .before .before .before .before .loop .i) (omega (arith, c .before .before .before .before .before .before .loop-test .taken, c .before .before .before .before .before .before .before .loop .inv .1 .0)) (c .before .before .before .before .before .before .before .before .before .before .before .pre .0) (c .before .before .before .before .if1 .left) in
     sym (ap (all (isStamped (c .before .before .before .before .before .before .before .before .before .before .before .args .stamps .now) (c .before .before .before .before .before .before .before .before .before .before .before .args .offset))) e ∙ not-stamped (c .before .before .before .before .before .before .before .before .before .before .before .args .stamps .now) (c .before .before .before .before .before .before .before .before .before .before .before .args .offset) _ _ (all (isStamped (c .before .before .before .before .before .before .before .before .before .before .before .args .stamps .now) (c .before .before .before .before .before .before .before .before .before .before .before .args .offset)) (kept-of (drop (c .before .before .before .before .before .before .before .loop .i + 1) (c .before .before .before .before .before .before .before .before .before .before .before .args .part .now)) (drop (c .before .before .before .before .before .before .before .loop .i + 1) (c .before .before .before .before .before .before .before .before .before .before .before .args .marks .now)))) (c .before .before .wide .ensures .0) (c .if2 .taken)) ∙ c .before .before .before .before .before .before .before .loop .inv .1 .1
 
 -- src/lib.rt:65:9
@@ -80,12 +81,12 @@ loop-less-2 c = search needs
 -- src/lib.rt:65:5
 loop-again-2 : tie.Need-loop-again-2 Inv-loop μ-loop
 loop-again-2 c =
-    let e = walk-kept (c .before .before .before .before .before .before .before .before .before .before .before .args .part .now) (c .before .before .before .before .before .before .before .before .before .before .before .args .marks .now) (c .before .before .before .before .before .before .before .loop .i) (omega (arith, c .before .before .before .before .before .before .loop-test .taken, c .before .before .before .before .before .before .before .loop .inv .1 .0)) (c .before .before .before .before .before .before .before .before .before .before .before .pre .0) (c .before .before .before .before .if1 .left) in
+    let e = kept-some (c .before .before .before .before .before .before .before .before .before .before .before .args .part .now) (c .before .before .before .before .before .before .before .before .before .before .before .args .marks .now) (c .before .before .before .before .before .before .before .loop .i) (omega (arith, c .before .before .before .before .before .before .loop-test .taken, c .before .before .before .before .before .before .before .loop .inv .1 .0)) (c .before .before .before .before .before .before .before .before .before .before .before .pre .0) (c .before .before .before .before .if1 .left) in
     (search needs, (search needs, sym (ap (all (isStamped (c .before .before .before .before .before .before .before .before .before .before .before .args .stamps .now) (c .before .before .before .before .before .before .before .before .before .before .before .args .offset))) e ∙ is-stamped (c .before .before .before .before .before .before .before .before .before .before .before .args .stamps .now) (c .before .before .before .before .before .before .before .before .before .before .before .args .offset) _ _ (all (isStamped (c .before .before .before .before .before .before .before .before .before .before .before .args .stamps .now) (c .before .before .before .before .before .before .before .before .before .before .before .args .offset)) (kept-of (drop (c .before .before .before .before .before .before .before .loop .i + 1) (c .before .before .before .before .before .before .before .before .before .before .before .args .part .now)) (drop (c .before .before .before .before .before .before .before .loop .i + 1) (c .before .before .before .before .before .before .before .before .before .before .before .args .marks .now)))) (c .before .before .wide .ensures .0) (c .if2 .left)) ∙ c .before .before .before .before .before .before .before .loop .inv .1 .1))
 
 -- src/lib.rt:61:1
 returns-2 : tie.Need-returns-2 Inv-loop μ-loop
-returns-2 c = (ap (all (isStamped (c .before .before .before .before .before .args .stamps .now) (c .before .before .before .before .before .args .offset))) (sym (walk-end (c .before .before .before .before .before .args .part .now) (c .before .before .before .before .before .args .marks .now) (c .before .loop .i) (omega (arith, c .loop-test .left, c .before .loop .inv .1 .0)))) ∙ c .before .loop .inv .1 .1)
+returns-2 c = (ap (all (isStamped (c .before .before .before .before .before .args .stamps .now) (c .before .before .before .before .before .args .offset))) (sym (part-done (c .before .before .before .before .before .args .part .now) (c .before .before .before .before .before .args .marks .now) (c .before .loop .i) (omega (arith, c .loop-test .left, c .before .loop .inv .1 .0)))) ∙ c .before .loop .inv .1 .1)
 
 pub all-stamped-spec : {M : Type 1} → statement M
 all-stamped-spec =

@@ -5,7 +5,8 @@ use native.Mathlib.Omega.{arith}
 use lib.ListN.{length, getD, drop, length-set}
 use Rattle.table.proofs.Parts.{kept-of}
 use Rattle.search.specs.Stamps.{stamped}
-use Rattle.search.proofs.Stamps.{walk-gone, walk-kept, walk-end}
+use Rattle.parts.proofs.Laws.{kept-some, kept-on}
+use Rattle.search.proofs.Stamps.{part-done}
 use borrow.Author.Needs.{needs}
 use Rattle.search.proofs.stamp_part.Statement.{statement}
 use Rattle.search.proofs.stamp_part.Tie as tie
@@ -37,7 +38,7 @@ loop-less c = search needs
 
 -- src/lib.rt:52:5
 loop-again : tie.Need-loop-again Inv-loop μ-loop
-loop-again c = (search needs, (search needs, (c .before .before .before .loop .inv .1 .1 .0, ap (λ l. stamped (c .before .before .before .loop .stamps) (c .before .before .before .before .before .before .before .args .offset) l) (sym (walk-gone (c .before .before .before .before .before .before .before .args .part .now) (c .before .before .before .before .before .before .before .args .marks .now) (c .before .before .before .loop .i) (omega (arith, c .before .before .loop-test .taken, c .before .before .before .loop .inv .1 .0)) (c .before .before .before .before .before .before .before .pre .0) (c .if1 .taken))) ∙ c .before .before .before .loop .inv .1 .1 .1)))
+loop-again c = (search needs, (search needs, (c .before .before .before .loop .inv .1 .1 .0, ap (λ l. stamped (c .before .before .before .loop .stamps) (c .before .before .before .before .before .before .before .args .offset) l) (sym (kept-on (c .before .before .before .before .before .before .before .args .part .now) (c .before .before .before .before .before .before .before .args .marks .now) (c .before .before .before .loop .i) (omega (arith, c .before .before .loop-test .taken, c .before .before .before .loop .inv .1 .0)) (c .before .before .before .before .before .before .before .pre .0) (c .if1 .taken))) ∙ c .before .before .before .loop .inv .1 .1 .1)))
 
 -- src/lib.rt:56:37
 mul-wide : tie.Need-mul-wide Inv-loop μ-loop
@@ -71,7 +72,7 @@ loop-less-2 c = search needs
 loop-again-2 : tie.Need-loop-again-2 Inv-loop μ-loop
 unfolding stamped
 loop-again-2 c =
-    let e = walk-kept (c .before .before .before .before .before .before .before .before .before .args .part .now) (c .before .before .before .before .before .before .before .before .before .args .marks .now) (c .before .before .before .before .before .loop .i) (omega (arith, c .before .before .before .before .loop-test .taken, c .before .before .before .before .before .loop .inv .1 .0)) (c .before .before .before .before .before .before .before .before .before .pre .0) (c .before .before .if1 .left) in
+    let e = kept-some (c .before .before .before .before .before .before .before .before .before .args .part .now) (c .before .before .before .before .before .before .before .before .before .args .marks .now) (c .before .before .before .before .before .loop .i) (omega (arith, c .before .before .before .before .loop-test .taken, c .before .before .before .before .before .loop .inv .1 .0)) (c .before .before .before .before .before .before .before .before .before .pre .0) (c .before .before .if1 .left) in
     (search needs, (search needs, (simp length-set (c .before .before .before .before .before .loop .inv .1 .1 .0), rw (c .wide .ensures .0) (sym (ap (λ l. stamped (c .before .before .before .before .before .loop .stamps) (c .before .before .before .before .before .before .before .before .before .args .offset) l) e) ∙ c .before .before .before .before .before .loop .inv .1 .1 .1))))
 
 -- src/lib.rt:48:1
@@ -81,7 +82,7 @@ same-length c = search needs
 -- src/lib.rt:48:1
 returns : tie.Need-returns Inv-loop μ-loop
 unfolding stamped
-returns c = (ap (λ l. stamped (c .before .loop .stamps) (c .before .before .before .before .before .args .offset) l) (sym (walk-end (c .before .before .before .before .before .args .part .now) (c .before .before .before .before .before .args .marks .now) (c .before .loop .i) (omega (arith, c .loop-test .left, c .before .loop .inv .1 .0)))) ∙ c .before .loop .inv .1 .1 .1)
+returns c = (ap (λ l. stamped (c .before .loop .stamps) (c .before .before .before .before .before .args .offset) l) (sym (part-done (c .before .before .before .before .before .args .part .now) (c .before .before .before .before .before .args .marks .now) (c .before .loop .i) (omega (arith, c .loop-test .left, c .before .loop .inv .1 .0)))) ∙ c .before .loop .inv .1 .1 .1)
 
 pub stamp-part-spec : {M : Type 1} → statement M
 stamp-part-spec =
