@@ -1,2 +1,4 @@
+pub mod Tests
 pub mod Texts
 pub mod Reductions
+pub mod StableExamples
