@@ -1,6 +1,6 @@
 -- The answers for a clause and for clauses, by what its lines give.
 use Prim.Native.Nat.{ℕ, suc, _+_, _-_, _≤_, _<_}
-use mathlib.Core.Path.{_≡_, refl, sym, ap, subst, _∙_}
+use mathlib.Core.Path.{_≡_, refl, sym, ap, _∙_}
 use mathlib.Core.List.{List, [], _∷_, _++_, append-assoc, append-nil}
 use native.Mathlib.Omega.{arith}
 use native.Mathlib.Numerals.{add-one, add-two, add-three}
@@ -8,16 +8,15 @@ use lib.ListN.{length, length-append, set}
 use lib.Seq.{sets}
 use Rattle.table.specs.declared.Refusal.{Refusal}
 use Rattle.text.specs.declared.Cursor.{Cursor}
-use Rattle.text.specs.declared.Line.{Line}
-use Rattle.text.specs.declared.Line.the-variants.{Got, Stop}
+use Rattle.text.specs.declared.Line.the-variants.{Got}
 use Rattle.semantics.specs.Programs.{Clause}
 use Rattle.table.specs.Encoding.{clauseWords, clausesWords}
 use Rattle.text.specs.Render.{headKey, posKey, negKey}
-use Rattle.text.specs.Reader.{Read, done, stop, then, listOf, listAt, clauseAt, clausesAt, answer, Stores, listWords}
-use Rattle.text.proofs.Lines.{list-inv, span-inv, ask-inv, onOrder-inv, then-inv}
+use Rattle.text.specs.Reader.{Read, done, stop, then, listAt, clauseAt, clausesAt, Stores, listWords}
+use Rattle.text.proofs.Lines.{list-inv}
 use Rattle.text.proofs.Slices.{sets-append, set-sets}
 use Rattle.text.proofs.Texts.{clause-inv}
-use Rattle.reader.proofs.Lines.{span-bounds, stores-done}
+use Rattle.reader.proofs.Answers.{stores-done, Held}
 
 -- a clause's words, the counts stored last
 pub clause-stored : (w H P Q : List ℕ) (u h p q : ℕ) → length H ≡ h → length P ≡ p → length Q ≡ q
@@ -27,45 +26,14 @@ clause-stored w H P Q u h p q eh ep eq =
     sym (sets-append w (u + 3) H (P ++ Q) ∙ rw eh (sets-append (sets w (u + 3) H) (u + 3 + h) P Q ∙ rw ep)) in
     rw (n, set-sets w (u + 3) u h (H ++ (P ++ Q)) (omega arith), set-sets (set w u h) (u + 3) (u + 1) p (H ++ (P ++ Q)) (omega arith), set-sets (set (set w u h) (u + 1) p) (u + 3) (u + 2) q (H ++ (P ++ Q)) (omega arith), add-one u, add-two u, add-three u, eh, ep, eq)
 
--- ---- a line that was read
+-- ---- a part that was read
 
-pub record Part (ts key : List ℕ) (n used at k : ℕ) (cur : Cursor) (w w′ : List ℕ) : Type 0 where
-  pub xs : List ℕ
-  pub read : listAt ts key n used at ≡ done xs (cur .at)
-  pub count : length xs ≡ k
-  pub stored : w′ ≡ sets w used xs
-  pub room : used + k ≤ 8192
-  pub next : cur .at ≤ length ts
+module _ (ts key : List ℕ) (n used at k : ℕ) (cur : Cursor) (w w′ : List ℕ) (H : Held listWords (listAt ts key n used at) k cur used w w′) where
+  pub part-room : used + k ≤ 8192
+  part-room = omega (arith, list-inv ts key (H .thing) n used at (cur .at) (H .read) .fits, H .count)
 
-module _ {A : Type 0} (wordsOf : A → List ℕ) where
-  pub answer-words : (x : Read A) (k : ℕ) (cur : Cursor) → Got k cur ≡ answer wordsOf x → (a : A) × (x ≡ done a (cur .at)) × (length (wordsOf a) ≡ k)
-  answer-words (done a e) k cur h = let q : cur ≡ record { at = e } = cc in (a, ap (done a) (ap (λ z. z .at) (sym q)), cc)
-  answer-words (stop r) k cur h = let z : _≡_ {A = ℕ} 0 1 = cc in absurd (omega arith)
-
-  pub answer-stop : (x : Read A) (r : Refusal) → Stop r ≡ answer wordsOf x → x ≡ stop r
-  answer-stop (done a e) r h = let z : _≡_ {A = ℕ} 0 1 = cc in absurd (omega arith)
-  answer-stop (stop q) r h = ap stop (cc)
-
-pub list-next : (ts key xs : List ℕ) (n used at e : ℕ) → listAt ts key n used at ≡ done xs e → e ≤ length ts
-unfolding listAt listOf
-list-next ts key xs n used at e h =
-    let (from, end, s, h1) = span-inv _ _ _ xs e h in
-    let (ok, h2) = ask-inv _ _ _ xs e h1 in
-    let (fits, h3) = ask-inv _ _ _ xs e h2 in
-    let (o, h4) = onOrder-inv _ _ _ xs e h3 in
-    let w : end + 1 ≡ e = cc in
-    omega (arith, span-bounds ts key at from end s .1)
-
-pub part-read : (ts key : List ℕ) (n used at k : ℕ) (cur : Cursor) (w w′ : List ℕ) (r : Line) → Stores listWords (listAt ts key n used at) r used w w′ → r ≡ Got k cur
-    → Part ts key n used at k cur w w′
-part-read ts key n used at k cur w w′ r s e =
-    let (xs, d, l) = answer-words listWords (listAt ts key n used at) k cur (sym e ∙ s .says) in
-    let i = list-inv ts key xs n used at (cur .at) d in
-    record { xs = xs; read = d; count = l; stored = s .holds xs (cur .at) d; room = rw (← l) (i .2); next = list-next ts key xs n used at (cur .at) d }
-
-pub part-stop : (ts key : List ℕ) (n used at : ℕ) (w w′ : List ℕ) (s : Line) (r : Refusal) → Stores listWords (listAt ts key n used at) s used w w′ → s ≡ Stop r
-    → listAt ts key n used at ≡ stop r
-part-stop ts key n used at w w′ s r h e = answer-stop listWords (listAt ts key n used at) r (sym e ∙ h .says)
+  pub part-next : cur .at ≤ length ts
+  part-next = list-inv ts key (H .thing) n used at (cur .at) (H .read) .next
 
 -- ---- a clause
 
@@ -74,34 +42,25 @@ module _ (ts : List ℕ) (n used at : ℕ) where
   unfolding clauseAt then
   head-stop r e = rw e
 
-  module _ (h : ℕ) (c1 : Cursor) (w w1 : List ℕ) (H : Part ts headKey n (used + 3) at h c1 w w1) where
+  module _ (h : ℕ) (c1 : Cursor) (w w1 : List ℕ) (H : Held listWords (listAt ts headKey n (used + 3) at) h c1 (used + 3) w w1) where
     pub pos-stop : (r : Refusal) → listAt ts posKey n (used + 3 + h) (c1 .at) ≡ stop r → clauseAt ts n used at ≡ stop r
     unfolding clauseAt then
     pos-stop r e = rw (H .read, H .count, e)
 
-    module _ (p : ℕ) (c2 : Cursor) (w2 : List ℕ) (P : Part ts posKey n (used + 3 + h) (c1 .at) p c2 w1 w2) where
+    module _ (p : ℕ) (c2 : Cursor) (w2 : List ℕ) (P : Held listWords (listAt ts posKey n (used + 3 + h) (c1 .at)) p c2 (used + 3 + h) w1 w2) where
       pub neg-stop : (r : Refusal) → listAt ts negKey n (used + 3 + h + p) (c2 .at) ≡ stop r → clauseAt ts n used at ≡ stop r
       unfolding clauseAt then
       neg-stop r e = rw (H .read, H .count, P .read, P .count, e)
 
-      pub clause-read : (q : ℕ) (c3 : Cursor) (w3 w′ : List ℕ) → Part ts negKey n (used + 3 + h + p) (c2 .at) q c3 w2 w3 → w′ ≡ set (set (set w3 used h) (used + 1) p) (used + 2) q
+      pub clause-read : (q : ℕ) (c3 : Cursor) (w3 w′ : List ℕ) → Held listWords (listAt ts negKey n (used + 3 + h + p) (c2 .at)) q c3 (used + 3 + h + p) w2 w3 → w′ ≡ set (set (set w3 used h) (used + 1) p) (used + 2) q
           → Stores clauseWords (clauseAt ts n used at) (Got (3 + h + p + q) c3) used w w′
       unfolding clauseAt then
       clause-read q c3 w3 w′ Q e =
-          let d : clauseAt ts n used at ≡ done (record { head = H .xs; pos = P .xs; neg = Q .xs }) (c3 .at) = rw (H .read, H .count, P .read, P .count, Q .read) in
-          let l : length (clauseWords (record { head = H .xs; pos = P .xs; neg = Q .xs })) ≡ 3 + h + p + q =
-          omega (arith, length-append (H .xs) (P .xs ++ Q .xs), length-append (P .xs) (Q .xs), H .count, P .count, Q .count) in
-          let s : w3 ≡ sets (sets (sets w (used + 3) (H .xs)) (used + 3 + h) (P .xs)) (used + 3 + h + p) (Q .xs) = rw (← H .stored, ← P .stored, ← Q .stored) in
-          stores-done clauseWords (clauseAt ts n used at) _ _ _ used w w′ d l (e ∙ ap (λ z. set (set (set z used h) (used + 1) p) (used + 2) q) s ∙ clause-stored w (H .xs) (P .xs) (Q .xs) used h p q (H .count) (P .count) (Q .count))
-
-pub clause-next : (ts : List ℕ) (n used at e : ℕ) (c : Clause) → clauseAt ts n used at ≡ done c e → e ≤ length ts
-unfolding clauseAt
-clause-next ts n used at e c h =
-    let (p1, b1, a1, h1) = then-inv _ _ c e h in
-    let (p2, b2, a2, h2) = then-inv _ _ c e h1 in
-    let (p3, b3, a3, h3) = then-inv _ _ c e h2 in
-    let w : b3 ≡ e = cc in
-    omega (arith, list-next ts negKey p3 n _ b2 b3 a3)
+          let d : clauseAt ts n used at ≡ done (record { head = H .thing; pos = P .thing; neg = Q .thing }) (c3 .at) = rw (H .read, H .count, P .read, P .count, Q .read) in
+          let l : length (clauseWords (record { head = H .thing; pos = P .thing; neg = Q .thing })) ≡ 3 + h + p + q =
+          omega (arith, length-append (H .thing) (P .thing ++ Q .thing), length-append (P .thing) (Q .thing), H .count, P .count, Q .count) in
+          let s : w3 ≡ sets (sets (sets w (used + 3) (H .thing)) (used + 3 + h) (P .thing)) (used + 3 + h + p) (Q .thing) = rw (← H .stored, ← P .stored, ← Q .stored) in
+          stores-done clauseWords (clauseAt ts n used at) _ _ _ used w w′ d l (e ∙ ap (λ z. set (set (set z used h) (used + 1) p) (used + 2) q) s ∙ clause-stored w (H .thing) (P .thing) (Q .thing) used h p q (H .count) (P .count) (Q .count))
 
 -- ---- clauses, as far as they are read
 
@@ -141,32 +100,25 @@ clauses-one : (ts : List ℕ) (n m k used at j e : ℕ) (c : Clause) → k < m �
 unfolding clausesAt then
 clauses-one ts n m k used at j e c l d t = let q : m - k ≡ suc (m - (k + 1)) = omega arith in rw (q, d, t)
 
-module _ (ts : List ℕ) (n m at₀ k used at : ℕ) (w₀ w w′ : List ℕ) (l : k < m) (g : Going ts n m at₀ k used at w₀ w) where
-  one : m - k ≡ suc (m - (k + 1))
-  one = omega arith
-
-  pub going-on : (here : Cursor) → here ≡ record { at = at } → (j : ℕ) (cur : Cursor) (r : Line) → Stores clauseWords (clauseAt ts n used (here .at)) r used w w′ → r ≡ Got j cur → Going ts n m at₀ (k + 1) (used + j) (cur .at) w₀ w′
-  unfolding clausesAt then
-  going-on here q j cur r s′ e =
-      let s = subst (λ z. Stores clauseWords (clauseAt ts n used (z .at)) r used w w′) q s′ in
-      let (c, d, t) = answer-words clauseWords (clauseAt ts n used at) j cur (sym e ∙ s .says) in
-      let i = clause-inv ts n used at (cur .at) c d in
-      let a : clausesAt ts n (m - k) used at ≡ then (clausesAt ts n (m - (k + 1)) (used + j) (cur .at)) (λ ds e. done (c ∷ ds) e) = clauses-one ts n m k used at j (cur .at) c l d t in
+module _ (ts : List ℕ) (n m at₀ k used at : ℕ) (w₀ w : List ℕ) (l : k < m) (g : Going ts n m at₀ k used at w₀ w) where
+  pub going-on : (w′ : List ℕ) (j : ℕ) (cur : Cursor) → Held clauseWords (clauseAt ts n used at) j cur used w w′ → Going ts n m at₀ (k + 1) (used + j) (cur .at) w₀ w′
+  going-on w′ j cur h =
+      let c = h .thing in
+      let i = clause-inv ts n used at (cur .at) c (h .read) in
       record {
         cs = g .cs ++ c ∷ [];
-        whole = g .whole ∙ ap (joinAll (g .cs)) a ∙ join-one (g .cs) c (clausesAt ts n (m - (k + 1)) (used + j) (cur .at));
-        stored = s .holds c (cur .at) d ∙ ap (λ z. sets z used (clauseWords c)) (g .stored) ∙ ap (λ z. sets (sets w₀ 2 (clausesWords (g .cs))) z (clauseWords c)) (g .count) ∙ sym (sets-append w₀ 2 (clausesWords (g .cs)) (clauseWords c)) ∙ ap (sets w₀ 2) (sym (words-one (g .cs) c));
-        count = omega (arith, ap length (words-one (g .cs) c), length-append (clausesWords (g .cs)) (clauseWords c), g .count, t);
-        room = omega (arith, i .2, t);
-        next = clause-next ts n used at (cur .at) c d;
+        whole = g .whole ∙ ap (joinAll (g .cs)) (clauses-one ts n m k used at j (cur .at) c l (h .read) (h .count)) ∙ join-one (g .cs) c (clausesAt ts n (m - (k + 1)) (used + j) (cur .at));
+        stored = h .stored ∙ ap (λ z. sets z used (clauseWords c)) (g .stored) ∙ ap (λ z. sets (sets w₀ 2 (clausesWords (g .cs))) z (clauseWords c)) (g .count) ∙ sym (sets-append w₀ 2 (clausesWords (g .cs)) (clauseWords c)) ∙ ap (sets w₀ 2) (sym (words-one (g .cs) c));
+        count = omega (arith, ap length (words-one (g .cs) c), length-append (clausesWords (g .cs)) (clauseWords c), g .count, h .count);
+        room = omega (arith, i .fits, h .count);
+        next = i .next;
       }
 
-  pub going-stop : (here : Cursor) → here ≡ record { at = at } → (s : Refusal) (r : Line) → Stores clauseWords (clauseAt ts n used (here .at)) r used w w′ → r ≡ Stop s → clausesAt ts n m 2 at₀ ≡ stop s
+  pub going-stop : (r : Refusal) → clauseAt ts n used at ≡ stop r → clausesAt ts n m 2 at₀ ≡ stop r
   unfolding clausesAt then
-  going-stop here q s r h′ e =
-      let h = subst (λ z. Stores clauseWords (clauseAt ts n used (z .at)) r used w w′) q h′ in
-      let d = answer-stop clauseWords (clauseAt ts n used at) s (sym e ∙ h .says) in
-      let a : clausesAt ts n (m - k) used at ≡ stop s = rw (one, d) in
+  going-stop r d =
+      let q : m - k ≡ suc (m - (k + 1)) = omega arith in
+      let a : clausesAt ts n (m - k) used at ≡ stop r = rw (q, d) in
       g .whole ∙ ap (joinAll (g .cs)) a
 
 pub going-end : (ts : List ℕ) (n m at₀ k used at : ℕ) (w₀ w : List ℕ) → m ≤ k → Going ts n m at₀ k used at w₀ w

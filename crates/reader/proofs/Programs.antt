@@ -12,36 +12,15 @@ use Rattle.table.specs.declared.Refusal.the-variants.{Call, Byte}
 use Rattle.table.specs.declared.ByteQuestion.{ByteQuestion}
 use Rattle.table.specs.declared.ByteQuestion.the-variants.{TextAtomLimit, TextClauseLimit, TextAllUsed}
 use Rattle.text.specs.declared.Cursor.{Cursor}
-use Rattle.text.specs.declared.Line.{Line}
-use Rattle.text.specs.declared.Line.the-variants.{Got, Stop}
-use Rattle.semantics.specs.Programs.{Clause, Program, program}
+use Rattle.text.specs.declared.Line.the-variants.{Got}
+use Rattle.semantics.specs.Programs.{Clause, program}
 use Rattle.table.specs.Encoding.{clausesWords, encode}
 use Rattle.text.specs.Render.{atomsKey, clausesKey}
 use Rattle.text.specs.declared.ReadAnswer.the-variants.{Accepted, Refused}
-use Rattle.text.specs.Reader.{Read, done, stop, ask, then, numberOf, numberAt, countAt, clausesAt, restAt, programAt, numberAnswer, Stores, readText, readAnswer, tableAfter}
-use Rattle.text.proofs.Lines.{span-inv, ask-inv, then-inv}
+use Rattle.text.specs.Reader.{done, stop, ask, then, numberAt, countAt, clausesAt, restAt, programAt, Stores, readText, readAnswer, tableAfter}
 use Rattle.text.proofs.Slices.{copied}
 use Rattle.text.proofs.Texts.{clauses-inv, read-inv}
-use Rattle.reader.proofs.Clauses.{answer-words}
-use Rattle.reader.proofs.Lines.{span-bounds, stores-done}
-
-pub number-got : (x : Read ℕ) (k : ℕ) (cur : Cursor) (r : Line) → r ≡ numberAnswer x → r ≡ Got k cur → x ≡ done k (cur .at)
-number-got (done a e) k cur r h q = let p : cur ≡ record { at = e } = cc in let f : a ≡ k = cc in ap (λ z. done z e) f ∙ ap (done k) (ap (λ z. z .at) (sym p))
-number-got (stop s) k cur r h q = let z : _≡_ {A = ℕ} 0 1 = cc in absurd (omega arith)
-
-pub number-not : (x : Read ℕ) (s : Refusal) (r : Line) → r ≡ numberAnswer x → r ≡ Stop s → x ≡ stop s
-number-not (done a e) s r h q = let z : _≡_ {A = ℕ} 0 1 = cc in absurd (omega arith)
-number-not (stop t) s r h q = ap stop (cc)
-
-pub count-next : (ts key : List ℕ) (limit : ℕ) (q : ByteQuestion) (x at e : ℕ) → countAt ts key limit q at ≡ done x e → e ≤ length ts
-unfolding countAt numberAt numberOf
-count-next ts key limit q x at e h =
-    let (n, d, a, h1) = then-inv _ _ x e h in
-    let (t, h2) = ask-inv _ _ _ x e h1 in
-    let (from, end, s, h3) = span-inv _ _ _ n d a in
-    let (ok, h4) = ask-inv _ _ _ n d h3 in
-    let w : end + 1 ≡ e = cc in
-    omega (arith, span-bounds ts key at from end s .1)
+use Rattle.reader.proofs.Answers.{stores-done, Held}
 
 -- ---- a line with a limit
 
@@ -76,7 +55,7 @@ module _ (ts : List ℕ) (n m at : ℕ) where
     unfolding restAt then ask encode
     all-read k w w1 w′ l q s t =
         let d : restAt ts n m at ≡ done (program n cs) e = rw (h, le-leb (length ts) e l) in
-        let i : length cs ≡ m = clauses-inv ts n m 2 at e cs (omega arith) h .3 in
+        let i : length cs ≡ m = clauses-inv ts n m 2 at e cs (omega arith) h .count in
         stores-done encode (restAt ts n m at) _ _ _ 0 w w′ d (omega (arith, q)) (t ∙ ap (λ z. sets z 2 (clausesWords cs)) s ∙ rw i)
 
 -- ---- the lines
@@ -117,30 +96,11 @@ module _ (ts table : List ℕ) where
   call-stop r h = rw h (refl, refl)
 
   -- the text is read, and its n words stand at the start of a local array w
-  pub record Whole (w : List ℕ) (n : ℕ) : Type 0 where
-    pub program : Program
-    pub end : ℕ
-    pub read : readText ts (length table) ≡ done program end
-    pub count : length (encode program) ≡ n
-    pub short : n ≤ 8192
-    pub held : List ℕ
-    pub stored : w ≡ sets held 0 (encode program)
+  module _ (w₀ w : List ℕ) (n : ℕ) (cur : Cursor) (a : length ts ≤ 65536) (b : 8192 ≤ length table) (h : Held encode (programAt ts) n cur 0 w₀ w) where
+    pub call-short : n ≤ 8192
+    call-short = omega (arith, read-inv ts (length table) (h .thing) (cur .at) (on-text a b ∙ h .read) .0 .fewWords, h .count)
 
-  pub whole-read : (w₀ w : List ℕ) (n : ℕ) (cur : Cursor) (r : Line) → length ts ≤ 65536 → 8192 ≤ length table → Stores encode (programAt ts) r 0 w₀ w → r ≡ Got n cur → Whole w n
-  whole-read w₀ w n cur r a b s e =
-      let (P, d, l) = answer-words encode (programAt ts) n cur (sym e ∙ s .says) in
-      let h = on-text a b ∙ d in
-      record {
-        program = P;
-        end = cur .at;
-        read = h;
-        count = l;
-        short = omega (arith, read-inv ts (length table) P (cur .at) h .0 .fewWords);
-        held = w₀;
-        stored = s .holds P (cur .at) d;
-      }
-
-  -- the words are copied
-  pub call-done : (w x : List ℕ) (n : ℕ) → Whole w n → n ≤ length w → n ≤ length table → x ≡ sets table 0 (take n w) → (Accepted n ≡ readAnswer ts (length table)) × (x ≡ tableAfter ts table)
-  unfolding readAnswer tableAfter
-  call-done w x n h b f q = rw (h .read) (ap Accepted (sym (h .count)), copied table (h .held) w x (encode (h .program)) n b f (h .stored) (h .count) q)
+    -- the words are copied
+    pub call-done : (x : List ℕ) → n ≤ length w → x ≡ sets table 0 (take n w) → (Accepted n ≡ readAnswer ts (length table)) × (x ≡ tableAfter ts table)
+    unfolding readAnswer tableAfter
+    call-done x f q = rw (on-text a b, h .read) (ap Accepted (sym (h .count)), copied table w₀ w x (encode (h .thing)) n f (omega (arith, call-short)) (h .stored) (h .count) q)

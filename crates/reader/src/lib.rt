@@ -2,9 +2,10 @@
 ghost use mathlib.Core.Path.{_≡_};
 ghost use Prim.Native.Nat.{_+_, _≤_, _<_};
 ghost use lib.ListN.{length, take, drop, set};
+ghost use lib.Dec.{leb};
 ghost use lib.Seq.{sets};
 ghost use Rattle.table.specs.Encoding.{clauseWords, clausesWords, encode};
-ghost use Rattle.text.specs.Reader.{starts, run, spanAt, nextOf, numbers, formOf, order, numberAt, countAt, listAt, clauseAt, clausesAt, restAt, programAt, readAnswer, tableAfter, numberAnswer, Stores, listWords};
+ghost use Rattle.text.specs.Reader.{starts, run, spanAt, nextOf, numbers, formOf, order, valueAt, numberAt, countAt, listAt, clauseAt, clausesAt, restAt, programAt, readAnswer, tableAfter, numberAnswer, Stores, listWords};
 use table::ByteQuestion;
 use table::CallQuestion;
 use table::Refusal;
@@ -165,25 +166,37 @@ fn order_of(part: &[u16], atoms: u16) -> Order
     Order::Ascends
 }
 
-// A line whose value is one number.
-pub fn read_number(text: &[u8], key: &[u8], c: Cursor) -> Line
-    requires { ⌜ c .at ≤ length (now text) ⌝ }
-    ensures { λ r. ⌜ r ≡ numberAnswer (numberAt (now (text .entry)) (now (key .entry)) (c .at)) ⌝ }
+// Questions 24 and 25: the numbers of the line's value are stored from the place `used` on, where there is room for them.
+fn read_value(text: &[u8], key: &[u8], words: &mut [u16], used: usize, c: Cursor) -> Line
+    requires { ⌜ (c .at ≤ length (now text)) × (used ≤ 8195) ⌝ }
+    ensures { λ r. ⌜ Stores listWords (valueAt (now (text .entry)) (now (key .entry)) (c .at)) r used (now (words .entry)) (now (words .exit)) ⌝ }
 {
     let at = c.at;
     let span = span_at(text, key, at);
     let Span::Value(from, end) = span else {
         return Line::Stop(Refusal::Byte(ByteQuestion::LineThere, at));
     };
+    match scan_value(&text[from..end], words, used) {
+        Form::Numbers(count) => Line::Got(count, Cursor::new(end + 1)),
+        Form::Malformed => Line::Stop(Refusal::Byte(ByteQuestion::ValueInForm, at)),
+    }
+}
+
+// A line whose value is one number.
+pub fn read_number(text: &[u8], key: &[u8], c: Cursor) -> Line
+    requires { ⌜ c .at ≤ length (now text) ⌝ }
+    ensures { λ r. ⌜ r ≡ numberAnswer (numberAt (now (text .entry)) (now (key .entry)) (c .at)) ⌝ }
+{
+    let at = c.at;
     let mut one = [0u16; 1];
-    let form = scan_value(&text[from..end], &mut one, 0);
-    let Form::Numbers(count) = form else {
-        return Line::Stop(Refusal::Byte(ByteQuestion::ValueInForm, at));
+    let line = read_value(text, key, &mut one, 0, c);
+    let Line::Got(count, next) = line else {
+        return line;
     };
     if count != 1 {
         return Line::Stop(Refusal::Byte(ByteQuestion::ValueInForm, at));
     }
-    Line::Got(table::wide(one[0]), Cursor::new(end + 1))
+    Line::Got(table::wide(one[0]), next)
 }
 
 // A line whose value is a number up to a limit, which question 2 or 3 asks.
@@ -202,6 +215,19 @@ pub fn read_count(text: &[u8], key: &[u8], limit: u16, q: ByteQuestion, c: Curso
     line
 }
 
+// Question 26: so many words more stay within the table's limit.
+fn stays_within(used: usize, count: usize) -> bool
+    ensures { λ r. ⌜ r ≡ leb (used + count) 8192 ⌝ }
+{
+    if Table::MAX_WORDS < used {
+        return false;
+    }
+    if Table::MAX_WORDS - used < count {
+        return false;
+    }
+    true
+}
+
 // A line whose value is a list: its numbers are stored from the place `used` on.
 pub fn read_list(
     text: &[u8],
@@ -215,22 +241,15 @@ pub fn read_list(
     ensures { λ r. ⌜ Stores listWords (listAt (now (text .entry)) (now (key .entry)) atoms used (c .at)) r used (now (words .entry)) (now (words .exit)) ⌝ }
 {
     let at = c.at;
-    let span = span_at(text, key, at);
-    let Span::Value(from, end) = span else {
-        return Line::Stop(Refusal::Byte(ByteQuestion::LineThere, at));
+    let line = read_value(text, key, words, used, c);
+    let Line::Got(count, next) = line else {
+        return line;
     };
-    let form = scan_value(&text[from..end], words, used);
-    let Form::Numbers(count) = form else {
-        return Line::Stop(Refusal::Byte(ByteQuestion::ValueInForm, at));
-    };
-    if Table::MAX_WORDS < used {
-        return Line::Stop(Refusal::Byte(ByteQuestion::WordLimit, at));
-    }
-    if Table::MAX_WORDS - used < count {
+    if !stays_within(used, count) {
         return Line::Stop(Refusal::Byte(ByteQuestion::WordLimit, at));
     }
     match order_of(&words[used..used + count], atoms) {
-        Order::Ascends => Line::Got(count, Cursor::new(end + 1)),
+        Order::Ascends => Line::Got(count, next),
         Order::NotBelow => Line::Stop(Refusal::Byte(ByteQuestion::TextAtomBelow, at)),
         Order::NotAbove => Line::Stop(Refusal::Byte(ByteQuestion::TextAscending, at)),
     }
@@ -284,21 +303,21 @@ fn read_clauses(text: &[u8], atoms: u16, clauses: u16, words: &mut [u16], c: Cur
     ensures { λ r. ⌜ Stores clausesWords (clausesAt (now (text .entry)) atoms clauses 2 (c .at)) r 2 (now (words .entry)) (now (words .exit)) ⌝ }
 {
     let mut used: usize = 2;
-    let mut at = c.at;
+    let mut here = c;
     let mut k: u16 = 0;
     while k < clauses {
         k += 1;
-        match read_clause(text, atoms, words, used, Cursor::new(at)) {
+        match read_clause(text, atoms, words, used, here) {
             Line::Got(n, next) => {
                 used += n;
-                at = next.at;
+                here = next;
             }
             Line::Stop(r) => {
                 return Line::Stop(r);
             }
         }
     }
-    Line::Got(used - 2, Cursor::new(at))
+    Line::Got(used - 2, here)
 }
 
 // What follows the first two lines, and question 27: the whole table's words are stored from word 0 on.

@@ -8,7 +8,6 @@ use lib.ListN.{length, length-append, length-drop, getD, take, drop}
 use lib.Seq.{drop-drop, take-append-seam}
 use lib.Dec.{ltb, leb, eqb}
 use borrow.Author.Tests.{lt-ltb, le-leb, eq-eqb, ne-eqb, leb-true, ltb-true, eqb-true}
-use Rattle.semantics.proofs.Tests.{and-iff}
 use Rattle.table.specs.declared.ByteQuestion.{ByteQuestion}
 use Rattle.table.specs.declared.Refusal.{Refusal}
 use Rattle.table.specs.Encoding.{Ordered}
@@ -20,7 +19,7 @@ use Rattle.text.specs.declared.Order.{Order}
 use Rattle.text.specs.declared.Order.the-variants.{Ascends, NotBelow, NotAbove}
 use Rattle.text.specs.Digits.{width, places, digits, joined, commas}
 use Rattle.text.specs.Render.{lineText}
-use Rattle.text.specs.Reader.{Read, done, stop, ask, then, starts, run, ended, spanAt, numbers, order, onSpan, onOrder, numberOf, numberAt, countAt, listOf, listAt}
+use Rattle.text.specs.Reader.{Read, done, stop, ask, then, starts, run, ended, spanAt, numbers, order, onSpan, onOrder, valueOf, valueAt, numberAt, countAt, listOf, listAt}
 use Rattle.text.proofs.Numbers.{Small, numbers-of, numbers-inv}
 
 -- no line feed
@@ -108,7 +107,13 @@ line-of ts key v r at h f =
       rest = past ts (10 ∷ []) r (at + length key + length v) b;
     }
 
-pub line-inv : (ts key : List ℕ) (at from end : ℕ) → spanAt ts key at ≡ Value from end → drop at ts ≡ lineText key (cut ts from (end - from)) ++ drop (end + 1) ts
+-- a line whose value stands there
+pub record Spanned (ts key : List ℕ) (at from end : ℕ) : Type 0 where
+  pub text : drop at ts ≡ lineText key (cut ts from (end - from)) ++ drop (end + 1) ts
+  pub order : from ≤ end
+  pub inside : end < length ts
+
+pub line-inv : (ts key : List ℕ) (at from end : ℕ) → spanAt ts key at ≡ Value from end → Spanned ts key at from end
 unfolding spanAt ended
 line-inv ts key at from end h = go (starts key (drop at ts)) refl (ltb (f + run (drop f ts)) (length ts)) refl h
   where
@@ -116,17 +121,22 @@ line-inv ts key at from end h = go (starts key (drop at ts)) refl (ltb (f + run 
     f = at + length key
 
     go : (s : Bool) → starts key (drop at ts) ≡ s → (l : Bool) → ltb (f + run (drop f ts)) (length ts) ≡ l
-        → cond s (cond l (Value f (f + run (drop f ts))) Missing) Missing ≡ Value from end → drop at ts ≡ lineText key (cut ts from (end - from)) ++ drop (end + 1) ts
+        → cond s (cond l (Value f (f + run (drop f ts))) Missing) Missing ≡ Value from end → Spanned ts key at from end
     go true s true l h =
         let a : f ≡ from = cc in
         let b : f + run (drop f ts) ≡ end = cc in
-        let k : run (drop f ts) < length (drop f ts) = rw (length-drop f ts) (omega (arith, ltb-true (f + run (drop f ts)) (length ts) l)) in
+        let j = ltb-true (f + run (drop f ts)) (length ts) l in
+        let k : run (drop f ts) < length (drop f ts) = rw (length-drop f ts) (omega arith) in
         let e = run-inv (drop f ts) k in
         let m : end - from ≡ run (drop f ts) = omega arith in
         let i : f + suc (run (drop f ts)) ≡ end + 1 = omega arith in
         let p : drop (suc (run (drop f ts))) (drop f ts) ≡ drop (end + 1) ts = drop-drop (suc (run (drop f ts))) f ts ∙ ap (λ x. drop x ts) i in
         let q : drop at ts ≡ key ++ drop f ts = starts-inv key (drop at ts) s ∙ ap (λ l. key ++ l) (drop-drop (length key) at ts) in
-        q ∙ ap (λ l. key ++ l) (e ∙ rw (p, ← m, a)) ∙ sym (line-append key (cut ts from (end - from)) (drop (end + 1) ts))
+        record {
+          text = q ∙ ap (λ l. key ++ l) (e ∙ rw (p, ← m, a)) ∙ sym (line-append key (cut ts from (end - from)) (drop (end + 1) ts));
+          order = omega arith;
+          inside = omega arith;
+        }
     go true s false l h = let z : _≡_ {A = ℕ} 0 1 = cc in absurd (omega arith)
     go false s l k h = let z : _≡_ {A = ℕ} 0 1 = cc in absurd (omega arith)
 
@@ -179,71 +189,83 @@ module _ {A B : Type 0} where
   then-inv (done a d) f b e h = (a, d, refl, h)
   then-inv (stop r) f b e h = let z : _≡_ {A = ℕ} 0 1 = cc in absurd (omega arith)
 
+-- ---- the numbers of a line
+
+value-of : (ts key xs r : List ℕ) (at : ℕ) → drop at ts ≡ lineText key (commas xs) ++ r → Small xs → (e : ℕ) × (valueAt ts key at ≡ done xs e) × (drop e ts ≡ r)
+unfolding valueAt valueOf onSpan ask
+value-of ts key xs r at h s =
+    let k = line-of ts key (commas xs) r at h (free-commas xs) in
+    (at + length key + length (commas xs) + 1, rw (k .span, k .value, numbers-of xs s), k .rest)
+
+pub value-inv : (ts key xs : List ℕ) (at e : ℕ) → valueAt ts key at ≡ done xs e → (drop at ts ≡ lineText key (commas xs) ++ drop e ts) × (e ≤ length ts)
+unfolding valueAt valueOf
+value-inv ts key xs at e h =
+    let (from, end, s, h1) = span-inv _ _ _ xs e h in
+    let (ok, h2) = ask-inv _ _ _ xs e h1 in
+    let q : numbers (cut ts from (end - from)) .xs ≡ xs = cc in
+    let w : end + 1 ≡ e = cc in
+    let k = line-inv ts key at from end s in
+    (k .text ∙ ap (λ t. lineText key t ++ drop (end + 1) ts) (numbers-inv (cut ts from (end - from)) ok .0 ∙ ap commas q) ∙ ap (λ x. lineText key (commas xs) ++ drop x ts) w, omega (arith, k .inside))
+
 -- ---- a list line
 
 pub list-of : (ts key xs r : List ℕ) (n used at : ℕ) → drop at ts ≡ lineText key (commas xs) ++ r → n ≤ 1024 → Ordered n xs → used + length xs ≤ 8192
     → (e : ℕ) × (listAt ts key n used at ≡ done xs e) × (drop e ts ≡ r)
-unfolding listAt listOf onSpan ask onOrder
+unfolding listAt listOf then ask onOrder
 list-of ts key xs r n used at h l o u =
-    let g = rising-iff n xs .1 o in
-    let k = line-of ts key (commas xs) r at h (free-commas xs) in
-    (at + length key + length (commas xs) + 1, rw (k .span, k .value, numbers-of xs (ordered-small n xs l o), le-leb (used + length xs) 8192 u, order-of n 0 xs g), k .rest)
+    let (e, a, d) = value-of ts key xs r at h (ordered-small n xs l o) in
+    (e, rw (a, le-leb (used + length xs) 8192 u, order-of n 0 xs (rising-iff n xs .1 o)), d)
 
-pub list-inv : (ts key xs : List ℕ) (n used at e : ℕ) → listAt ts key n used at ≡ done xs e
-    → (drop at ts ≡ lineText key (commas xs) ++ drop e ts) × Ordered n xs × (used + length xs ≤ 8192)
+-- what a list line that is read says
+pub record Listed (ts key xs : List ℕ) (n used at e : ℕ) : Type 0 where
+  pub text : drop at ts ≡ lineText key (commas xs) ++ drop e ts
+  pub next : e ≤ length ts
+  pub ordered : Ordered n xs
+  pub fits : used + length xs ≤ 8192
+
+pub list-inv : (ts key xs : List ℕ) (n used at e : ℕ) → listAt ts key n used at ≡ done xs e → Listed ts key xs n used at e
 unfolding listAt listOf
 list-inv ts key xs n used at e h =
-    let (from, end, s, h1) = span-inv _ _ _ xs e h in
-    let (ok, h2) = ask-inv _ _ _ xs e h1 in
-    let (fits, h3) = ask-inv _ _ _ xs e h2 in
-    let (o, h4) = onOrder-inv _ _ _ xs e h3 in
-    let q : numbers (cut ts from (end - from)) .xs ≡ xs = cc in
-    let w : end + 1 ≡ e = cc in
-    let v = numbers-inv (cut ts from (end - from)) ok in (
-      line-inv ts key at from end s ∙ ap (λ t. lineText key t ++ drop (end + 1) ts) (v .0 ∙ ap commas q) ∙ ap (λ x. lineText key (commas xs) ++ drop x ts) w,
-      subst (λ l. Ordered n l) q (rising-iff n (numbers (cut ts from (end - from)) .xs) .0 (order-inv n 0 (numbers (cut ts from (end - from)) .xs) o)),
-      subst (λ l. used + length l ≤ 8192) q (leb-true (used + length (numbers (cut ts from (end - from)) .xs)) 8192 fits),
-    )
+    let (ys, d, a, h1) = then-inv _ _ xs e h in
+    let (f, h2) = ask-inv _ _ _ xs e h1 in
+    let (o, h3) = onOrder-inv _ _ _ xs e h2 in
+    let (t, l) = value-inv ts key xs at e (a ∙ h3) in
+    let q : ys ≡ xs = cc in
+    record {
+      text = t;
+      next = l;
+      ordered = subst (λ l. Ordered n l) q (rising-iff n ys .0 (order-inv n 0 ys o));
+      fits = subst (λ l. used + length l ≤ 8192) q (leb-true (used + length ys) 8192 f);
+    }
 
--- ---- a number line
+-- ---- a line with one number, up to a limit
 
 one : (xs : List ℕ) → length xs ≡ 1 → xs ≡ getD xs 0 0 ∷ []
 one [] h = absurd (omega arith)
 one (x ∷ []) h = refl
 one (x ∷ y ∷ xs) h = absurd (omega arith)
 
-number-of : (ts key r : List ℕ) (x at : ℕ) → drop at ts ≡ lineText key (digits x) ++ r → x ≤ 9999 → (e : ℕ) × (numberAt ts key at ≡ done x e) × (drop e ts ≡ r)
-unfolding numberAt numberOf onSpan ask
-number-of ts key r x at h l =
-    let k = line-of ts key (digits x) r at h (free-digits x) in
-    let q : numbers (digits x) ≡ record { ok = true; xs = x ∷ [] } = unfold commas joined in numbers-of (x ∷ []) (l, tt) in
-    (at + length key + length (digits x) + 1, rw (k .span, k .value, q), k .rest)
-
-number-inv : (ts key : List ℕ) (x at e : ℕ) → numberAt ts key at ≡ done x e → drop at ts ≡ lineText key (digits x) ++ drop e ts
-unfolding numberAt numberOf
-number-inv ts key x at e h =
-    let (from, end, s, h1) = span-inv _ _ _ x e h in
-    let (ok, h2) = ask-inv _ _ _ x e h1 in
-    let s1 = numbers (cut ts from (end - from)) in
-    let (fine, single) = and-iff (s1 .ok) (eqb (length (s1 .xs)) 1) .0 ok in
-    let o = one (s1 .xs) (eqb-true _ 1 single) in
-    let q : getD (s1 .xs) 0 0 ≡ x = cc in
-    let w : end + 1 ≡ e = cc in
-    let v = numbers-inv (cut ts from (end - from)) fine in
-    let t : cut ts from (end - from) ≡ digits x = v .0 ∙ ap commas (o ∙ ap (λ y. y ∷ []) q) ∙ (unfold commas joined in refl) in
-    line-inv ts key at from end s ∙ ap (λ t. lineText key t ++ drop (end + 1) ts) t ∙ ap (λ z. lineText key (digits x) ++ drop z ts) w
-
--- ---- a line with a limit
+commas-one : (x : ℕ) → commas (x ∷ []) ≡ digits x
+unfolding commas joined
+commas-one x = refl
 
 module _ (ts key : List ℕ) (limit : ℕ) (q : ByteQuestion) where
   pub count-of : (r : List ℕ) (x at : ℕ) → drop at ts ≡ lineText key (digits x) ++ r → x ≤ limit → limit ≤ 9999 → (e : ℕ) × (countAt ts key limit q at ≡ done x e) × (drop e ts ≡ r)
-  unfolding countAt then ask
-  count-of r x at h l m = let (e, a, d) = number-of ts key r x at h (omega arith) in (e, rw (a, le-leb x limit l), d)
+  unfolding countAt numberAt then ask
+  count-of r x at h l m =
+      let (e, a, d) = value-of ts key (x ∷ []) r at (h ∙ ap (λ t. lineText key t ++ r) (sym (commas-one x))) (omega arith, tt) in
+      (e, rw (a, le-leb x limit l), d)
 
-  pub count-inv : (x at e : ℕ) → countAt ts key limit q at ≡ done x e → (drop at ts ≡ lineText key (digits x) ++ drop e ts) × (x ≤ limit)
-  unfolding countAt
+  pub count-inv : (x at e : ℕ) → countAt ts key limit q at ≡ done x e → (drop at ts ≡ lineText key (digits x) ++ drop e ts) × (e ≤ length ts) × (x ≤ limit)
+  unfolding countAt numberAt
   count-inv x at e h =
       let (n, d, a, h1) = then-inv _ _ x e h in
-      let (t, h2) = ask-inv _ _ _ x e h1 in
+      let (f, h2) = ask-inv _ _ _ x e h1 in
+      let (xs, b, v, h3) = then-inv _ _ n d a in
+      let (single, h4) = ask-inv _ _ _ n d h3 in
       let w : n ≡ x = cc in
-      (number-inv ts key x at e (a ∙ h2), subst (λ z. z ≤ limit) w (leb-true n limit t))
+      let p : getD xs 0 0 ≡ x = cc in
+      let k : b ≡ e = cc in
+      let z : xs ≡ x ∷ [] = one xs (eqb-true (length xs) 1 single) ∙ ap (λ y. y ∷ []) p in
+      let (t, l) = value-inv ts key (x ∷ []) at e (v ∙ ap (λ y. done y b) z ∙ ap (done (x ∷ [])) k) in
+      (t ∙ ap (λ t. lineText key t ++ drop e ts) (commas-one x), l, subst (λ z. z ≤ limit) w (leb-true n limit f))

@@ -33,27 +33,35 @@ clause-of ts r n used at c h l g u =
     let (e3, a3, d3) = list-of ts negKey (c .neg) r n (used + 3 + length (c .head) + length (c .pos)) e2 d2 l (g .neg) (omega arith) in
     (e3, rw (a1, a2, a3), d3)
 
-pub clause-inv : (ts : List ℕ) (n used at e : ℕ) (c : Clause) → clauseAt ts n used at ≡ done c e
-    → (drop at ts ≡ clauseText c ++ drop e ts) × OrderedClause n c × (used + length (clauseWords c) ≤ 8192)
+-- what a clause that is read says
+pub record ClauseRead (ts : List ℕ) (n used at : ℕ) (c : Clause) (e : ℕ) : Type 0 where
+  pub text : drop at ts ≡ clauseText c ++ drop e ts
+  pub next : e ≤ length ts
+  pub ordered : OrderedClause n c
+  pub fits : used + length (clauseWords c) ≤ 8192
+
+pub clause-inv : (ts : List ℕ) (n used at e : ℕ) (c : Clause) → clauseAt ts n used at ≡ done c e → ClauseRead ts n used at c e
 unfolding clauseText clauseAt
 clause-inv ts n used at e c h =
     let (p1, b1, a1, h1) = then-inv _ _ c e h in
     let (p2, b2, a2, h2) = then-inv _ _ c e h1 in
     let (p3, b3, a3, h3) = then-inv _ _ c e h2 in
-    let (t1, g1, u1) = list-inv ts headKey p1 n _ at b1 a1 in
-    let (t2, g2, u2) = list-inv ts posKey p2 n _ b1 b2 a2 in
-    let (t3, g3, u3) = list-inv ts negKey p3 n _ b2 b3 a3 in
+    let x = list-inv ts headKey p1 n _ at b1 a1 in
+    let y = list-inv ts posKey p2 n _ b1 b2 a2 in
+    let z = list-inv ts negKey p3 n _ b2 b3 a3 in
     let d : Clause = record { head = p1; pos = p2; neg = p3 } in
     let q : d ≡ c = cc in
     let w : b3 ≡ e = cc in
-    let k = clause-length d in
     let H = lineText headKey (commas p1) in
     let P = lineText posKey (commas p2) in
     let Q = lineText negKey (commas p3) in
-    let z : drop at ts ≡ clauseText d ++ drop b3 ts = t1 ∙ ap (λ x. H ++ x) (t2 ∙ ap (λ x. P ++ x) t3 ∙ sym (append-assoc P Q (drop b3 ts))) ∙ sym (append-assoc H (P ++ Q) (drop b3 ts)) in
-    let g : OrderedClause n d = record { head = g1; pos = g2; neg = g3 } in
-    let u : used + length (clauseWords d) ≤ 8192 = omega arith in
-    subst₂ (λ c e. (drop at ts ≡ clauseText c ++ drop e ts) × OrderedClause n c × (used + length (clauseWords c) ≤ 8192)) q w (z, g, u)
+    let read : ClauseRead ts n used at d b3 = record {
+      text = x .text ∙ ap (λ t. H ++ t) (y .text ∙ ap (λ t. P ++ t) (z .text) ∙ sym (append-assoc P Q (drop b3 ts))) ∙ sym (append-assoc H (P ++ Q) (drop b3 ts));
+      next = z .next;
+      ordered = record { head = x .ordered; pos = y .ordered; neg = z .ordered };
+      fits = omega (arith, clause-length d, z .fits);
+    } in
+    subst₂ (λ c e. ClauseRead ts n used at c e) q w read
 
 -- ---- clauses
 
@@ -74,21 +82,34 @@ clauses-of ts r n used at (c ∷ cs) h l g u =
     let (e2, a2, d2) = clauses-of ts r n (used + length (clauseWords c)) e1 cs d1 l (λ d m. g d (List·Memᴰ·tail m)) (omega arith) in
     (e2, rw (a1, a2), d2)
 
-pub clauses-inv : (ts : List ℕ) (n m used at e : ℕ) (cs : List Clause) → used ≤ 8192 → clausesAt ts n m used at ≡ done cs e
-    → (drop at ts ≡ clausesText cs ++ drop e ts) × Each n cs × (used + length (clausesWords cs) ≤ 8192) × (length cs ≡ m)
+-- what clauses that are read say
+pub record ClausesRead (ts : List ℕ) (n m used at : ℕ) (cs : List Clause) (e : ℕ) : Type 0 where
+  pub text : drop at ts ≡ clausesText cs ++ drop e ts
+  pub ordered : Each n cs
+  pub fits : used + length (clausesWords cs) ≤ 8192
+  pub count : length cs ≡ m
+
+pub clauses-inv : (ts : List ℕ) (n m used at e : ℕ) (cs : List Clause) → used ≤ 8192 → clausesAt ts n m used at ≡ done cs e → ClausesRead ts n m used at cs e
 unfolding clausesText clausesWords clausesAt
 clauses-inv ts n zero used at e cs o h =
-    let q : [] ≡ cs = cc in let w : at ≡ e = cc in subst₂ (λ cs e. (drop at ts ≡ clausesText cs ++ drop e ts) × Each n cs × (used + length (clausesWords cs) ≤ 8192) × (length cs ≡ 0)) q w (refl, λ d m. absurd (List·Memᴰ·not-nil m), omega arith, refl)
+    let q : [] ≡ cs = cc in
+    let w : at ≡ e = cc in
+    let read : ClausesRead ts n 0 used at [] at = record { text = refl; ordered = λ d m. absurd (List·Memᴰ·not-nil m); fits = omega arith; count = refl } in
+    subst₂ (λ cs e. ClausesRead ts n 0 used at cs e) q w read
 clauses-inv ts n (suc m) used at e cs o h =
     let (c, b1, a1, h1) = then-inv _ _ cs e h in
     let (ds, b2, a2, h2) = then-inv _ _ cs e h1 in
-    let (t1, g1, u1) = clause-inv ts n used at b1 c a1 in
-    let (t2, g2, u2, l2) = clauses-inv ts n m (used + length (clauseWords c)) b1 b2 ds u1 a2 in
+    let x = clause-inv ts n used at b1 c a1 in
+    let y = clauses-inv ts n m (used + length (clauseWords c)) b1 b2 ds (x .fits) a2 in
     let q : c ∷ ds ≡ cs = cc in
     let w : b2 ≡ e = cc in
-    let k = length-append (clauseWords c) (clausesWords ds) in
-    subst₂ (λ cs e. (drop at ts ≡ clausesText cs ++ drop e ts) × Each n cs × (used + length (clausesWords cs) ≤ 8192) × (length cs ≡ suc m)) q w
-    (t1 ∙ ap (λ x. clauseText c ++ x) t2 ∙ sym (append-assoc (clauseText c) (clausesText ds) (drop b2 ts)), each-cons n c ds g1 g2, omega arith, ap suc l2)
+    let read : ClausesRead ts n (suc m) used at (c ∷ ds) b2 = record {
+      text = x .text ∙ ap (λ t. clauseText c ++ t) (y .text) ∙ sym (append-assoc (clauseText c) (clausesText ds) (drop b2 ts));
+      ordered = each-cons n c ds (x .ordered) (y .ordered);
+      fits = omega (arith, y .fits, length-append (clauseWords c) (clausesWords ds));
+      count = ap suc (y .count);
+    } in
+    subst₂ (λ cs e. ClausesRead ts n (suc m) used at cs e) q w read
 
 -- ---- a program's text is short enough
 
@@ -176,14 +197,13 @@ read-inv ts room P e h =
     let (m, b2, a2, h4) = then-inv _ _ P e h3 in
     let (cs, b3, a3, h5) = then-inv _ _ P e h4 in
     let (s3, h6) = ask-inv _ _ _ P e h5 in
-    let (t1, l1) = count-inv ts atomsKey 1024 TextAtomLimit n 0 b1 a1 in
-    let (t2, l2) = count-inv ts clausesKey 2048 TextClauseLimit m b1 b2 a2 in
-    let (t3, g3, u3, l3) = clauses-inv ts n m 2 b2 b3 cs (omega arith) a3 in
-    let Q : Program = program n cs in
-    let q : Q ≡ P = cc in
+    let (t1, x1, l1) = count-inv ts atomsKey 1024 TextAtomLimit n 0 b1 a1 in
+    let (t2, x2, l2) = count-inv ts clausesKey 2048 TextClauseLimit m b1 b2 a2 in
+    let k = clauses-inv ts n m 2 b2 b3 cs (omega arith) a3 in
+    let q : program n cs ≡ P = cc in
     let f : drop b3 ts ≡ [] = drop-of-length-le ts (leb-true (length ts) b3 s3) in
-    let g : Within Q = record { fewAtoms = l1; fewClauses = rw l3 l2; fewWords = omega arith; ordered = g3 } in
+    let g : Within (program n cs) = record { fewAtoms = l1; fewClauses = rw (k .count) l2; fewWords = omega (arith, k .fits); ordered = k .ordered } in
     let A = lineText atomsKey (digits n) in
     let B = lineText clausesKey (digits m) in
-    let z : render Q ≡ ts = rw l3 (sym (t1 ∙ ap (λ x. A ++ x) (t2 ∙ ap (λ x. B ++ x) (t3 ∙ ap (λ x. clausesText cs ++ x) f ∙ append-nil (clausesText cs))))) in
+    let z : render (program n cs) ≡ ts = rw (k .count) (sym (t1 ∙ ap (λ x. A ++ x) (t2 ∙ ap (λ x. B ++ x) (k .text ∙ ap (λ x. clausesText cs ++ x) f ∙ append-nil (clausesText cs))))) in
     subst (λ P. Within P × (render P ≡ ts)) q (g, z)

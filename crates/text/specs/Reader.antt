@@ -103,19 +103,23 @@ numbers (b ∷ l) = scan false 0 (b ∷ l)
 unfoldable pub formOf : Scanned → Form
 formOf s = cond (s .ok) (Numbers (length (s .xs))) Malformed
 
--- ---- a line
+-- ---- a line's numbers
 
 module _ {A : Type 0} where
   unfoldable pub onSpan : Span → ℕ → (ℕ → ℕ → Read A) → Read A
   onSpan (Value from end) at f = f from end
   onSpan Missing at f = stop (Byte LineThere at)
 
--- "The first two values are one number"
-unfoldable pub numberOf : Scanned → ℕ → ℕ → Read ℕ
-numberOf s at end = ask (s .ok && eqb (length (s .xs)) 1) (Byte ValueInForm at) (done (getD (s .xs) 0 0) (end + 1))
+-- "line by line, place the line's first byte: 24 Is it there with its key, "=" and a line feed? 25 Is the value in form?": its numbers
+unfoldable pub valueOf : Scanned → ℕ → ℕ → Read (List ℕ)
+valueOf s at end = ask (s .ok) (Byte ValueInForm at) (done (s .xs) (end + 1))
 
+unfoldable pub valueAt : List ℕ → List ℕ → ℕ → Read (List ℕ)
+valueAt ts key at = onSpan (spanAt ts key at) at (λ from end. valueOf (numbers (cut ts from (end - from))) at end)
+
+-- "The first two values are one number"
 unfoldable pub numberAt : List ℕ → List ℕ → ℕ → Read ℕ
-numberAt ts key at = onSpan (spanAt ts key at) at (λ from end. numberOf (numbers (cut ts from (end - from))) at end)
+numberAt ts key at = then (valueAt ts key at) (λ xs e. ask (eqb (length xs) 1) (Byte ValueInForm at) (done (getD xs 0 0) e))
 
 -- "Then 2 or 3 for the first two lines (here too with the line's place)"
 unfoldable pub countAt : List ℕ → List ℕ → ℕ → ByteQuestion → ℕ → Read ℕ
@@ -132,16 +136,12 @@ module _ {A : Type 0} where
   onOrder NotBelow at r = stop (Byte TextAtomBelow at)
   onOrder NotAbove at r = stop (Byte TextAscending at)
 
--- "25 Is the value in form?" "26 Do the words so far stay within 8,192", `used` of them before this line's numbers? "then 6 and 7"
-unfoldable pub listOf : Scanned → ℕ → ℕ → ℕ → ℕ → Read (List ℕ)
-listOf s n used at end =
-    ask (s .ok) (Byte ValueInForm at)
-    (ask (leb (used + length (s .xs)) 8192) (Byte WordLimit at)
-    (onOrder (order n 0 (s .xs)) at
-    (done (s .xs) (end + 1))))
+-- "for the others 26 Do the words so far stay within 8,192", where `used` are in use before this line's numbers, "then 6 and 7 for each number"
+unfoldable pub listOf : ℕ → ℕ → ℕ → List ℕ → ℕ → Read (List ℕ)
+listOf n used at xs e = ask (leb (used + length xs) 8192) (Byte WordLimit at) (onOrder (order n 0 xs) at (done xs e))
 
 unfoldable pub listAt : List ℕ → List ℕ → ℕ → ℕ → ℕ → Read (List ℕ)
-listAt ts key n used at = onSpan (spanAt ts key at) at (λ from end. listOf (numbers (cut ts from (end - from))) n used at end)
+listAt ts key n used at = then (valueAt ts key at) (λ xs e. listOf n used at xs e)
 
 -- ---- the text
 

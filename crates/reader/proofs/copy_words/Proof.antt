@@ -1,3 +1,4 @@
+-- `reader::copy_words` meets its contract. The loop's invariant: what is left to copy, stored from here on, gives the whole copy. Assumes nothing.
 use Prim.Native.Nat.{_≤_, _-_}
 use mathlib.Core.Path.{_≡_, refl, sym, _∙_}
 use native.Mathlib.Omega.{arith}

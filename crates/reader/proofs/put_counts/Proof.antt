@@ -1,3 +1,4 @@
+-- `reader::put_counts` meets its contract. Three stores. Assumes nothing.
 use Prim.Native.Nat.{_-_}
 use mathlib.Core.Path.{_∙_}
 use borrow.Author.Needs.{needs}
