@@ -1,0 +1,1 @@
+// The customer's demands as theorems over the definitions that the calls meet. No code.
