@@ -1,12 +1,13 @@
 //! One call of the library beside document 01: the same answer, and the same memory afterwards.
 use crate::library;
-use crate::paper::{self, Answer};
+use crate::paper::{self, Answer, Refused};
 use std::fmt::Debug;
 
-/// How many calls were compared, and how often each question refused one.
+/// How many calls were compared, how often each question refused one, and how many steps of each kind were made.
 pub struct Tally {
     pub cases: u64,
     pub met: [u64; 29],
+    pub made: [u64; 9],
 }
 
 /// "the refusal's number times 2^48 plus its place, or, taken, the value"
@@ -19,7 +20,7 @@ fn code(answer: Answer) -> u64 {
 
 impl Tally {
     pub fn new() -> Tally {
-        Tally { cases: 0, met: [0; 29] }
+        Tally { cases: 0, met: [0; 29], made: [0; 9] }
     }
 
     /// Compares what a call gave with what document 01 says, both with all memory that was lent for writing.
@@ -33,6 +34,13 @@ impl Tally {
         answer
     }
 
+    /// Counts the first steps of a list.
+    fn count(&mut self, list: &[u16], steps: u64) {
+        for step in list.chunks(4).take(steps as usize) {
+            self.made[usize::from(step[0])] += 1;
+        }
+    }
+
     pub fn check_table(&mut self, table: &[u16]) -> Answer {
         let answer = paper::table::check_table(table);
         self.same(&("check_table", table), answer, (), library::check_table(table), ())
@@ -42,6 +50,11 @@ impl Tally {
     pub fn check(&mut self, table: &[u16], marks: &[u8], list: &[u16]) -> (Answer, Vec<u8>) {
         let (answer, after) = paper::list::check(table, marks, list);
         let (given, bytes) = library::check(table, marks, list);
+        match answer {
+            Err(Refused { number: 12..=16, place }) => self.count(list, place),
+            Err(_) => {}
+            Ok(steps) => self.count(list, steps),
+        }
         (self.same(&("check", table, marks, list), answer, &after, given, &bytes), after)
     }
 
@@ -49,6 +62,7 @@ impl Tally {
     pub fn reduce(&mut self, table: &[u16], marks: &[u8], list: &[u16]) -> (Answer, Vec<u8>, Vec<u16>) {
         let (answer, after, steps) = paper::reduce::reduce(table, marks, list);
         let (given, bytes, words) = library::reduce(table, marks, list);
+        self.count(&steps, answer.unwrap_or(0));
         (self.same(&("reduce", table, marks), answer, (&after, &steps), given, (&bytes, &words)), after, steps)
     }
 

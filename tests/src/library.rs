@@ -1,36 +1,39 @@
 //! The exports of libgambrolt.a. Each slice is lent as a copy between guard values, and comes back as the call left it.
 use std::fmt::Debug;
 
-extern "C" {
-    fn gambrolt_check_table(table: *const u16, table_len: usize) -> u64;
-    fn gambrolt_check(
-        table: *const u16,
-        table_len: usize,
-        marks: *mut u8,
-        marks_len: usize,
-        list: *const u16,
-        list_len: usize,
-    ) -> u64;
-    fn gambrolt_reduce(
-        table: *const u16,
-        table_len: usize,
-        marks: *mut u8,
-        marks_len: usize,
-        list: *mut u16,
-        list_len: usize,
-    ) -> u64;
-    fn gambrolt_reduced_table(
-        table: *const u16,
-        table_len: usize,
-        marks: *const u8,
-        marks_len: usize,
-        out: *mut u16,
-        out_len: usize,
-    ) -> u64;
-    fn gambrolt_test(table: *const u16, table_len: usize, set: *const u16, set_len: usize) -> u64;
-    fn gambrolt_cycle(table: *const u16, table_len: usize) -> u64;
-    fn gambrolt_read_text(text: *const u8, text_len: usize, table: *mut u16, table_len: usize) -> u64;
-    fn gambrolt_write_text(table: *const u16, table_len: usize, out: *mut u8, out_len: usize) -> u64;
+/// The functions themselves.
+pub mod exports {
+    extern "C" {
+        pub fn gambrolt_check_table(table: *const u16, table_len: usize) -> u64;
+        pub fn gambrolt_check(
+            table: *const u16,
+            table_len: usize,
+            marks: *mut u8,
+            marks_len: usize,
+            list: *const u16,
+            list_len: usize,
+        ) -> u64;
+        pub fn gambrolt_reduce(
+            table: *const u16,
+            table_len: usize,
+            marks: *mut u8,
+            marks_len: usize,
+            list: *mut u16,
+            list_len: usize,
+        ) -> u64;
+        pub fn gambrolt_reduced_table(
+            table: *const u16,
+            table_len: usize,
+            marks: *const u8,
+            marks_len: usize,
+            out: *mut u16,
+            out_len: usize,
+        ) -> u64;
+        pub fn gambrolt_test(table: *const u16, table_len: usize, set: *const u16, set_len: usize) -> u64;
+        pub fn gambrolt_cycle(table: *const u16, table_len: usize) -> u64;
+        pub fn gambrolt_read_text(text: *const u8, text_len: usize, table: *mut u16, table_len: usize) -> u64;
+        pub fn gambrolt_write_text(table: *const u16, table_len: usize, out: *mut u8, out_len: usize) -> u64;
+    }
 }
 
 const GUARDS: usize = 32;
@@ -93,7 +96,7 @@ impl<T: Unit> Lent<T> {
 
 pub fn check_table(table: &[u16]) -> u64 {
     let words = Lent::new(table);
-    let answer = unsafe { gambrolt_check_table(words.start(), words.len) };
+    let answer = unsafe { exports::gambrolt_check_table(words.start(), words.len) };
     words.back_unchanged(table);
     answer
 }
@@ -101,8 +104,9 @@ pub fn check_table(table: &[u16]) -> u64 {
 /// The answer, and the marks afterwards.
 pub fn check(table: &[u16], marks: &[u8], list: &[u16]) -> (u64, Vec<u8>) {
     let (words, mut bytes, steps) = (Lent::new(table), Lent::new(marks), Lent::new(list));
-    let answer =
-        unsafe { gambrolt_check(words.start(), words.len, bytes.start_mut(), bytes.len, steps.start(), steps.len) };
+    let answer = unsafe {
+        exports::gambrolt_check(words.start(), words.len, bytes.start_mut(), bytes.len, steps.start(), steps.len)
+    };
     words.back_unchanged(table);
     steps.back_unchanged(list);
     (answer, bytes.back())
@@ -112,7 +116,7 @@ pub fn check(table: &[u16], marks: &[u8], list: &[u16]) -> (u64, Vec<u8>) {
 pub fn reduce(table: &[u16], marks: &[u8], list: &[u16]) -> (u64, Vec<u8>, Vec<u16>) {
     let (words, mut bytes, mut steps) = (Lent::new(table), Lent::new(marks), Lent::new(list));
     let answer = unsafe {
-        gambrolt_reduce(words.start(), words.len, bytes.start_mut(), bytes.len, steps.start_mut(), steps.len)
+        exports::gambrolt_reduce(words.start(), words.len, bytes.start_mut(), bytes.len, steps.start_mut(), steps.len)
     };
     words.back_unchanged(table);
     (answer, bytes.back(), steps.back())
@@ -122,7 +126,14 @@ pub fn reduce(table: &[u16], marks: &[u8], list: &[u16]) -> (u64, Vec<u8>, Vec<u
 pub fn reduced_table(table: &[u16], marks: &[u8], out: &[u16]) -> (u64, Vec<u16>) {
     let (words, bytes, mut written) = (Lent::new(table), Lent::new(marks), Lent::new(out));
     let answer = unsafe {
-        gambrolt_reduced_table(words.start(), words.len, bytes.start(), bytes.len, written.start_mut(), written.len)
+        exports::gambrolt_reduced_table(
+            words.start(),
+            words.len,
+            bytes.start(),
+            bytes.len,
+            written.start_mut(),
+            written.len,
+        )
     };
     words.back_unchanged(table);
     bytes.back_unchanged(marks);
@@ -131,7 +142,7 @@ pub fn reduced_table(table: &[u16], marks: &[u8], out: &[u16]) -> (u64, Vec<u16>
 
 pub fn test(table: &[u16], set: &[u16]) -> u64 {
     let (words, entries) = (Lent::new(table), Lent::new(set));
-    let answer = unsafe { gambrolt_test(words.start(), words.len, entries.start(), entries.len) };
+    let answer = unsafe { exports::gambrolt_test(words.start(), words.len, entries.start(), entries.len) };
     words.back_unchanged(table);
     entries.back_unchanged(set);
     answer
@@ -139,7 +150,7 @@ pub fn test(table: &[u16], set: &[u16]) -> u64 {
 
 pub fn cycle(table: &[u16]) -> u64 {
     let words = Lent::new(table);
-    let answer = unsafe { gambrolt_cycle(words.start(), words.len) };
+    let answer = unsafe { exports::gambrolt_cycle(words.start(), words.len) };
     words.back_unchanged(table);
     answer
 }
@@ -147,7 +158,7 @@ pub fn cycle(table: &[u16]) -> u64 {
 /// The answer, and the table slice afterwards.
 pub fn read_text(text: &[u8], table: &[u16]) -> (u64, Vec<u16>) {
     let (bytes, mut words) = (Lent::new(text), Lent::new(table));
-    let answer = unsafe { gambrolt_read_text(bytes.start(), bytes.len, words.start_mut(), words.len) };
+    let answer = unsafe { exports::gambrolt_read_text(bytes.start(), bytes.len, words.start_mut(), words.len) };
     bytes.back_unchanged(text);
     (answer, words.back())
 }
@@ -155,7 +166,7 @@ pub fn read_text(text: &[u8], table: &[u16]) -> (u64, Vec<u16>) {
 /// The answer, and the out slice afterwards.
 pub fn write_text(table: &[u16], out: &[u8]) -> (u64, Vec<u8>) {
     let (words, mut bytes) = (Lent::new(table), Lent::new(out));
-    let answer = unsafe { gambrolt_write_text(words.start(), words.len, bytes.start_mut(), bytes.len) };
+    let answer = unsafe { exports::gambrolt_write_text(words.start(), words.len, bytes.start_mut(), bytes.len) };
     words.back_unchanged(table);
     (answer, bytes.back())
 }

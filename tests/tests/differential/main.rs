@@ -17,17 +17,17 @@ use std::time::Instant;
 type Group = (&'static str, u64, fn(&mut Random, &mut Tally));
 
 const GROUPS: [Group; 11] = [
-    ("tables", 60_000, tables::damaged),
-    ("lists", 40_000, steps::checked),
-    ("reducing", 20_000, steps::reduced),
-    ("reducing, middle sizes", 60, steps::reduced_middle),
-    ("reduced tables", 30_000, tables::reduced),
-    ("sets", 20_000, models::tested),
+    ("tables", 120_000, tables::damaged),
+    ("lists", 100_000, steps::checked),
+    ("reducing", 60_000, steps::reduced),
+    ("reducing, middle sizes", 400, steps::reduced_middle),
+    ("reduced tables", 60_000, tables::reduced),
+    ("sets", 40_000, models::tested),
     ("sets of 16", 20, models::largest_sets),
-    ("models before and after", 3_000, models::same_models),
-    ("texts read", 40_000, texts::read),
+    ("models before and after", 10_000, models::same_models),
+    ("texts read", 80_000, texts::read),
     ("texts at the limits", 20, texts::at_the_limits),
-    ("texts written", 10_000, texts::written),
+    ("texts written", 20_000, texts::written),
 ];
 
 fn main() {
@@ -61,6 +61,8 @@ fn report(tally: &Tally) {
     for (number, &count) in tally.met.iter().enumerate().skip(1) {
         println!("  {number:2}: {count}");
     }
+    println!("steps made by kind: {:?}", &tally.made[1..]);
+    assert!(tally.made[1..].iter().all(|&steps| steps > 0), "a kind of step was never made");
     let never: Vec<usize> = (1..=28).filter(|&number| tally.met[number] == 0).collect();
     assert!(never.is_empty(), "questions never met: {never:?}");
     assert!(tally.cases >= 200_000, "too few cases");
