@@ -8,13 +8,19 @@ use native.Mathlib.Omega.{arith}
 use lib.Dec.{leb, ltb}
 use lib.ListN.{length, getD}
 use Rattle.semantics.proofs.Tests.{and-iff}
+use Rattle.table.specs.declared.CallQuestion.the-variants.{MarksLength, TableRoom}
 use Rattle.table.specs.declared.Refusal.{Refusal}
+use Rattle.table.specs.declared.Refusal.the-variants.{Call}
 use Rattle.table.specs.declared.Walk.{Walk}
 use Rattle.table.specs.declared.Walk.the-variants.{To, Stop}
 use Rattle.table.specs.declared.Checked.{Checked}
 use Rattle.table.specs.declared.Checked.the-variants as checked
 use Rattle.table.specs.Refusals.{refusalPlace}
 use Rattle.table.specs.Questions.{ask, andThen, onTo, partFrom, partsFrom, clauseFrom, clausesFrom, askTable, allUsed, tableOf}
+use Rattle.table.proofs.Encoding.{valid-inv}
+use Rattle.compaction.specs.declared.CompactAnswer.{CompactAnswer}
+use Rattle.compaction.specs.declared.CompactAnswer.the-variants as compacted
+use Rattle.compaction.specs.Reduced.{allowed, marksFrom, reduced, askCall, onMarks, onTable as onCompact, roomAnswer, markedAnswer, reducedAnswer}
 use Rattle.stability.specs.Answer.{entriesFrom, setOf, onSet, onTable, testOf}
 use Rattle.stability.specs.declared.TestAnswer.{TestAnswer}
 use Rattle.stability.specs.declared.TestAnswer.the-variants as tested
@@ -118,3 +124,42 @@ test-tests ws set = on-table (tableOf ws) _ (table-checks ws) (on-set (setOf set
 
 pub test-place : (ws set : List ℕ) (r : Refusal) → testOf ws set ≡ tested.Refused r → refusalPlace r ≤ 65536
 test-place ws set r q = rw q at (test-tests ws set)
+
+-- ---- the reduced table
+
+marks-near : (f : ℕ → Bool) (at k b : ℕ) → at + k ≤ b → Near b (marksFrom f at k)
+unfolding marksFrom
+marks-near f at zero b h = omega arith
+marks-near f at (suc k) b h = near-ask b _ _ _ (omega arith) (λ _. marks-near f (at + 1) k b (omega arith))
+
+abbrev Compacts : CompactAnswer → Type 0
+Compacts (compacted.Accepted k) = Unit {0}
+Compacts (compacted.Refused r) = refusalPlace r ≤ 65536
+
+compacts-ask : (t : Bool) (r : Refusal) (a : CompactAnswer) → refusalPlace r ≤ 65536 → Compacts a → Compacts (askCall t r a)
+unfolding askCall
+compacts-ask true r a h y = y
+compacts-ask false r a h y = h
+
+on-marks : (w : Walk) (a : CompactAnswer) → Near 8192 w → Compacts a → Compacts (onMarks w a)
+unfolding onMarks
+on-marks (To e) a h k = k
+on-marks (Stop r) a h k = omega arith
+
+marked-compacts : (ws ms out : List ℕ) → length ws ≤ 8192 → Compacts (markedAnswer ws ms out)
+unfolding markedAnswer roomAnswer
+marked-compacts ws ms out h =
+    compacts-ask (leb (length ws) (length ms)) (Call MarksLength) _ (omega arith)
+    (on-marks (marksFrom (allowed ws ms) 0 (length ws)) _ (marks-near (allowed ws ms) 0 (length ws) 8192 (omega arith))
+    (compacts-ask (leb (length (reduced ws ms)) (length out)) (Call TableRoom) (compacted.Accepted (length (reduced ws ms))) (omega arith) tt))
+
+table-compacts : (ws ms out : List ℕ) → Compacts (reducedAnswer ws ms out)
+unfolding reducedAnswer onCompact
+table-compacts ws ms out = go (tableOf ws) refl (table-checks ws)
+  where
+    go : (c : Checked) → tableOf ws ≡ c → Checks c → Compacts (onCompact c (markedAnswer ws ms out))
+    go (checked.Valid t) q h = marked-compacts ws ms out (valid-inv ws t q .0 .short)
+    go (checked.Refused r) q h = h
+
+pub compact-place : (ws ms out : List ℕ) (r : Refusal) → reducedAnswer ws ms out ≡ compacted.Refused r → refusalPlace r ≤ 65536
+compact-place ws ms out r q = rw q at (table-compacts ws ms out)

@@ -20,8 +20,8 @@ use Rattle.text.specs.declared.Order.the-variants.{Ascends, NotBelow, NotAbove}
 use Rattle.text.specs.declared.ReadAnswer.{ReadAnswer}
 use Rattle.text.specs.declared.ReadAnswer.the-variants.{Accepted, Refused}
 use Rattle.text.specs.Render.{headKey, posKey, negKey, atomsKey, clausesKey}
-use Rattle.text.specs.Reader.{Read, done, stop, ask, then, spanAt, onSpan, Scanned, numbers, numberOf, numberAt, countAt, order, onOrder, listOf, listAt, clauseAt, clausesAt, restAt, programAt, readText, answerOf, readAnswer}
-use Rattle.reader.proofs.Lines.{span-bounds}
+use Rattle.text.specs.Reader.{Read, done, stop, ask, then, spanAt, onSpan, valueOf, valueAt, numberAt, countAt, order, onOrder, listOf, listAt, clauseAt, clausesAt, restAt, programAt, readText, answerOf, readAnswer}
+use Rattle.text.proofs.Lines.{line-inv}
 
 module _ {A : Type 0} where
   -- what is read ends at a place of at most b, or is refused at one
@@ -52,10 +52,14 @@ module _ {A B : Type 0} where
   near-then b (stop r) f h k = h
 
 module _ (ts : List ℕ) where
+  value-near : (key : List ℕ) (at : ℕ) → at ≤ length ts → Near (length ts) (valueAt ts key at)
+  unfolding valueAt valueOf
+  value-near key at h =
+      near-span _ _ at _ h (λ from end s. let k = line-inv ts key at from end s .inside in near-ask _ _ _ _ h (λ _. omega arith))
+
   number-near : (key : List ℕ) (at : ℕ) → at ≤ length ts → Near (length ts) (numberAt ts key at)
-  unfolding numberAt numberOf
-  number-near key at h =
-      near-span _ _ at _ h (λ from end s. let (l, k) = span-bounds ts key at from end s in near-ask _ _ _ _ h (λ _. omega arith))
+  unfolding numberAt
+  number-near key at h = near-then _ _ _ (value-near key at h) (λ xs e l. near-ask _ _ _ _ h (λ _. l))
 
   count-near : (key : List ℕ) (limit : ℕ) (q : ByteQuestion) (at : ℕ) → at ≤ length ts → Near (length ts) (countAt ts key limit q at)
   unfolding countAt
@@ -63,9 +67,7 @@ module _ (ts : List ℕ) where
 
   list-near : (key : List ℕ) (n used at : ℕ) → at ≤ length ts → Near (length ts) (listAt ts key n used at)
   unfolding listAt listOf
-  list-near key n used at h =
-      near-span _ _ at _ h (λ from end s. let (l, k) = span-bounds ts key at from end s in
-      near-ask _ _ _ _ h (λ _. near-ask _ _ _ _ h (λ _. near-order _ _ at _ h (omega arith))))
+  list-near key n used at h = near-then _ _ _ (value-near key at h) (λ xs e l. near-ask _ _ _ _ h (λ _. near-order _ _ at _ h l))
 
   clause-near : (n used at : ℕ) → at ≤ length ts → Near (length ts) (clauseAt ts n used at)
   unfolding clauseAt

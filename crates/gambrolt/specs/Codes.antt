@@ -3,6 +3,8 @@ use Prim.Native.Nat.{ℕ, _+_, _*_}
 use Rattle.table.specs.declared.Refusal.{Refusal}
 use Rattle.table.specs.declared.Checked.{Checked}
 use Rattle.table.specs.declared.Checked.the-variants as checked
+use Rattle.compaction.specs.declared.CompactAnswer.{CompactAnswer}
+use Rattle.compaction.specs.declared.CompactAnswer.the-variants as compacted
 use Rattle.stability.specs.declared.TestAnswer.{TestAnswer}
 use Rattle.stability.specs.declared.TestAnswer.the-variants as tested
 use Rattle.text.specs.declared.ReadAnswer.{ReadAnswer}
@@ -18,6 +20,11 @@ refusalCode r = refusalNumber r * 281474976710656 + refusalPlace r
 abbrev pub tableCode : Checked → ℕ
 tableCode (checked.Valid t) = 0
 tableCode (checked.Refused r) = refusalCode r
+
+-- the reduced table carries the words written
+abbrev pub reducedCode : CompactAnswer → ℕ
+reducedCode (compacted.Accepted n) = n
+reducedCode (compacted.Refused r) = refusalCode r
 
 -- the test carries 1 for yes and 0 for no
 abbrev pub testCode : TestAnswer → ℕ

@@ -3,9 +3,11 @@ ghost use mathlib.Core.Path.{_≡_};
 ghost use Prim.Native.Nat.{ℕ, _+_, _*_, _≤_, _<_};
 ghost use lib.ListN.{length};
 ghost use Rattle.table.specs.Questions.{tableOf};
+ghost use Rattle.compaction.specs.Reduced.{reducedAnswer, reducedOut};
 ghost use Rattle.stability.specs.Answer.{testOf};
 ghost use Rattle.text.specs.Reader.{readAnswer, tableAfter};
-ghost use Rattle.gambrolt.specs.Codes.{tableCode, testCode, readCode};
+ghost use Rattle.gambrolt.specs.Codes.{tableCode, reducedCode, testCode, readCode};
+use compaction::CompactAnswer;
 use stability::TestAnswer;
 use table::Checked;
 use text::ReadAnswer;
@@ -20,6 +22,17 @@ pub extern "C" fn gambrolt_check_table(words: &[u16]) -> u64
     match table::check_table(words) {
         Checked::Valid(_) => 0,
         Checked::Refused(r) => codes::refusal_code(r),
+    }
+}
+
+// Questions 1 to 10 and 18, then the table that the marks leave.
+#[no_mangle]
+pub extern "C" fn gambrolt_reduced_table(words: &[u16], marks: &[u8], out: &mut [u16]) -> u64
+    ensures { λ r. ⌜ (r ≡ reducedCode (reducedAnswer (now (words .entry)) (now (marks .entry)) (now (out .entry)))) × (now (out .exit) ≡ reducedOut (now (words .entry)) (now (marks .entry)) (now (out .entry))) ⌝ }
+{
+    match compaction::reduced_table(words, marks, out) {
+        CompactAnswer::Accepted(n) => n as u64,
+        CompactAnswer::Refused(r) => codes::refusal_code(r),
     }
 }
 
