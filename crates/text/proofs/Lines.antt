@@ -1,7 +1,7 @@
 -- A line that is written is read, and a line that is read is what is written of it.
 use Prim.Native.Nat.{ℕ, zero, suc, _+_, _-_, _≤_, _<_}
 use mathlib.Core.Path.{_≡_, refl, sym, ap, subst, _∙_}
-use mathlib.Core.List.{List, [], _∷_, _++_, append-assoc}
+use mathlib.Core.List.{List, [], _∷_, _++_, append-assoc, append-nil}
 use mathlib.Core.Bool.{Bool, true, false, _&&_, cond}
 use native.Mathlib.Omega.{arith}
 use lib.ListN.{length, length-append, length-drop, getD, take, drop}
@@ -17,7 +17,7 @@ use Rattle.text.specs.declared.Span.{Span}
 use Rattle.text.specs.declared.Span.the-variants.{Value, Missing}
 use Rattle.text.specs.declared.Order.{Order}
 use Rattle.text.specs.declared.Order.the-variants.{Ascends, NotBelow, NotAbove}
-use Rattle.text.specs.Digits.{width, places, digits, joined, commas}
+use Rattle.text.specs.Digits.{width, places, digits, others, commas}
 use Rattle.text.specs.Render.{lineText}
 use Rattle.text.specs.Reader.{Read, done, stop, ask, then, starts, run, ended, spanAt, numbers, order, onSpan, onOrder, valueOf, valueAt, numberAt, countAt, listOf, listAt}
 use Rattle.text.proofs.Numbers.{Small, numbers-of, numbers-inv}
@@ -40,15 +40,15 @@ free-digits : (x : ℕ) → Free (digits x)
 unfolding digits
 free-digits x = free-places x (width x)
 
-free-joined : (x : ℕ) (xs : List ℕ) → Free (joined x xs)
-unfolding joined
-free-joined x [] = free-digits x
-free-joined x (y ∷ ys) = free-append (digits x) (44 ∷ joined y ys) (free-digits x) (λ e. omega arith, free-joined y ys)
+free-others : (xs : List ℕ) → Free (others xs)
+unfolding others
+free-others [] = tt
+free-others (x ∷ xs) = (λ e. omega arith, free-append (digits x) (others xs) (free-digits x) (free-others xs))
 
-pub free-commas : (xs : List ℕ) → Free (commas xs)
+free-commas : (xs : List ℕ) → Free (commas xs)
 unfolding commas
 free-commas [] = tt
-free-commas (x ∷ xs) = free-joined x xs
+free-commas (x ∷ xs) = free-append (digits x) (others xs) (free-digits x) (free-others xs)
 
 starts-append : (key r : List ℕ) → starts key (key ++ r) ≡ true
 unfolding starts
@@ -246,8 +246,8 @@ one (x ∷ []) h = refl
 one (x ∷ y ∷ xs) h = absurd (omega arith)
 
 commas-one : (x : ℕ) → commas (x ∷ []) ≡ digits x
-unfolding commas joined
-commas-one x = refl
+unfolding commas others
+commas-one x = append-nil (digits x)
 
 module _ (ts key : List ℕ) (limit : ℕ) (q : ByteQuestion) where
   pub count-of : (r : List ℕ) (x at : ℕ) → drop at ts ≡ lineText key (digits x) ++ r → x ≤ limit → limit ≤ 9999 → (e : ℕ) × (countAt ts key limit q at ≡ done x e) × (drop e ts ≡ r)

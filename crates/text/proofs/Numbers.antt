@@ -2,7 +2,7 @@
 use Prim.Native.Nat.{ℕ, zero, suc, _+_, _-_, _*_, _/_, _%_, _^_, _≤_, _<_}
 use mathlib.Core.Path.{_≡_, refl, sym, ap, _∙_}
 use mathlib.Core.Logic.{by-cases}
-use mathlib.Core.List.{List, [], _∷_, _++_, append-assoc, append-nil}
+use mathlib.Core.List.{List, [], _∷_, _++_, append-assoc}
 use mathlib.Core.Bool.{Bool, true, false, _&&_, _||_, not, cond}
 use native.Mathlib.Omega.{arith}
 use native.Mathlib.Nat.{div-div-eq-div-mul, pow-suc, mul-comm}
@@ -13,7 +13,7 @@ use borrow.Author.Tests.{le-ltb, lt-ltb, le-leb, leb-true, eqb-true}
 use Rattle.semantics.proofs.Tests.{and-iff}
 use Rattle.text.specs.declared.Next.{Next}
 use Rattle.text.specs.declared.Next.the-variants.{Digit, Comma, Bad}
-use Rattle.text.specs.Digits.{width, places, digits, joined, commas}
+use Rattle.text.specs.Digits.{width, places, digits, others, commas}
 use Rattle.text.specs.Reader.{nextOf, Scanned, emit, onNext, scan, numbers}
 
 -- ---- digits
@@ -147,10 +147,10 @@ abbrev pub Small : List ℕ → Type 0
 Small [] = Unit {0}
 Small (x ∷ xs) = (x ≤ 9999) × Small xs
 
-scan-joined : (x : ℕ) (xs : List ℕ) → Small (x ∷ xs) → scan false 0 (joined x xs) ≡ record { ok = true; xs = x ∷ xs }
-unfolding joined scan
-scan-joined x [] s = ap (λ l. scan false 0 l) (sym (append-nil (digits x))) ∙ scan-digits x x (omega arith) (s .0) []
-scan-joined x (y ∷ ys) s = scan-digits x x (omega arith) (s .0) (44 ∷ joined y ys) ∙ scan-comma x (joined y ys) ∙ ap (emit x) (scan-joined y ys (s .1))
+scan-others : (x : ℕ) (xs : List ℕ) → Small (x ∷ xs) → scan false 0 (digits x ++ others xs) ≡ record { ok = true; xs = x ∷ xs }
+unfolding others scan
+scan-others x [] s = scan-digits x x (omega arith) (s .0) []
+scan-others x (y ∷ ys) s = scan-digits x x (omega arith) (s .0) (44 ∷ digits y ++ others ys) ∙ scan-comma x (digits y ++ others ys) ∙ ap (emit x) (scan-others y ys (s .1))
 
 -- ---- from what reads as numbers to their digits
 
@@ -158,7 +158,7 @@ record Found (s : Scanned) (t : List ℕ) : Type 0 where
   pub x : ℕ
   pub rest : List ℕ
   pub is : s .xs ≡ x ∷ rest
-  pub text : t ≡ joined x rest
+  pub text : t ≡ digits x ++ others rest
   pub small : Small (x ∷ rest)
 
 -- the digits of the number that has begun
@@ -167,8 +167,8 @@ pre true v = digits v
 pre false v = []
 
 scan-inv : (g : Bool) (v : ℕ) (l : List ℕ) → v ≤ 9999 → (g ≡ false → v ≡ 0) → scan g v l .ok ≡ true → Found (scan g v l) (pre g v ++ l)
-unfolding scan joined
-scan-inv true v [] a z h = record { x = v; rest = []; is = refl; text = append-nil (digits v); small = (a, tt) }
+unfolding scan others
+scan-inv true v [] a z h = record { x = v; rest = []; is = refl; text = refl; small = (a, tt) }
 scan-inv false v [] a z h = let z : _≡_ {A = ℕ} 0 1 = cc in absurd (omega arith)
 scan-inv g v (b ∷ l) a z h =
     go (nextOf g v b) refl (λ w c h′. scan-inv true w l c (λ q. let z : _≡_ {A = ℕ} 0 1 = cc in absurd (omega arith)) h′) (scan-inv false 0 l (omega arith) (λ q. refl)) h
@@ -209,11 +209,9 @@ numbers-cons t b l e = rw e
 pub numbers-of : (xs : List ℕ) → Small xs → numbers (commas xs) ≡ record { ok = true; xs = xs }
 unfolding commas numbers
 numbers-of [] s = refl
-numbers-of (x ∷ xs) s = let d = some x xs in numbers-cons (joined x xs) (d .0) (d .1) (d .2) ∙ scan-joined x xs s
-  where
-    some : (x : ℕ) (xs : List ℕ) → (b : ℕ) × (l : List ℕ) × (joined x xs ≡ b ∷ l)
-    some x [] = unfold joined in digits-some x
-    some x (y ∷ ys) = unfold joined in (let d = digits-some x in (d .0, d .1 ++ 44 ∷ joined y ys, rw (d .2)))
+numbers-of (x ∷ xs) s =
+    let (b, l, e) = digits-some x in
+    numbers-cons (digits x ++ others xs) b (l ++ others xs) (rw e) ∙ scan-others x xs s
 
 -- what is read as numbers is those numbers, written
 pub numbers-inv : (l : List ℕ) → numbers l .ok ≡ true → (l ≡ commas (numbers l .xs)) × Small (numbers l .xs)

@@ -6,7 +6,7 @@ use native.Mathlib.Omega.{arith}
 use lib.ListN.{length, length-append, length-drop, drop, drop-of-length-le}
 use borrow.Author.Tests.{le-leb, leb-true}
 use Rattle.table.specs.declared.ByteQuestion.the-variants.{TextAtomLimit, TextClauseLimit}
-use Rattle.text.specs.Digits.{digits, joined, commas}
+use Rattle.text.specs.Digits.{digits, others, commas}
 use Rattle.semantics.specs.Lists.{_∈_}
 use Rattle.semantics.specs.Programs.{Clause, Program, program}
 use Rattle.table.specs.Encoding.{clauseWords, clausesWords, encode, OrderedClause, Within}
@@ -113,15 +113,15 @@ clauses-inv ts n (suc m) used at e cs o h =
 
 -- ---- a program's text is short enough
 
-joined-short : (x : ℕ) (xs : List ℕ) → Small (x ∷ xs) → length (joined x xs) ≤ 4 + 5 * length xs
-unfolding joined
-joined-short x [] s = omega (arith, digits-length x, width-four x (s .0))
-joined-short x (y ∷ ys) s = omega (arith, length-append (digits x) (44 ∷ joined y ys), digits-length x, width-four x (s .0), joined-short y ys (s .1))
+others-short : (xs : List ℕ) → Small xs → length (others xs) ≤ 5 * length xs
+unfolding others
+others-short [] s = omega arith
+others-short (x ∷ xs) s = omega (arith, length-append (digits x) (others xs), digits-length x, width-four x (s .0), others-short xs (s .1))
 
 commas-short : (xs : List ℕ) → Small xs → length (commas xs) ≤ 5 * length xs
 unfolding commas
 commas-short [] s = omega arith
-commas-short (x ∷ xs) s = omega (arith, joined-short x xs s)
+commas-short (x ∷ xs) s = omega (arith, length-append (digits x) (others xs), digits-length x, width-four x (s .0), others-short xs (s .1))
 
 line-length : (key v : List ℕ) → length (lineText key v) ≡ length key + length v + 1
 unfolding lineText

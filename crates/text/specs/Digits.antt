@@ -17,11 +17,12 @@ places v (suc k) = (48 + v / 10 ^ k % 10) ∷ places v k
 unfoldable pub digits : ℕ → List ℕ
 digits v = places v (width v)
 
--- "numbers joined by commas, or nothing"; 44 is the comma
-unfoldable pub joined : ℕ → List ℕ → List ℕ
-joined x [] = digits x
-joined x (y ∷ ys) = digits x ++ 44 ∷ joined y ys
+-- "numbers joined by commas": those after the first, each after a comma, which is 44
+unfoldable pub others : List ℕ → List ℕ
+others [] = []
+others (x ∷ xs) = 44 ∷ digits x ++ others xs
 
+-- "or nothing"
 unfoldable pub commas : List ℕ → List ℕ
 commas [] = []
-commas (x ∷ xs) = joined x xs
+commas (x ∷ xs) = digits x ++ others xs
