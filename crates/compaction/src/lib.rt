@@ -163,7 +163,8 @@ fn copy_part(
 {
     let mut n = to;
     for i in at..end {
-        if marks[i] != 1 {
+        let mark = marks[i];
+        if mark != 1 {
             continue;
         }
         out[n] = words[i];
@@ -200,7 +201,8 @@ fn copy_entry(words: &[u16], marks: &[u8], at: usize, out: &mut [u16], to: usize
     requires { ⌜ Room (now words) (now marks) (now out) at to ⌝ }
     ensures { λ r. ⌜ (r ≡ to + length (entryWords (entryAt (now (words .entry)) (now (marks .entry)) at))) × (now (out .exit) ≡ sets (now (out .entry)) to (entryWords (entryAt (now (words .entry)) (now (marks .entry)) at))) ⌝ }
 {
-    if marks[at] != 1 {
+    let first = marks[at];
+    if first != 1 {
         return to;
     }
     copy_clause(words, marks, at, out, to)
