@@ -7,14 +7,18 @@ ghost use Rattle.table.specs.declared.Refusal.{Refusal};
 ghost use Rattle.table.specs.Places.{cut};
 ghost use Rattle.text.specs.Digits.{commas};
 ghost use Rattle.text.specs.Writer.{Puts};
-ghost use Rattle.text.specs.Render.{lineText};
+ghost use Rattle.text.specs.Render.{lineText, render};
+ghost use Rattle.compaction.specs.Reduced.{leftProgram};
+ghost use Rattle.compaction.specs.Parts.{Ready};
 ghost use Rattle.filter.specs.Output.{stepKey, refusedText};
-ghost use Rattle.filter.specs.Lines.{stepLines};
+ghost use Rattle.filter.specs.Lines.{stepLines, listLines};
 use table::Refusal;
 use writer::put_bytes;
 use writer::put_line;
 use writer::put_next;
 use writer::put_number;
+use writer::put_number_line;
+use writer::put_text;
 
 // Two numbers joined by a comma; the place past them.
 fn put_pair(out: &mut [u8], at: usize, a: usize, b: usize) -> usize
@@ -56,4 +60,24 @@ fn put_steps(out: &mut [u8], at: usize, list: &[u16], s: usize) -> usize
         from += 4;
     }
     n
+}
+
+// The count of steps, and a line for each; the place past them.
+fn put_list(out: &mut [u8], at: usize, list: &[u16], s: usize) -> usize
+    requires { ⌜ (4 * s ≤ length (now list)) × (at + length (listLines (now list) s) ≤ length (now out)) ⌝ }
+    ensures { λ r. ⌜ Puts (now (out .entry)) (now (out .exit)) at r (listLines (now (list .entry)) s) ⌝ }
+{
+    let n = put_number_line(out, at, b"steps=", s);
+    put_steps(out, n, list, s)
+}
+
+// The text of the program that the marks leave; the number of its bytes.
+fn put_left(out: &mut [u8], words: &[u16], marks: &[u8]) -> usize
+    requires { ⌜ (Ready (now words) (now marks)) × (43022 ≤ length (now out)) ⌝ }
+    ensures { λ r. ⌜ Puts (now (out .entry)) (now (out .exit)) 0 r (render (leftProgram (now (words .entry)) (now (marks .entry)))) ⌝ }
+{
+    let mut reduced = [0u16; 8192];
+    let k = compaction::left_size(words, marks);
+    compaction::write_reduced(words, marks, &mut reduced);
+    put_text(out, &reduced[0..k])
 }
