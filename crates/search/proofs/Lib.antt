@@ -1,3 +1,4 @@
 pub mod Stamps
 pub mod Flags
-pub mod Partners
+pub mod Fits
+pub mod Walks

@@ -1,7 +1,7 @@
 -- `fact_fits`: by the kind.
 use mathlib.Core.Path.{_≡_, sym, ap, refl, _∙_}
 use native.Mathlib.Omega.{arith}
-use Rattle.search.proofs.Partners.{fit-success, fit-blocked, is-five}
+use Rattle.search.proofs.Fits.{fit-success, fit-blocked, is-five}
 use borrow.Author.Needs.{needs}
 use Rattle.search.proofs.fact_fits.Statement.{statement}
 use Rattle.search.proofs.fact_fits.Tie as tie

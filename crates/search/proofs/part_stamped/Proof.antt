@@ -3,7 +3,7 @@ use mathlib.Core.Path.{sym, ap, _∙_}
 use Rattle.semantics.specs.Lists.{all}
 use Rattle.parts.proofs.Laws.{part-is, part-marked}
 use Rattle.search.specs.Stamps.{isStamped}
-use Rattle.search.proofs.Partners.{part-below}
+use Rattle.search.proofs.Fits.{part-below}
 use borrow.Author.Needs.{needs}
 use Rattle.search.proofs.part_stamped.Statement.{statement}
 use Rattle.search.proofs.part_stamped.Tie as tie

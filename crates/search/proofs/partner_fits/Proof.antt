@@ -2,7 +2,7 @@
 use mathlib.Core.Path.{_≡_, sym, ap, refl, _∙_}
 use native.Mathlib.Omega.{arith}
 use borrow.Author.Tests.{not-true, not-false}
-use Rattle.search.proofs.Partners.{fit-subsumed, not-fact}
+use Rattle.search.proofs.Fits.{fit-subsumed, not-fact}
 use borrow.Author.Needs.{needs}
 use Rattle.search.proofs.partner_fits.Statement.{statement}
 use Rattle.search.proofs.partner_fits.Tie as tie

@@ -4,7 +4,7 @@ use native.Mathlib.Omega.{arith}
 use Rattle.rewriting.specs.Marked.{entry}
 use Rattle.table.specs.View.{view}
 use Rattle.search.specs.Stamps.{isStamped}
-use Rattle.search.proofs.Partners.{single-other, single-is, single-below}
+use Rattle.search.proofs.Fits.{single-other, single-is, single-below}
 use borrow.Author.Needs.{needs}
 use Rattle.search.proofs.single_stamped.Statement.{statement}
 use Rattle.search.proofs.single_stamped.Tie as tie

@@ -2,7 +2,7 @@
 use mathlib.Core.Path.{sym, ap, _∙_}
 use Rattle.parts.proofs.Laws.{part-is, part-marked}
 use Rattle.search.specs.Stamps.{stamped}
-use Rattle.search.proofs.Partners.{part-below}
+use Rattle.search.proofs.Fits.{part-below}
 use borrow.Author.Needs.{needs}
 use Rattle.search.proofs.stamp.Statement.{statement}
 use Rattle.search.proofs.stamp.Tie as tie

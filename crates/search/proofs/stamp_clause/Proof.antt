@@ -5,7 +5,7 @@ use native.Mathlib.Omega.{arith}
 use lib.ListN.{length, replicate, length-replicate}
 use Rattle.search.specs.Stamps.{Stamps, stamped}
 use Rattle.search.proofs.Stamps.{length-stamped}
-use Rattle.search.proofs.Partners.{clause-stamps}
+use Rattle.search.proofs.Fits.{clause-stamps}
 use borrow.Author.Needs.{needs}
 use Rattle.search.proofs.stamp_clause.Statement.{statement}
 use Rattle.search.proofs.stamp_clause.Tie as tie
