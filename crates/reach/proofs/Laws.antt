@@ -260,8 +260,9 @@ reaching-end ws ms n s more r e = record { is = λ a. so-ext (inBytes s a) (reac
 pub is-out : (s : List ℕ) (a : ℕ) → length s ≤ a → inBytes s a ≡ false
 is-out s a h = rw (List·getD-eq-default s 0 h)
 
-pub clear-more : (s₀ s : List ℕ) (i : ℕ) → i < length s₀ → s ≡ replicate i 0 ++ drop i s₀ → set s i 0 ≡ replicate (i + 1) 0 ++ drop (i + 1) s₀
-clear-more s₀ s i h e = rw e (fill-more i 0 s₀ h)
+-- one more place filled with v
+pub fill-on : (v : ℕ) (s₀ s : List ℕ) (i : ℕ) → i < length s₀ → s ≡ replicate i v ++ drop i s₀ → set s i v ≡ replicate (i + 1) v ++ drop (i + 1) s₀
+fill-on v s₀ s i h e = rw e (fill-more i v s₀ h)
 
 pub clear-end : (s₀ s : List ℕ) (i : ℕ) → i ≡ length s₀ → s ≡ replicate i 0 ++ drop i s₀ → s ≡ replicate (length s₀) 0
 clear-end s₀ s i q e = e ∙ rw (q, drop-length s₀) (append-nil (replicate (length s₀) 0))

@@ -5,7 +5,7 @@ use mathlib.Core.List.{_++_}
 use native.Mathlib.Omega.{arith}
 use lib.ListN.{length, drop, replicate, length-set}
 use borrow.Author.Fill.{fill-none}
-use Rattle.reach.proofs.Laws.{clear-more, clear-end}
+use Rattle.reach.proofs.Laws.{clear-end, fill-on}
 use borrow.Author.Needs.{needs}
 use Rattle.reach.proofs.clear.Statement.{statement}
 use Rattle.reach.proofs.clear.Tie as tie
@@ -20,7 +20,7 @@ loop-holds : tie.Need-loop-holds Inv-loop μ-loop
 loop-holds c = (refl, (search needs, (refl, fill-none _ 0)))
 
 loop-again : tie.Need-loop-again Inv-loop μ-loop
-loop-again c = (refl, (search needs, (simp length-set (c .before .loop .inv .1 .1 .0), clear-more _ _ _ (omega arith) (c .before .loop .inv .1 .1 .1))))
+loop-again c = (refl, (search needs, (simp length-set (c .before .loop .inv .1 .1 .0), fill-on 0 _ _ _ (omega arith) (c .before .loop .inv .1 .1 .1))))
 
 returns : tie.Need-returns Inv-loop μ-loop
 returns c = clear-end _ _ (c .before .loop .i) (omega arith) (c .before .loop .inv .1 .1 .1)
