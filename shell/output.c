@@ -85,6 +85,8 @@ static void put_lp_statement(struct buffer *b, const struct names *names, const 
     switch (s->kind) {
     case OUTPUT:
         read_name(&r, &name, &len);
+        if (len == 0) /* gringo has no such term */
+            break;
         putf(b, "#show ");
         put(b, name, len);
         put_condition(b, names, &r);
