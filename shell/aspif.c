@@ -274,10 +274,9 @@ static int read_statements(struct order *o, struct reader *r, struct rule *rule)
 
 int order_from_aspif(struct order *o, struct fault *f)
 {
-    struct reader r = {o->bytes.at, o->bytes.at + o->bytes.len, 1, STEP_END, f};
+    const char *from = o->bytes.at ? o->bytes.at : "";
+    struct reader r = {from, from + o->bytes.len, 1, NO_STATEMENT, f};
     struct rule rule = {0};
-    if (!o->bytes.at)
-        r.at = r.end = "";
     program_start(&o->program);
     o->statements = 0;
     o->over = PROGRAM_TAKEN;
