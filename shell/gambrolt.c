@@ -34,6 +34,8 @@ static const char help[] =
     "Reports, on standard error:\n"
     "  --explain[=FILE]  write each step as a sentence, to FILE if one is given\n"
     "  --stats[=json]    sizes before and after, steps by kind, times\n"
+    "  --names=FILE      names for --explain and --to-lp that aspif lacks (facts, and atoms that\n"
+    "                    no rule derives): the same order by `gringo --text`\n"
     "\n"
     "Other:\n"
     "  --pass-through    hand a program that is over the limits on unreduced, and say so\n"
@@ -51,7 +53,7 @@ static const char help[] =
 
 struct call {
     struct options options;
-    const char *file, *explain_file;
+    const char *file, *explain_file, *names_file;
     int dry_run;
 };
 
@@ -84,6 +86,10 @@ static int take_option(struct call *call, struct asked *asked, const char *argum
         call->explain_file = argument + 10;
         return call->options.explain = 1;
     }
+    if (strncmp(argument, "--names=", 8) == 0 && argument[8]) {
+        call->names_file = argument + 8;
+        return 1;
+    }
     return 0;
 }
 
@@ -102,6 +108,8 @@ static int settle(struct call *call, const struct asked *asked)
         return usage("--steps goes with --text and a reduction", "");
     if ((o->explain || o->stats) && !o->reduce)
         return usage("--explain and --stats need a reduction", "");
+    if (call->names_file && !(o->explain || o->to == LP))
+        return usage("--names goes with --explain or --to-lp", "");
     if (o->pass_through && !(o->from == ASPIF && o->to == ASPIF))
         return usage("--pass-through goes with aspif in and out", "");
     return DONE;
@@ -201,7 +209,7 @@ static int write_result(const struct call *call, const struct result *result)
 int main(int count, char **argument)
 {
     struct call call = {0};
-    struct buffer input = {0};
+    struct buffer input = {0}, names = {0};
     struct result result;
     struct fault fault;
 
@@ -210,6 +218,9 @@ int main(int count, char **argument)
     if (status == DONE) {
         note_after_a_second();
         status = read_input(call.file, &input);
+        if (status == DONE && call.names_file)
+            status = read_input(call.names_file, &names);
+        call.options.names = call.names_file ? &names : NULL;
         reading = 0;
     }
     if (status == DONE && run(&call.options, &input, &result, &fault)) {
@@ -220,5 +231,6 @@ int main(int count, char **argument)
         result_free(&result);
     }
     buffer_free(&input);
+    buffer_free(&names);
     return status;
 }

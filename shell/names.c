@@ -35,8 +35,7 @@ static int word_byte(char c)
     return (c >= 'a' && c <= 'z') || (c >= 'A' && c <= 'Z') || (c >= '0' && c <= '9') || c == '_' || c == '\'';
 }
 
-/* Whether a name reads as an atom: `ok`, `-ok`, `ok(..)` with the last bracket closing the first, not a number or a text. */
-static int reads_as_atom(const char *c, size_t len)
+int reads_as_atom(const char *c, size_t len)
 {
     const char *end = c + len;
     int depth = 0, quoted = 0;

@@ -21,6 +21,15 @@ struct names {
 
 void names_make(struct names *names, const struct order *o);
 
+/*
+ * Further names, from the same rules as `gringo --text` writes them, which must outlive the names. Returns 0, or -1 where
+ * they are not the same rules; then no name changes.
+ */
+int names_learn(struct names *names, const struct buffer *text);
+
+/* Whether a name reads as an atom: `ok`, `-ok`, `ok(..)` with the last bracket closing the first, not a number or a text. */
+int reads_as_atom(const char *name, size_t len);
+
 /* The name of an atom, by its number in the table or in aspif. */
 void put_name(struct buffer *b, const struct names *names, unsigned atom);
 void put_aspif_name(struct buffer *b, const struct names *names, uint32_t atom);

@@ -12,6 +12,7 @@ struct options {
     int pass_through; /* over the limits: hand the input on as it came */
     int steps;        /* after a text: the list of steps, as document 01's program prints it */
     int explain, stats, json;
+    const struct buffer *names; /* the order's ground rules as text, or NULL */
 };
 
 struct result {

@@ -14,6 +14,23 @@ static const struct options every[] = {
     {.from = ASPIF, .to = ASPIF, .pass_through = 1},
     {.from = TEXT, .to = TEXT, .reduce = 1, .steps = 1}};
 
+/* A sound order, to be read with names from anything. */
+static const char order[] = "asp 1 0 0\n1 0 2 1 2 0 0\n1 0 1 3 0 3 1 2 -4\n1 0 1 4 0 2 4 -3\n1 0 0 0 1 -3\n4 1 b 1 2\n0\n";
+
+static int run_named(const char *bytes, size_t len)
+{
+    struct buffer input = {0}, names = {0};
+    struct options options = {.from = ASPIF, .to = LP, .reduce = 1, .explain = 1, .names = &names};
+    struct result result;
+    struct fault fault;
+    put(&input, order, sizeof order - 1);
+    put(&names, bytes, len);
+    int answer = run(&options, &input, &result, &fault);
+    result_free(&result);
+    buffer_free(&names);
+    return answer;
+}
+
 static size_t runs, refusals;
 
 static void try(const char *bytes, size_t len)
@@ -37,6 +54,8 @@ static void try(const char *bytes, size_t len)
         result_free(&result);
         buffer_free(&input);
     }
+    if (run_named(bytes, len))
+        exit(1);
 }
 
 /* The input with `len` bytes at `at` replaced. */

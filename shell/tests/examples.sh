@@ -1,6 +1,7 @@
 # examples.sh - every example through grounder, reducer and solver: the same stable models by name, however it is written.
 : >"$tmp/kinds"
 wide=0
+named=0
 for example in examples/*.lp; do
     name=${example#examples/}
     ground "$example" >"$tmp/in"
@@ -41,6 +42,14 @@ for example in examples/*.lp; do
     models "$tmp/out" --opt-mode=ignore >"$tmp/reduced"
     expect "$name: the same models from ground rules" same "$tmp/models" "$tmp/reduced"
 
+    # the same with the names of the ground rules
+    # shellcheck disable=SC2046
+    gringo --text $(sed -n 's/^% ground with: gringo //p' "$example") "$example" >"$tmp/text" 2>/dev/null
+    build/gambrolt --to-lp "--names=$tmp/text" <"$tmp/in" 2>"$tmp/err" | gringo 2>/dev/null >"$tmp/out"
+    models "$tmp/out" --opt-mode=ignore >"$tmp/reduced"
+    expect "$name: the same models from ground rules with all names" same "$tmp/models" "$tmp/reduced"
+    [ -s "$tmp/err" ] || named=$((named + 1))
+
     # as text: the same number of models, reduced or not, and the same steps
     build/gambrolt --to-text <"$tmp/in" >"$tmp/text"
     build/gambrolt --from-text <"$tmp/text" >"$tmp/out"
@@ -56,6 +65,7 @@ for kind in tautology contradiction success "no head" blocked failure loop subsu
     expect "some example has a step of the kind: $kind" grep -q "\"$kind\": [1-9]" "$tmp/kinds"
 done
 expect "an example has clauses of more than 255 conditions" [ "$wide" -gt 0 ]
+expect "most examples fit their ground rules" [ "$named" -gt 20 ]
 expect "choices are refused before clasp translates them" sh -c '! gringo examples/choices.lp | build/gambrolt >"$0" 2>&1' "$tmp/out"
 
 for example in examples/*.txt; do

@@ -226,6 +226,30 @@ printf 'clause 1, `c :- not a, not b.`: deleted, since it needs `not a` and `not
 build/gambrolt --explain --dry-run <"$tmp/in" 2>"$tmp/out"
 expect "a sentence about an either-or fact" same "$tmp/want" "$tmp/out"
 
+# names that aspif lacks: facts, and atoms that no rule derives
+gringo --keep-facts examples/order.lp >"$tmp/in" 2>/dev/null
+gringo --keep-facts --text examples/order.lp >"$tmp/text" 2>/dev/null
+cat >"$tmp/want" <<'END'
+clause 19, `ok(c3,m2) :- fits(c3,m2), not banned(c3).`: dropped `fits(c3,m2)`, which clause 3 gives as a fact
+clause 19, `ok(c3,m2) :- not banned(c3).`: dropped `not banned(c3)`, which no clause can derive
+END
+for program in build/gambrolt build/sanitized/gambrolt; do
+    $program --explain "--names=$tmp/text" <"$tmp/in" 2>&1 >"$tmp/out" | grep 'clause 19.*dropped' >"$tmp/sentences"
+    expect "names from ground rules" same "$tmp/want" "$tmp/sentences"
+done
+build/gambrolt <"$tmp/in" >"$tmp/want"
+expect "names change no program" same "$tmp/want" "$tmp/out"
+build/gambrolt --to-lp "--names=$tmp/text" <"$tmp/in" >"$tmp/out"
+expect "rules without a nameless atom" sh -c '! grep -q "x_[0-9]" "$0"' "$tmp/out"
+sed 's/banned(c3)/banned(c1)/' "$tmp/text" >"$tmp/other"
+build/gambrolt --to-lp "--names=$tmp/other" <"$tmp/in" >"$tmp/out" 2>"$tmp/err"
+expect "one name for two atoms: a note" grep -q "names: its rules do not fit" "$tmp/err"
+build/gambrolt --to-lp <"$tmp/in" >"$tmp/want"
+expect "one name for two atoms: no names" same "$tmp/want" "$tmp/out"
+gringo --text examples/order.lp >"$tmp/other" 2>/dev/null
+build/gambrolt --to-lp "--names=$tmp/other" <"$tmp/in" >"$tmp/out" 2>"$tmp/err"
+expect "rules grounded otherwise: no names" same "$tmp/want" "$tmp/out"
+
 # statistics
 gringo --keep-facts examples/kinds.lp 2>/dev/null | build/gambrolt --stats --dry-run 2>&1 | sed 's/[0-9.]* s$/T s/' >"$tmp/out"
 cat >"$tmp/want" <<'END'

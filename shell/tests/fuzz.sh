@@ -15,6 +15,7 @@ for example in examples/*.lp; do
     ground "$example" >"$tmp/seeds/$(basename "$example").aspif"
 done
 cp examples/*.txt "$tmp/seeds"
+printf 'a;b.\nc:-a,b,not d.\nd:-d,not c.\n:-not c.\n' >"$tmp/seeds/rules"
 find "$tmp/seeds" -size +8k -exec rm {} +
 printf '"asp 1 0 0\\x0a"\n"1 0 1 1 0 0\\x0a"\n"1 0 0 0 2 -"\n"4 1 a 1 1\\x0a"\n"2 0 1 "\n"head="\n"pos="\n"neg="\n"0\\x0a"\n' >"$tmp/words"
 build/fuzz -max_total_time="${FUZZ_SECONDS:-60}" -max_len=8192 -timeout=10 -rss_limit_mb=2048 -print_final_stats=1 \

@@ -22,6 +22,8 @@ misused "--steps without --text" "--steps goes with --text" --steps
 misused "sentences without a reduction" "need a reduction" --explain --no-reduce
 misused "statistics of a conversion" "need a reduction" --stats --to-text
 misused "--pass-through and the text form" "--pass-through goes with aspif" --pass-through --text
+misused "names for nothing" "--names goes with --explain" --names=x
+misused "a missing file of names" "cannot read $tmp/none" --text --explain "--names=$tmp/none"
 misused "a missing file" "cannot read $tmp/none: No such file" "$tmp/none"
 misused "a directory" "cannot read $tmp: Is a directory" "$tmp"
 misused "a file for sentences that cannot be" "cannot write $tmp/none/x" --text "--explain=$tmp/none/x"
