@@ -1,9 +1,8 @@
 # page.sh - docs/PIPELINE.md: every command that it shows gives the lines that it shows.
 awk -v dir="$tmp" '
     /^```console$/ { block++; next }
-    /^```$/ { in_block = 0; block_file = ""; next }
-    { }
-    block && !done[block] && /^\$ / { done[block] = 1; in_block = 1; print substr($0, 3) >(dir "/page." block ".sh"); next }
+    /^```$/ { in_block = 0; next }
+    block && !begun[block] && /^\$ / { begun[block] = in_block = 1; print substr($0, 3) >(dir "/page." block ".sh"); next }
     in_block { print >(dir "/page." block ".want") }
     END { print block > (dir "/page.count") }' docs/PIPELINE.md
 blocks=$(cat "$tmp/page.count")
