@@ -1,6 +1,6 @@
 # make run: proves and builds what can be run, and runs it. make test: everything that is checked.
 # make shell: the program `gambrolt` in build/. make test-shell: its tests. make fuzz: a minute of damaged input.
-.PHONY: run test shell test-shell fuzz clean FORCE
+.PHONY: run test shell test-shell fuzz clean compiler FORCE
 
 run:
 	rt check
@@ -17,25 +17,28 @@ SANITIZE = -g -O1 -fsanitize=address,undefined -fno-sanitize-recover=all -fno-om
 SHELL_PARTS = $(filter-out shell/gambrolt.c,$(wildcard shell/*.c))
 SHELL_FILES = $(wildcard shell/*.c shell/*.h shell/tests/*.c) $(GAMBROLT_INCLUDE)/gambrolt.h $(LIBGAMBROLT)
 
+compiler:
+	@command -v $(CC) >/dev/null || { apt-get update && apt-get install -y gcc libc6-dev; } >/dev/null
+
 target/staticlib/libgambrolt.a: FORCE
 	@rt staticlib gambrolt
 
 shell: build/gambrolt
 
-build/gambrolt: $(SHELL_FILES)
+build/gambrolt: $(SHELL_FILES) | compiler
 	@mkdir -p build
 	$(CC) $(STRICT) -O2 shell/*.c $(LIBGAMBROLT) -o $@
 
-build/sanitized/gambrolt: $(SHELL_FILES)
+build/sanitized/gambrolt: $(SHELL_FILES) | compiler
 	@mkdir -p build/sanitized
 	$(CC) $(STRICT) $(SANITIZE) shell/*.c $(LIBGAMBROLT) -o $@
 
-build/sanitized/%: shell/tests/%.c $(SHELL_FILES)
+build/sanitized/%: shell/tests/%.c $(SHELL_FILES) | compiler
 	@mkdir -p build/sanitized
 	$(CC) $(STRICT) $(SANITIZE) $< $(SHELL_PARTS) $(LIBGAMBROLT) -o $@
 
 # the program over a library that says what is not so
-build/lying: $(SHELL_FILES)
+build/lying: $(SHELL_FILES) | compiler
 	@mkdir -p build
 	$(CC) $(STRICT) -O2 shell/*.c shell/tests/lying.c -Wl,--wrap=gambrolt_reduce $(LIBGAMBROLT) -o $@
 
