@@ -7,11 +7,24 @@
  *
  *   - All memory is the caller's; nothing is allocated. A struct program takes about 36 kB.
  *   - A rule that is not taken leaves the program as it was.
+ *
+ * For "7. 9 | 5 :- 7, not 3.":
+ *
+ *     struct program p;
+ *     uint16_t table[GAMBROLT_MAX_WORDS];
+ *     program_start(&p);
+ *     program_rule(&p, (uint32_t[]){7}, 1, NULL, 0);
+ *     program_rule(&p, (uint32_t[]){9, 5}, 2, (int32_t[]){7, -3}, 2);
+ *     size_t words = program_table(&p, table); // 4 2  1 0 0 2  2 1 1 1 3 2 0
  */
 #ifndef SHELL_PROGRAM_H
 #define SHELL_PROGRAM_H
 
 #include "gambrolt.h"
+
+#ifdef __cplusplus
+extern "C" {
+#endif
 
 struct program {
     size_t atoms, clauses, words;      /* how many so far; words counts those of the table */
@@ -42,5 +55,9 @@ int program_number(const struct program *p, uint32_t atom);
 
 /* What an answer says, in words. */
 const char *program_message(enum program_answer answer);
+
+#ifdef __cplusplus
+}
+#endif
 
 #endif

@@ -23,6 +23,15 @@ static void table_is(const uint16_t *words, size_t count)
     EXPECT(gambrolt_check_table(table, count) == 0);
 }
 
+/* The example of program.h. */
+static void example(void)
+{
+    program_start(&p);
+    program_rule(&p, (uint32_t[]){7}, 1, NULL, 0);
+    program_rule(&p, (uint32_t[]){9, 5}, 2, (int32_t[]){7, -3}, 2);
+    table_is((uint16_t[]){4, 2, 1, 0, 0, 2, 2, 1, 1, 1, 3, 2, 0}, 13);
+}
+
 static void rules(void)
 {
     program_start(&p);
@@ -113,6 +122,7 @@ static void random_rules(void)
 
 int main(void)
 {
+    example();
     rules();
     limits();
     word_limit();
