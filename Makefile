@@ -1,16 +1,56 @@
 # make run: proves and builds what can be run, and runs it. make test: everything that is checked.
-# make shell: the program `gambrolt` in build/. make test-shell: its tests. make fuzz: a minute of damaged input.
-.PHONY: run test shell test-shell fuzz clean compiler FORCE
+# make lib: the library for C; make install PREFIX=..: header, library and pkg-config file. make bench: docs/BENCHMARKS.md's table.
+# make shell: the program `gambrolt` in build/; make install-shell: it and its man page. make test-shell: its tests.
+# make fuzz: a minute of a fuzzer on it.
+.PHONY: run test lib install bench test-lib test-c shell install-shell test-shell fuzz clean compiler FORCE
+
+PREFIX ?= /usr/local
+LIB_DIR := $(CURDIR)/target/staticlib
+BUILD := $(CURDIR)/build
+C_FLAGS := -std=c11 -Wall -Wextra -Werror -O2 -Iinclude
+CARGO_ENV = GAMBROLT_LIB_DIR=$(LIB_DIR) CARGO_TARGET_DIR=$(BUILD)
 
 run:
 	rt check
 
+# rt ci comes last: it removes target/, and its last line is the verdict
 test:
 	@rt fmt --check
 	@rt ci
 
+lib:
+	@rt staticlib gambrolt
+	@echo "the library: $(LIB_DIR)/libgambrolt.a; its header: $(CURDIR)/include/gambrolt.h"
+
+# the library against an independent implementation of document 01; GAMBROLT_ROUNDS=10 for a larger run
+test-lib: lib
+	$(CARGO_ENV) cargo test --offline --release --manifest-path tests/Cargo.toml
+
+# the example in C: what it prints, and what valgrind, or else the address sanitizer, says of it
+test-c: lib
+	@mkdir -p $(BUILD)
+	$(CC) $(C_FLAGS) examples/c/reduce.c $(LIB_DIR)/libgambrolt.a -o $(BUILD)/reduce
+	$(BUILD)/reduce > $(BUILD)/reduce.out && diff $(BUILD)/reduce.out examples/c/reduce.stdout
+	$(CC) $(C_FLAGS) -g -fsanitize=address,undefined examples/c/reduce.c $(LIB_DIR)/libgambrolt.a -o $(BUILD)/reduce-checked
+	$(BUILD)/reduce-checked > $(BUILD)/reduce.out && diff $(BUILD)/reduce.out examples/c/reduce.stdout
+	@if command -v valgrind >/dev/null; then valgrind -q --error-exitcode=1 $(BUILD)/reduce >/dev/null && echo "valgrind: ok"; fi
+
+install: lib
+	install -d $(DESTDIR)$(PREFIX)/include $(DESTDIR)$(PREFIX)/lib/pkgconfig
+	install -m 644 include/gambrolt.h $(DESTDIR)$(PREFIX)/include/
+	install -m 644 $(LIB_DIR)/libgambrolt.a $(DESTDIR)$(PREFIX)/lib/
+	sed 's|@PREFIX@|$(PREFIX)|' include/gambrolt.pc.in > $(DESTDIR)$(PREFIX)/lib/pkgconfig/gambrolt.pc
+
+install-shell: shell
+	install -d $(DESTDIR)$(PREFIX)/bin $(DESTDIR)$(PREFIX)/share/man/man1
+	install -m 755 build/gambrolt $(DESTDIR)$(PREFIX)/bin/
+	install -m 644 shell/gambrolt.1 $(DESTDIR)$(PREFIX)/share/man/man1/
+
+bench: lib
+	$(CARGO_ENV) cargo run --offline --release --quiet --manifest-path bench/Cargo.toml
+
 # ---- the shell: C over the library ----
-LIBGAMBROLT = target/staticlib/libgambrolt.a
+LIBGAMBROLT = $(LIB_DIR)/libgambrolt.a
 GAMBROLT_INCLUDE = include
 STRICT = -std=c11 -Wall -Wextra -Werror -I$(GAMBROLT_INCLUDE) -Ishell
 SANITIZE = -g -O1 -fsanitize=address,undefined -fno-sanitize-recover=all -fno-omit-frame-pointer
@@ -20,7 +60,7 @@ SHELL_FILES = $(wildcard shell/*.c shell/*.h shell/tests/*.c) $(GAMBROLT_INCLUDE
 compiler:
 	@command -v $(CC) >/dev/null || { apt-get update && apt-get install -y gcc libc6-dev; } >/dev/null
 
-target/staticlib/libgambrolt.a: FORCE
+$(LIB_DIR)/libgambrolt.a: FORCE
 	@rt staticlib gambrolt
 
 shell: build/gambrolt
@@ -45,7 +85,7 @@ build/lying: $(SHELL_FILES) | compiler
 test-shell: build/gambrolt build/lying build/sanitized/gambrolt build/sanitized/builder build/sanitized/damage
 	@sh shell/tests/run.sh
 
-fuzz:
+fuzz: $(LIBGAMBROLT)
 	@sh shell/tests/fuzz.sh '$(STRICT)' '$(LIBGAMBROLT)'
 
 clean:

@@ -5,3 +5,7 @@ pub mod Sound
 pub mod Measure
 pub mod Search
 pub mod Greedy
+pub mod Reopen
+pub mod Quiet
+pub mod Counts
+pub mod Order

@@ -143,6 +143,11 @@ module _ (n : ℕ) (P : Marked) where
   unfolding Partner Target firstPartner
   target-dead k t e (p, a, h) = level-none (cond (usesPartner k) (length P) 1) (λ p. firstAtom n P k t p) (Partner k t) (partner-bound k t) (partner-dead k t) e p (a, h)
 
+  -- A target at which the search finds nothing has no step.
+  pub no-step : (k : Kind) (t : ℕ) → firstPartner n P k t ≡ none → (p a : ℕ) → ¬ So (applies n P (step k t p a))
+  unfolding Target
+  no-step k t e p a h = target-dead k t e (p, a, h)
+
   kind-dead : (i : ℕ) → firstTarget n P (kindOf (suc i)) ≡ none → ¬ OfKind i
   unfolding Target OfKind firstTarget
   kind-dead i e (l, t, p, a, h) = level-none (length P) (λ t. firstPartner n P (kindOf (suc i)) t) (Target (kindOf (suc i))) (target-bound (kindOf (suc i))) (target-dead (kindOf (suc i))) e t (p, a, h)

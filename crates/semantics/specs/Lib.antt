@@ -1,2 +1,3 @@
 pub mod Lists
 pub mod Programs
+pub mod Decide

@@ -127,7 +127,7 @@ part-of ws (x ∷ xs) r n low at e g =
     let m : at + 1 + length xs ≡ at + suc (length xs) = omega arith in
     rw (v, lt-ltb x n (g .0), le-leb low x (g .1), part-of ws xs r n (x + 1) (at + 1) (past ws (x ∷ []) (xs ++ r) at e) (g .2), m)
 
-ordered-of : (ws xs r : List ℕ) (n at : ℕ) → drop at ws ≡ xs ++ r → Ordered n xs → partFrom ws n 0 at (length xs) ≡ To (at + length xs)
+pub ordered-of : (ws xs r : List ℕ) (n at : ℕ) → drop at ws ≡ xs ++ r → Ordered n xs → partFrom ws n 0 at (length xs) ≡ To (at + length xs)
 ordered-of ws xs r n at e o = part-of ws xs r n 0 at e (rising-iff n xs .1 o)
 
 pub clause-of : (ws : List ℕ) (n at : ℕ) (c : Clause) (r : List ℕ) → drop at ws ≡ clauseWords c ++ r → OrderedClause n c
@@ -166,7 +166,7 @@ encode-passes P g =
 
 -- ---- a table that passes is the words of a program within the limits
 
-ask-inv : (t : Bool) (r : Refusal) (w : Walk) (e : ℕ) → ask t r w ≡ To e → (t ≡ true) × (w ≡ To e)
+pub ask-inv : (t : Bool) (r : Refusal) (w : Walk) (e : ℕ) → ask t r w ≡ To e → (t ≡ true) × (w ≡ To e)
 unfolding ask
 ask-inv true r w e h = (refl, h)
 ask-inv false r w e h = let z : _≡_ {A = ℕ} 0 1 = cc in absurd (omega arith)
@@ -186,7 +186,7 @@ unfolding onTo
 on-inv (To d) f e h = (d, refl, h)
 on-inv (Stop r) f e h = let z : _≡_ {A = ℕ} 0 1 = cc in absurd (omega arith)
 
-part-inv : (ws : List ℕ) (n low at k e : ℕ) → partFrom ws n low at k ≡ To e → at + k ≤ length ws → Rising n low (cut ws at k) × (e ≡ at + k)
+pub part-inv : (ws : List ℕ) (n low at k e : ℕ) → partFrom ws n low at k ≡ To e → at + k ≤ length ws → Rising n low (cut ws at k) × (e ≡ at + k)
 unfolding partFrom
 part-inv ws n low at zero e h l = (tt, let q : at ≡ e = cc in omega arith)
 part-inv ws n low at (suc k) e h l =

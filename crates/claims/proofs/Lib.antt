@@ -1,0 +1,5 @@
+pub mod Tests
+pub mod Texts
+pub mod Reductions
+pub mod Reduced
+pub mod StableExamples

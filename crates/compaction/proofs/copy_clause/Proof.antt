@@ -1,0 +1,28 @@
+-- The counts, then the words of all three parts, which stand side by side.
+use Rattle.compaction.proofs.Words.{clause-stored, clause-words}
+use Prim.Native.Nat.{_-_, _+_}
+use mathlib.Core.Path.{refl, ap}
+use native.Mathlib.Omega.{arith}
+use lib.ListN.{length}
+use borrow.Author.Needs.{needs}
+use Rattle.compaction.proofs.copy_clause.Statement.{statement}
+use Rattle.compaction.proofs.copy_clause.Tie as tie
+
+write-counts-requires : tie.Need-write-counts-requires
+write-counts-requires c κs = let w = ap length (clause-words (c .before .before .before .before .before .before .before .before .before .before .args .words .now) (c .before .before .before .before .before .before .before .before .before .before .args .marks .now) (c .before .before .before .before .before .before .before .before .before .before .args .at) ((c .before .before .before .before .before .before .before .before .before .before .args .at) + 3) ((c .before .before .before .before .before .before .before .before .before .before .args .at) + 3 + (c .before .before .before .before .before .wide .result)) ((c .before .before .before .before .before .before .before .before .before .before .args .at) + 3 + (c .before .before .before .before .before .wide .result) + (c .before .before .before .wide2 .result)) ((c .before .before .before .before .before .before .before .before .before .before .args .at) + 3 + (c .before .before .before .before .before .wide .result) + (c .before .before .before .wide2 .result) + (c .before .wide3 .result)) refl (omega arith) (omega arith) (omega arith)) in (search needs, (search needs, (search needs, (omega arith, (omega arith, omega arith)))))
+
+add-copy-part : tie.Need-add-copy-part
+add-copy-part c = let w = ap length (clause-words (c .before .before .before .before .before .before .before .before .before .before .before .before .before .before .args .words .now) (c .before .before .before .before .before .before .before .before .before .before .before .before .before .before .args .marks .now) (c .before .before .before .before .before .before .before .before .before .before .before .before .before .before .args .at) ((c .before .before .before .before .before .before .before .before .before .before .before .before .before .before .args .at) + 3) ((c .before .before .before .before .before .before .before .before .before .before .before .before .before .before .args .at) + 3 + (c .before .before .before .before .before .before .before .before .before .wide .result)) ((c .before .before .before .before .before .before .before .before .before .before .before .before .before .before .args .at) + 3 + (c .before .before .before .before .before .before .before .before .before .wide .result) + (c .before .before .before .before .before .before .before .wide2 .result)) ((c .before .before .before .before .before .before .before .before .before .before .before .before .before .before .args .at) + 3 + (c .before .before .before .before .before .before .before .before .before .wide .result) + (c .before .before .before .before .before .before .before .wide2 .result) + (c .before .before .before .before .before .wide3 .result)) refl (omega arith) (omega arith) (omega arith)) in omega arith
+
+copy-part-requires : tie.Need-copy-part-requires
+copy-part-requires c κs = let w = ap length (clause-words (c .before .before .before .before .before .before .before .before .before .before .before .before .before .before .args .words .now) (c .before .before .before .before .before .before .before .before .before .before .before .before .before .before .args .marks .now) (c .before .before .before .before .before .before .before .before .before .before .before .before .before .before .args .at) ((c .before .before .before .before .before .before .before .before .before .before .before .before .before .before .args .at) + 3) ((c .before .before .before .before .before .before .before .before .before .before .before .before .before .before .args .at) + 3 + (c .before .before .before .before .before .before .before .before .before .wide .result)) ((c .before .before .before .before .before .before .before .before .before .before .before .before .before .before .args .at) + 3 + (c .before .before .before .before .before .before .before .before .before .wide .result) + (c .before .before .before .before .before .before .before .wide2 .result)) ((c .before .before .before .before .before .before .before .before .before .before .before .before .before .before .args .at) + 3 + (c .before .before .before .before .before .before .before .before .before .wide .result) + (c .before .before .before .before .before .before .before .wide2 .result) + (c .before .before .before .before .before .wide3 .result)) refl (omega arith) (omega arith) (omega arith)) in (search needs, (search needs, (search needs, omega arith)))
+
+returns : tie.Need-returns
+returns c =
+    let n = ap length (clause-words (c .before .before .before .before .before .before .before .before .before .before .before .before .before .before .before .before .before .args .words .now) (c .before .before .before .before .before .before .before .before .before .before .before .before .before .before .before .before .before .args .marks .now) (c .before .before .before .before .before .before .before .before .before .before .before .before .before .before .before .before .before .args .at) ((c .before .before .before .before .before .before .before .before .before .before .before .before .before .before .before .before .before .args .at) + 3) ((c .before .before .before .before .before .before .before .before .before .before .before .before .before .before .before .before .before .args .at) + 3 + (c .before .before .before .before .before .before .before .before .before .before .before .before .wide .result)) ((c .before .before .before .before .before .before .before .before .before .before .before .before .before .before .before .before .before .args .at) + 3 + (c .before .before .before .before .before .before .before .before .before .before .before .before .wide .result) + (c .before .before .before .before .before .before .before .before .before .before .wide2 .result)) ((c .before .before .before .before .before .before .before .before .before .before .before .before .before .before .before .before .before .args .at) + 3 + (c .before .before .before .before .before .before .before .before .before .before .before .before .wide .result) + (c .before .before .before .before .before .before .before .before .before .before .wide2 .result) + (c .before .before .before .before .before .before .before .before .wide3 .result)) refl (omega arith) (omega arith) (omega arith)) in
+    (omega arith, clause-stored (c .before .before .before .before .before .before .before .before .before .before .before .before .before .before .before .before .before .args .words .now) (c .before .before .before .before .before .before .before .before .before .before .before .before .before .before .before .before .before .args .marks .now) (c .before .before .before .before .before .before .before .before .before .before .before .before .before .before .before .before .before .args .out .now) _ _ (c .before .before .before .before .before .before .before .before .before .before .before .before .before .before .before .before .before .args .at) (c .before .before .before .before .before .before .before .before .before .before .before .before .before .before .before .before .before .args .to) ((c .before .before .before .before .before .before .before .before .before .before .before .before .before .before .before .before .before .args .at) + 3) ((c .before .before .before .before .before .before .before .before .before .before .before .before .before .before .before .before .before .args .at) + 3 + (c .before .before .before .before .before .before .before .before .before .before .before .before .wide .result)) ((c .before .before .before .before .before .before .before .before .before .before .before .before .before .before .before .before .before .args .at) + 3 + (c .before .before .before .before .before .before .before .before .before .before .before .before .wide .result) + (c .before .before .before .before .before .before .before .before .before .before .wide2 .result)) ((c .before .before .before .before .before .before .before .before .before .before .before .before .before .before .before .before .before .args .at) + 3 + (c .before .before .before .before .before .before .before .before .before .before .before .before .wide .result) + (c .before .before .before .before .before .before .before .before .before .before .wide2 .result) + (c .before .before .before .before .before .before .before .before .wide3 .result)) refl (omega arith) (omega arith) (omega arith) (c .before .before .before .before .before .before .write-counts .ensures) (c .before .before .copy-part .ensures .1))
+
+pub copy-clause-spec : {M : Type 1} → statement M
+copy-clause-spec =
+    tie.close
+    (tie.spec (λ c. search needs) (λ c. search needs) (λ c. search needs) (λ c κs. search needs) (λ c. search needs) (λ c. search needs) (λ c. search needs) (λ c. search needs) (λ c κs. search needs) (λ c. search needs) (λ c. search needs) (λ c. search needs) (λ c. search needs) (λ c κs. search needs) (λ c. search needs) write-counts-requires add-copy-part copy-part-requires (λ c. search needs) returns)

@@ -1,0 +1,134 @@
+-- How long the output can be: at most 8,190 steps, each a line of at most 22 bytes.
+use mathlib.Core.Path.{_≡_, refl, sym, ap, subst, _∙_}
+use mathlib.Core.Bool.{Bool, true, false, cond, So}
+use mathlib.Core.List.{List, [], _∷_, _++_}
+use Prim.Native.Nat.{ℕ, zero, suc, _+_, _*_, _≤_, _<_}
+use native.Mathlib.Omega.{arith}
+use lib.ListN.{length, length-append, length-set}
+use Rattle.semantics.specs.Lists.{_∈_, ascending}
+use Rattle.semantics.specs.Programs.{Clause, Program}
+use Rattle.semantics.proofs.Tests.{and-iff}
+use Rattle.rewriting.specs.Marked.{Entry, Marked, gone, entry, whole}
+use Rattle.rewriting.specs.Steps.{Kind, number, Step, usesPartner, usesAtom, applies, effect, accepted, leaves}
+use Rattle.rewriting.specs.Reducer.{measure, weight}
+use Rattle.rewriting.proofs.Left.{kept-lt}
+use Rattle.rewriting.proofs.Measure.{Tidy}
+use Rattle.rewriting.proofs.Search.{partner-lt, atom-lt, number-bounds}
+use Rattle.rewriting.proofs.Greedy.{reduce-greedy, greedy-accepted, accepted-measure}
+use Rattle.table.specs.Encoding.{clauseWords, clausesWords, encode, OrderedClause, Within}
+use Rattle.text.specs.Digits.{width, digits, commas, joined}
+use Rattle.text.specs.Render.{lineText}
+use Rattle.text.proofs.Numbers.{digits-length, width-four}
+use Rattle.filter.specs.Output.{stepKey, stepText, stepsText, stepsOf}
+
+-- ---- the words of a step
+
+length-effect : (P : Marked) (s : Step) → length (effect P s) ≡ length P
+unfolding effect
+length-effect P s = simp length-set
+
+-- the words of an applicable step on m clauses and n atoms
+record Small (n m : ℕ) (s : Step) : Type 0 where
+  target : s .target < m
+  partner : s .partner ≤ m
+  atom : s .atom ≤ n
+
+applies-small : (n : ℕ) (P : Marked) (s : Step) → So (applies n P s) → Small n (length P) s
+unfolding applies
+applies-small n P s h =
+    let w = simp and-iff at h in
+    record {
+      target = kept-lt P (s .target) (w .0);
+      partner = low (usesPartner (s .kind)) (length P) (s .partner) (partner-lt (usesPartner (s .kind)) P (s .target) (s .partner) (w .1 .0)) (kept-lt P (s .target) (w .0));
+      atom = below (usesAtom (s .kind)) n (s .atom) (atom-lt (usesAtom (s .kind)) n (s .atom) (w .1 .1 .0));
+    }
+  where
+    low : (b : Bool) (m x : ℕ) → x < cond b m 1 → s .target < m → x ≤ m
+    low true m x h t = omega arith
+    low false m x h t = omega arith
+
+    below : (b : Bool) (n x : ℕ) → x < cond b n 1 → x ≤ n
+    below true n x h = omega arith
+    below false n x h = omega arith
+
+-- ---- a step's line
+
+line-length : (key value : List ℕ) → length (lineText key value) ≡ length key + length value + 1
+unfolding lineText
+line-length key value = omega (arith, length-append key (value ++ 10 ∷ []), length-append value (10 ∷ []))
+
+four : (a b c d : ℕ) → length (commas (a ∷ b ∷ c ∷ d ∷ [])) ≡ width a + width b + width c + width d + 3
+unfolding commas joined
+four a b c d = omega (
+  arith,
+  length-append (digits a) (44 ∷ joined b (c ∷ d ∷ [])),
+  length-append (digits b) (44 ∷ joined c (d ∷ [])),
+  length-append (digits c) (44 ∷ joined d []),
+  digits-length a,
+  digits-length b,
+  digits-length c,
+  digits-length d,
+)
+
+step-short : (n m : ℕ) (s : Step) → n ≤ 1024 → m ≤ 2048 → Small n m s → length (stepText s) ≤ 22
+unfolding stepText
+step-short n m s a b q =
+    let k = number-bounds (s .kind) in
+    omega (
+      arith,
+      line-length stepKey (commas (number (s .kind) ∷ s .target ∷ s .partner ∷ s .atom ∷ [])),
+      four (number (s .kind)) (s .target) (s .partner) (s .atom),
+      width-one (number (s .kind)) (omega arith),
+      width-four (s .target) (omega (arith, q .target)),
+      width-four (s .partner) (omega (arith, q .partner)),
+      width-four (s .atom) (omega (arith, q .atom)),
+    )
+  where
+    width-one : (v : ℕ) → v < 10 → width v ≡ 1
+    width-one v h = Rattle.text.proofs.Numbers.width-by (λ w. w ≡ 1) v (λ _. refl) (λ x _. absurd (omega arith)) (λ x _. absurd (omega arith)) (λ x _. absurd (omega arith)) (λ x. absurd (omega arith))
+
+steps-lines : (n m : ℕ) (P : Marked) (l : List Step) → n ≤ 1024 → m ≤ 2048 → length P ≡ m → So (accepted n P l) → length (stepsText l) ≤ 22 * length l
+unfolding accepted stepsText
+steps-lines n m P [] a b e h = omega arith
+steps-lines n m P (s ∷ l) a b e h =
+    let w = and-iff (applies n P s) (accepted n (effect P s) l) .0 h in
+    omega (
+      arith,
+      length-append (stepText s) (stepsText l),
+      step-short n m s a b (subst (λ x. Small n x s) e (applies-small n P s (w .0))),
+      steps-lines n m (effect P s) l a b (length-effect P s ∙ e) (w .1),
+    )
+
+-- ---- the reducer's list
+
+length-whole : (cs : List Clause) → length (whole cs) ≡ length cs
+length-whole [] = refl
+length-whole (c ∷ cs) = ap suc (length-whole cs)
+
+measure-words : (cs : List Clause) → measure (whole cs) ≤ length (clausesWords cs)
+unfolding measure weight clausesWords
+measure-words [] = omega arith
+measure-words (c ∷ cs) = omega (arith, length-append (clauseWords c) (clausesWords cs), length-append (c .head) (c .pos ++ c .neg), length-append (c .pos) (c .neg), measure-words cs)
+
+whole-tidy : (n : ℕ) (cs : List Clause) → ((c : Clause) → c ∈ cs → OrderedClause n c) → (i : ℕ) → Tidy (entry (whole cs) i)
+unfolding ascending
+whole-tidy n [] h i = (refl, refl)
+whole-tidy n (c ∷ cs) h zero = let o = h c (mathlib.Core.List.List·Memᴰ·head refl) in (o .pos .ascends, o .neg .ascends)
+whole-tidy n (c ∷ cs) h (suc i) = whole-tidy n cs (λ d m. h d (mathlib.Core.List.List·Memᴰ·tail m)) i
+
+-- The reducer's list of a program within the limits is accepted, and has at most 8,190 steps.
+pub steps-accepted : (P : Program) → Within P → So (accepted (P .atoms) (whole (P .clauses)) (stepsOf P))
+steps-accepted P w = greedy-accepted (reduce-greedy (P .atoms) (measure (whole (P .clauses))) (whole (P .clauses)) (whole-tidy (P .atoms) (P .clauses) (w .ordered)) (omega arith))
+
+pub steps-few : (P : Program) → Within P → length (stepsOf P) ≤ 8190
+unfolding encode
+steps-few P w = omega (
+  arith,
+  accepted-measure (P .atoms) (whole (P .clauses)) (stepsOf P) (whole-tidy (P .atoms) (P .clauses) (w .ordered)) (steps-accepted P w),
+  measure-words (P .clauses),
+  w .fewWords,
+)
+
+-- Its lines take at most 180,180 bytes.
+pub steps-short : (P : Program) → Within P → length (stepsText (stepsOf P)) ≤ 180180
+steps-short P w = omega (arith, steps-few P w, steps-lines (P .atoms) (length (P .clauses)) (whole (P .clauses)) (stepsOf P) (w .fewAtoms) (w .fewClauses) (length-whole (P .clauses)) (steps-accepted P w))

@@ -1,0 +1,1 @@
+// The program's whole work as one function on slices. The output as a definition is in specs/Output.antt.

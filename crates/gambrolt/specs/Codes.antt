@@ -1,0 +1,37 @@
+-- The one number that an exported call returns: the refusal's number times 2^48 plus its place, or, taken, the value.
+use Prim.Native.Nat.{ℕ, _+_, _*_}
+use Rattle.table.specs.declared.Refusal.{Refusal}
+use Rattle.table.specs.declared.Checked.{Checked}
+use Rattle.table.specs.declared.Checked.the-variants as checked
+use Rattle.compaction.specs.declared.CompactAnswer.{CompactAnswer}
+use Rattle.compaction.specs.declared.CompactAnswer.the-variants as compacted
+use Rattle.stability.specs.declared.TestAnswer.{TestAnswer}
+use Rattle.stability.specs.declared.TestAnswer.the-variants as tested
+use Rattle.text.specs.declared.ReadAnswer.{ReadAnswer}
+use Rattle.text.specs.declared.ReadAnswer.the-variants as read
+use Rattle.semantics.specs.Lists.{bit}
+use Rattle.table.specs.Refusals.{refusalNumber, refusalPlace}
+
+-- "the number and place of the first question", in one number: 281474976710656 is 2^48
+abbrev pub refusalCode : Refusal → ℕ
+refusalCode r = refusalNumber r * 281474976710656 + refusalPlace r
+
+-- the table check carries 0
+abbrev pub tableCode : Checked → ℕ
+tableCode (checked.Valid t) = 0
+tableCode (checked.Refused r) = refusalCode r
+
+-- the reduced table carries the words written
+abbrev pub reducedCode : CompactAnswer → ℕ
+reducedCode (compacted.Accepted n) = n
+reducedCode (compacted.Refused r) = refusalCode r
+
+-- the test carries 1 for yes and 0 for no
+abbrev pub testCode : TestAnswer → ℕ
+testCode (tested.Accepted b) = bit b
+testCode (tested.Refused r) = refusalCode r
+
+-- reading text carries the words written
+abbrev pub readCode : ReadAnswer → ℕ
+readCode (read.Accepted n) = n
+readCode (read.Refused r) = refusalCode r

@@ -1,0 +1,72 @@
+-- The numbers that the reducer keeps: the kept clauses with an atom in their head; and "is a fact" by the literals left.
+use mathlib.Core.Path.{_≡_, refl}
+use mathlib.Core.Logic.{_↔_}
+use mathlib.Core.Bool.{Bool, not, _&&_, _||_, So, false≢true, true, false, cond}
+use mathlib.Core.List.{List, [], _∷_}
+use Prim.Native.Nat.{ℕ, zero, suc, _+_, _<_}
+use native.Mathlib.Omega.{arith}
+use lib.ListN.{length, getD, set}
+use Rattle.semantics.specs.Lists.{any, mem, count, bit}
+use Rattle.semantics.specs.Programs.{Clause}
+use Rattle.semantics.proofs.Tests.{bit-true, bit-false, or-iff, not-iff}
+use Rattle.rewriting.specs.Marked.{Entry, Marked, gone, entry, left}
+use Rattle.rewriting.specs.Steps.{Step, Kind, tautology, contradiction, success, noHead, blocked, failure, loop, subsumed, inNoHead, applies, rewritten, effect}
+use Rattle.rewriting.proofs.Left.{kept-lt}
+use Rattle.rewriting.proofs.Reopen.{drops, target-kept}
+
+-- ---- kept heads of an atom
+
+unfoldable pub heads : Marked → ℕ → ℕ
+heads P a = count (λ c. mem a (c .head)) (left P)
+
+-- "in the head of no kept clause" by the count
+pub heads-none : (P : Marked) (a : ℕ) → So (inNoHead (left P) a) ↔ (heads P a ≡ 0)
+unfolding heads inNoHead
+heads-none P a = (λ h. to (left P) h, λ e. from (left P) e)
+  where
+    f : Clause → Bool
+    f c = mem a (c .head)
+
+    to : (cs : List Clause) → So (not (any f cs)) → count f cs ≡ 0
+    to [] h = refl
+    to (c ∷ cs) h = omega (arith, bit-false (f c) (λ y. not-iff _ .0 h (or-iff (f c) (any f cs) .1 (λ z. absurd (z y)))), to cs (not-iff (any f cs) .1 (λ y. not-iff _ .0 h (or-iff (f c) (any f cs) .1 (λ z. y)))))
+
+    from : (cs : List Clause) → count f cs ≡ 0 → So (not (any f cs))
+    from [] e = refl
+    from (c ∷ cs) e = not-iff (f c || any f cs) .1 (λ y. not-iff _ .0 (from cs (omega arith)) (or-iff (f c) (any f cs) .0 y (λ z. let b = bit-true (f c) z in omega arith)))
+
+-- one clause put for another
+count-left : (f : Clause → Bool) (P : Marked) (t : ℕ) (e : Entry) → t < length P
+    → count f (left (set P t e)) + bit (entry P t .kept && f (entry P t .clause)) ≡ count f (left P) + bit (e .kept && f (e .clause))
+unfolding left
+count-left f [] t e l = absurd (omega arith)
+count-left f (d ∷ P) zero e l = omega (arith, one (d .kept) d, one (e .kept) e)
+  where
+    one : (b : Bool) (x : Entry) → count f (cond b (x .clause ∷ left P) (left P)) ≡ bit (b && f (x .clause)) + count f (left P)
+    one true x = refl
+    one false x = omega arith
+count-left f (d ∷ P) (suc t) e l = omega (arith, one (d .kept) (left (set P t e)), one (d .kept) (left P), count-left f P t e (omega arith))
+  where
+    one : (b : Bool) (cs : List Clause) → count f (cond b (d .clause ∷ cs) cs) ≡ bit (b && f (d .clause)) + count f cs
+    one true cs = refl
+    one false cs = omega arith
+
+-- One head less of each head atom of a clause deleted, and nothing else changes.
+pub heads-effect : (n : ℕ) (P : Marked) (s : Step) → So (applies n P s) → (a : ℕ)
+    → heads (effect P s) a + bit (not (drops (s .kind)) && mem a (entry P (s .target) .clause .head)) ≡ heads P a
+unfolding heads effect
+heads-effect n P s h a =
+    let c = entry P (s .target) in
+    let e = rewritten (s .kind) (c .clause) (entry P (s .partner) .clause) (s .atom) in
+    omega (arith, count-left (λ d. mem a (d .head)) P (s .target) e (kept-lt P (s .target) (target-kept n P s h)), at (s .kind) c (entry P (s .partner) .clause) (s .atom) (target-kept n P s h))
+  where
+    at : (k : Kind) (c : Entry) (d : Clause) (b : ℕ) → So (c .kept)
+        → bit (rewritten k (c .clause) d b .kept && mem a (rewritten k (c .clause) d b .clause .head)) + bit (not (drops k) && mem a (c .clause .head)) ≡ bit (c .kept && mem a (c .clause .head))
+    at success c d b q = rw q (omega arith)
+    at noHead c d b q = rw q (omega arith)
+    at tautology c d b q = rw q (omega arith)
+    at contradiction c d b q = rw q (omega arith)
+    at blocked c d b q = rw q (omega arith)
+    at failure c d b q = rw q (omega arith)
+    at loop c d b q = rw q (omega arith)
+    at subsumed c d b q = rw q (omega arith)

@@ -1,0 +1,180 @@
+-- The search as a walk: the inner search of the kinds with an atom walks a part in place of the atoms below n, that of the kinds with a
+-- partner asks once a partner; targets and kinds are passed in order.
+use mathlib.Core.Path.{_≡_, refl, sym, ap, subst, _∙_}
+use mathlib.Core.Logic.{_↔_, _≢_, _⊎_, inl, inr, ⊎-elim}
+use mathlib.Core.Bool.{Bool, true, false, not, cond, _&&_, So, false≢true}
+use mathlib.Core.List.{List, [], _∷_, List·Memᴰ·head, List·Memᴰ·tail, List·Memᴰ·cases-cons, List·Memᴰ·not-nil}
+use mathlib.Core.Option.{Option, none, some}
+use Prim.Native.Nat.{ℕ, zero, suc, _<_}
+use native.Mathlib.Omega.{arith}
+use lib.Dec.{eqb, ltb}
+use lib.ListN.{length}
+use borrow.Author.Tests.{ltb-true, lt-ltb}
+use Rattle.semantics.specs.Lists.{_∈_, all, mem, ascending}
+use Rattle.semantics.specs.Programs.{Clause}
+use Rattle.semantics.proofs.Tests.{and-iff, all-iff, mem-iff, so-false, not-so}
+use Rattle.rewriting.specs.Marked.{Marked, entry, left}
+use Rattle.rewriting.specs.Reach.{reach}
+use Rattle.rewriting.specs.Steps.{Step, step, Kind, tautology, contradiction, success, noHead, blocked, failure, loop, subsumed, kindOf, usesPartner, usesAtom, inNoHead, condition, conditionHolds, applies}
+use Rattle.rewriting.specs.Reducer.{least, given, firstAtom, firstPartner, firstTarget, firstStep}
+use Rattle.rewriting.proofs.Quiet.{least-none, least-some}
+
+-- ---- the first atom of an ascending part that passes a test is the first atom below n that is in it and passes
+
+-- the first element that passes, as a step
+unfoldable pub firstIn : (ℕ → Step) → (ℕ → Bool) → List ℕ → Option Step
+firstIn g f [] = none
+firstIn g f (x ∷ l) = cond (f x) (some (g x)) (firstIn g f l)
+
+module _ (n : ℕ) (g : ℕ → Step) (f : ℕ → Bool) (test : ℕ → Bool) where
+  -- what the search over atoms asks, for a part that the walk has not passed yet
+  Asks : List ℕ → Type 0
+  Asks l = (a : ℕ) → So (test a) ↔ ((a ∈ l) × So (f a))
+
+  part-none : (l : List ℕ) → Asks l → ((a : ℕ) → a ∈ l → ¬ So (f a)) → least n (λ a. given (test a) (g a)) ≡ none
+  unfolding Asks
+  part-none l q h = least-none n _ (λ a i. ap (λ b. given b (g a)) (so-false _ (λ y. let w = q a .0 y in h a (w .0) (w .1))))
+
+  part-some : (l : List ℕ) (x : ℕ) → Asks l → x ∈ l → x < n → So (f x) → ((a : ℕ) → a ∈ l → a < x → ¬ So (f a)) → least n (λ a. given (test a) (g a)) ≡ some (g x)
+  unfolding Asks
+  part-some l x q m i y h = least-some n _ (g x) x i (ap (λ b. given b (g x)) (q x .1 (m, y)))
+      (λ a k. ap (λ b. given b (g a)) (so-false _ (λ z. let w = q a .0 z in h a (w .0) k (w .1))))
+
+  -- the walk: `l` is left of the part `w`, and nothing passed over passes the test
+  part-walk : (w l : List ℕ) → Asks w → ((a : ℕ) → a ∈ l → (a ∈ w) × (a < n)) → So (ascending l) → ((a : ℕ) → a ∈ w → (a ∈ l) ⊎ ¬ So (f a))
+      → least n (λ a. given (test a) (g a)) ≡ firstIn g f l
+  unfolding firstIn ascending
+  part-walk w [] q s o p = part-none w q (λ a m y. ⊎-elim (λ k. List·Memᴰ·not-nil k) (λ k. k y) (p a m))
+  part-walk w (x ∷ l) q s o p = go (f x) refl (λ r. part-walk w l q (λ a m. s a (List·Memᴰ·tail m)) (and-iff (all (λ y. ltb x y) l) (ascending l) .0 o .1) r)
+    where
+      above : (a : ℕ) → a ∈ l → x < a
+      above a m = ltb-true x a (all-iff _ _ .0 (and-iff (all (λ y. ltb x y) l) (ascending l) .0 o .0) a m)
+
+      go : (b : Bool) → f x ≡ b → (((a : ℕ) → a ∈ w → (a ∈ l) ⊎ ¬ So (f a)) → least n (λ a. given (test a) (g a)) ≡ firstIn g f l) → least n (λ a. given (test a) (g a)) ≡ cond b (some (g x)) (firstIn g f l)
+      go true e r = let m = s x (List·Memᴰ·head refl) in part-some w x q (m .0) (m .1) e (λ a k i y. ⊎-elim
+          (λ j. ⊎-elim (λ z. omega arith) (λ z. let d = above a z in omega arith) (List·Memᴰ·cases-cons j)) (λ j. j y) (p a k))
+      go false e r = r (λ a m. ⊎-elim (λ j. ⊎-elim (λ z. inr (λ y. not-so e (subst (λ c. So (f c)) z y))) (λ z. inl z) (List·Memᴰ·cases-cons j)) (λ j. inr j) (p a m))
+
+  pub part-first : (l : List ℕ) → So (ascending l) → ((a : ℕ) → a ∈ l → a < n) → ((a : ℕ) → So (test a) ↔ ((a ∈ l) × So (f a))) → least n (λ a. given (test a) (g a)) ≡ firstIn g f l
+  unfolding Asks
+  part-first l o s q = part-walk l l q (λ a m. (m, s a m)) o (λ a m. inl m)
+
+-- the part that a kind with an atom walks, and the test
+abbrev pub walked : Kind → Clause → List ℕ
+walked tautology c = c .head
+walked contradiction c = c .pos
+walked noHead c = c .neg
+walked failure c = c .pos
+walked loop c = c .pos
+walked success c = []
+walked blocked c = []
+walked subsumed c = []
+
+abbrev pub asked : Kind → List Clause → Clause → ℕ → Bool
+asked tautology cs c a = mem a (c .pos)
+asked contradiction cs c a = mem a (c .neg)
+asked noHead cs c a = inNoHead cs a
+asked failure cs c a = inNoHead cs a
+asked loop cs c a = not (reach cs a)
+asked success cs c a = false
+asked blocked cs c a = false
+asked subsumed cs c a = false
+
+pub condition-is : (k : Kind) (cs : List Clause) (c d : Clause) (a : ℕ) → So (usesAtom k) → condition k cs c d a ≡ (mem a (walked k c) && asked k cs c a)
+unfolding condition
+condition-is tautology cs c d a u = refl
+condition-is contradiction cs c d a u = refl
+condition-is noHead cs c d a u = refl
+condition-is failure cs c d a u = refl
+condition-is loop cs c d a u = refl
+condition-is success cs c d a u = absurd (false≢true u)
+condition-is blocked cs c d a u = absurd (false≢true u)
+condition-is subsumed cs c d a u = absurd (false≢true u)
+
+-- a kind has an atom word or a partner word
+pub atom-alone : (k : Kind) → So (usesAtom k) → usesPartner k ≡ false
+atom-alone tautology u = refl
+atom-alone contradiction u = refl
+atom-alone noHead u = refl
+atom-alone failure u = refl
+atom-alone loop u = refl
+atom-alone success u = absurd (false≢true u)
+atom-alone blocked u = absurd (false≢true u)
+atom-alone subsumed u = absurd (false≢true u)
+
+pub partner-alone : (k : Kind) → So (usesPartner k) → usesAtom k ≡ false
+partner-alone success u = refl
+partner-alone blocked u = refl
+partner-alone subsumed u = refl
+partner-alone tautology u = absurd (false≢true u)
+partner-alone contradiction u = absurd (false≢true u)
+partner-alone noHead u = absurd (false≢true u)
+partner-alone failure u = absurd (false≢true u)
+partner-alone loop u = absurd (false≢true u)
+
+-- The inner search at a kept target: the first atom of the part that passes.
+pub atom-first : (n : ℕ) (P : Marked) (k : Kind) (t : ℕ) → So (usesAtom k) → So (entry P t .kept) → So (ascending (walked k (entry P t .clause))) → ((a : ℕ) → a ∈ walked k (entry P t .clause) → a < n)
+    → firstPartner n P k t ≡ firstIn (λ a. step k t 0 a) (asked k (left P) (entry P t .clause)) (walked k (entry P t .clause))
+unfolding firstPartner firstAtom applies conditionHolds least
+atom-first n P k t u h o s = rw (atom-alone k u, u) (part-first n (λ a. step k t 0 a) (asked k (left P) c) (λ a. entry P t .kept && (ltb a n && condition k (left P) c d a)) (walked k c) o s (λ a. (
+  λ y. let w = and-iff (entry P t .kept) (ltb a n && condition k (left P) c d a) .0 y in
+      let v = and-iff (ltb a n) (condition k (left P) c d a) .0 (w .1) in
+      let z = and-iff (mem a (walked k c)) (asked k (left P) c a) .0 (subst So (condition-is k (left P) c d a u) (v .1)) in
+      (mem-iff _ _ .0 (z .0), z .1),
+  λ y. and-iff (entry P t .kept) (ltb a n && condition k (left P) c d a) .1 (
+    h,
+    and-iff (ltb a n) (condition k (left P) c d a) .1
+        (lt-ltb a n (s a (y .0)), subst So (sym (condition-is k (left P) c d a u)) (and-iff (mem a (walked k c)) (asked k (left P) c a) .1 (mem-iff _ _ .1 (y .0), y .1))),
+  ),
+)))
+  where
+    c : Clause
+    c = entry P t .clause
+
+    d : Clause
+    d = entry P 0 .clause
+
+-- The inner search of the kinds with a partner: one question a partner.
+pub partner-first : (n : ℕ) (P : Marked) (k : Kind) (t p : ℕ) → So (usesPartner k) → firstAtom n P k t p ≡ given (applies n P (step k t p 0)) (step k t p 0)
+unfolding firstAtom least
+partner-first n P k t p u = ap (λ b. least (cond b n 1) (λ a. given (applies n P (step k t p a)) (step k t p a))) (partner-alone k u)
+
+pub partner-end : (n : ℕ) (P : Marked) (k : Kind) (t : ℕ) → So (usesPartner k) → ((p : ℕ) → p < length P → applies n P (step k t p 0) ≡ false) → firstPartner n P k t ≡ none
+unfolding firstPartner
+partner-end n P k t u h = ap (λ b. least (cond b (length P) 1) (λ p. firstAtom n P k t p)) u
+    ∙ least-none (length P) (λ p. firstAtom n P k t p) (λ p l. partner-first n P k t p u ∙ ap (λ b. given b (step k t p 0)) (h p l))
+
+pub partner-hit : (n : ℕ) (P : Marked) (k : Kind) (t p : ℕ) → So (usesPartner k) → p < length P → ((q : ℕ) → q < p → applies n P (step k t q 0) ≡ false) → So (applies n P (step k t p 0))
+    → firstPartner n P k t ≡ some (step k t p 0)
+unfolding firstPartner
+partner-hit n P k t p u l h a = ap (λ b. least (cond b (length P) 1) (λ p. firstAtom n P k t p)) u
+    ∙ least-some (length P) (λ p. firstAtom n P k t p) (step k t p 0) p l (partner-first n P k t p u ∙ ap (λ b. given b (step k t p 0)) a)
+    (λ q i. partner-first n P k t q u ∙ ap (λ b. given b (step k t q 0)) (h q i))
+
+-- ---- targets and kinds in order
+
+-- A target that is gone has no step.
+pub target-gone : (n : ℕ) (P : Marked) (k : Kind) (t : ℕ) → ¬ So (entry P t .kept) → firstPartner n P k t ≡ none
+unfolding firstPartner firstAtom applies
+target-gone n P k t h = least-none (cond (usesPartner k) (length P) 1) (λ p. firstAtom n P k t p) (λ p l. least-none (cond (usesAtom k) n 1) (λ a. given (applies n P (step k t p a)) (step k t p a))
+    (λ a i. ap (λ b. given b (step k t p a)) (so-false (applies n P (step k t p a)) (λ y. h ((simp and-iff at y) .0)))))
+
+-- what the walk over the targets has passed
+abbrev pub Before : ℕ → Marked → Kind → ℕ → Type 0
+Before n P k t = (j : ℕ) → j < t → firstPartner n P k j ≡ none
+
+pub search-end : (n : ℕ) (P : Marked) (k : Kind) → Before n P k (length P) → firstTarget n P k ≡ none
+unfolding firstTarget
+search-end n P k h = least-none (length P) (λ t. firstPartner n P k t) h
+
+pub search-hit : (n : ℕ) (P : Marked) (k : Kind) (t : ℕ) (s : Step) → t < length P → firstPartner n P k t ≡ some s → Before n P k t → firstTarget n P k ≡ some s
+unfolding firstTarget
+search-hit n P k t s l e h = least-some (length P) (λ t. firstPartner n P k t) s t l e h
+
+pub kinds-end : (n : ℕ) (P : Marked) → ((i : ℕ) → i < 8 → firstTarget n P (kindOf (suc i)) ≡ none) → firstStep n P ≡ none
+unfolding firstStep
+kinds-end n P h = least-none 8 (λ i. firstTarget n P (kindOf (suc i))) h
+
+pub kinds-hit : (n : ℕ) (P : Marked) (i : ℕ) (s : Step) → i < 8 → firstTarget n P (kindOf (suc i)) ≡ some s → ((j : ℕ) → j < i → firstTarget n P (kindOf (suc j)) ≡ none) → firstStep n P ≡ some s
+unfolding firstStep
+kinds-hit n P i s l e h = least-some 8 (λ i. firstTarget n P (kindOf (suc i))) s i l e h

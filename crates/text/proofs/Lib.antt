@@ -1,0 +1,5 @@
+pub mod Slices
+pub mod Numbers
+pub mod Lines
+pub mod Texts
+pub mod Calls

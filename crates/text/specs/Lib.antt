@@ -1,0 +1,5 @@
+pub mod Digits
+pub mod Render
+pub mod Slices
+pub mod Reader
+pub mod Writer

@@ -1,0 +1,106 @@
+//! One call of the library beside document 01: the same answer, and the same memory afterwards.
+use crate::library;
+use crate::paper::{self, Answer, Refused};
+use std::fmt::Debug;
+
+/// How many calls were compared, how often each question refused one, and how many steps of each kind were made.
+pub struct Tally {
+    pub cases: u64,
+    pub met: [u64; 29],
+    pub made: [u64; 9],
+}
+
+/// "the refusal's number times 2^48 plus its place, or, taken, the value"
+fn code(answer: Answer) -> u64 {
+    match answer {
+        Ok(value) => value,
+        Err(refused) => (refused.number << 48) + refused.place,
+    }
+}
+
+impl Tally {
+    pub fn new() -> Tally {
+        Tally { cases: 0, met: [0; 29], made: [0; 9] }
+    }
+
+    /// Compares what a call gave with what document 01 says, both with all memory that was lent for writing.
+    fn same<M: PartialEq>(&mut self, input: &dyn Debug, answer: Answer, paper: M, given: u64, library: M) -> Answer {
+        self.cases += 1;
+        if let Err(refused) = answer {
+            self.met[refused.number as usize] += 1;
+        }
+        assert!(given == code(answer), "{input:?}\nanswer {:x}, document 01 has {answer:?}", given);
+        assert!(library == paper, "{input:?}\nthe memory afterwards is not document 01's; the answer {answer:?} is");
+        answer
+    }
+
+    /// Counts the first steps of a list.
+    fn count(&mut self, list: &[u16], steps: u64) {
+        for step in list.chunks(4).take(steps as usize) {
+            self.made[usize::from(step[0])] += 1;
+        }
+    }
+
+    pub fn check_table(&mut self, table: &[u16]) -> Answer {
+        let answer = paper::table::check_table(table);
+        self.same(&("check_table", table), answer, (), library::check_table(table), ())
+    }
+
+    /// The answer, and the marks afterwards.
+    pub fn check(&mut self, table: &[u16], marks: &[u8], list: &[u16]) -> (Answer, Vec<u8>) {
+        let (answer, after) = paper::list::check(table, marks, list);
+        let (given, bytes) = library::check(table, marks, list);
+        match answer {
+            Err(Refused { number: 12..=16, place }) => self.count(list, place),
+            Err(_) => {}
+            Ok(steps) => self.count(list, steps),
+        }
+        (self.same(&("check", table, marks, list), answer, &after, given, &bytes), after)
+    }
+
+    /// The answer, and the marks and the list afterwards.
+    pub fn reduce(&mut self, table: &[u16], marks: &[u8], list: &[u16]) -> (Answer, Vec<u8>, Vec<u16>) {
+        let (answer, after, steps) = paper::reduce::reduce(table, marks, list);
+        let (given, bytes, words) = library::reduce(table, marks, list);
+        self.count(&steps, answer.unwrap_or(0));
+        (self.same(&("reduce", table, marks), answer, (&after, &steps), given, (&bytes, &words)), after, steps)
+    }
+
+    /// The answer, and the out slice afterwards.
+    pub fn reduced_table(&mut self, table: &[u16], marks: &[u8], out: &[u16]) -> (Answer, Vec<u16>) {
+        let (answer, after) = paper::reduced::reduced_table(table, marks, out);
+        let (given, words) = library::reduced_table(table, marks, out);
+        (self.same(&("reduced_table", table, marks, out.len()), answer, &after, given, &words), after)
+    }
+
+    pub fn test(&mut self, table: &[u16], set: &[u16]) -> Answer {
+        let answer = paper::stable::test(table, set);
+        self.same(&("test", table, set), answer, (), library::test(table, set), ())
+    }
+
+    pub fn cycle(&mut self, table: &[u16]) -> Answer {
+        let answer = paper::cycle::cycle(table);
+        self.same(&("cycle", table), answer, (), library::cycle(table), ())
+    }
+
+    /// The answer, and the table slice afterwards.
+    pub fn read_text(&mut self, text: &[u8], table: &[u16]) -> (Answer, Vec<u16>) {
+        let (answer, after) = paper::text::read_text(text, table);
+        let (given, words) = library::read_text(text, table);
+        let shown = String::from_utf8_lossy(text);
+        (self.same(&("read_text", shown, table.len()), answer, &after, given, &words), after)
+    }
+
+    /// The answer, and the out slice afterwards.
+    pub fn write_text(&mut self, table: &[u16], out: &[u8]) -> (Answer, Vec<u8>) {
+        let (answer, after) = paper::text::write_text(table, out);
+        let (given, bytes) = library::write_text(table, out);
+        (self.same(&("write_text", table, out.len()), answer, &after, given, &bytes), after)
+    }
+}
+
+impl Default for Tally {
+    fn default() -> Tally {
+        Tally::new()
+    }
+}

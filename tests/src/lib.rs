@@ -1,0 +1,9 @@
+//! The library compared with document 01: `paper` is that document, written out literally; `library` calls the exports
+//! with guarded copies of every slice; `random` and `make` draw the inputs.
+#![deny(warnings)]
+
+pub mod compare;
+pub mod library;
+pub mod make;
+pub mod paper;
+pub mod random;

@@ -1,0 +1,65 @@
+//! Random programs.
+use crate::paper::program::{Clause, Program, Set};
+use crate::random::Random;
+
+/// At most so many atoms, clauses and atoms a part.
+#[derive(Clone, Copy)]
+pub struct Size {
+    pub atoms: usize,
+    pub clauses: usize,
+    pub part: usize,
+}
+
+pub const TINY: Size = Size { atoms: 4, clauses: 6, part: 2 };
+pub const SMALL: Size = Size { atoms: 8, clauses: 14, part: 3 };
+pub const MIDDLE: Size = Size { atoms: 60, clauses: 100, part: 4 };
+
+/// A program that some steps apply to: facts, clauses like earlier ones, and bodies that reach few atoms.
+pub fn program(random: &mut Random, size: Size) -> Program {
+    let atoms = random.upto(size.atoms) as u16;
+    let facts = 2 + random.upto(4);
+    let mut program = Program { atoms, clauses: Vec::new() };
+    for _ in 0..random.upto(size.clauses) {
+        let clause = if random.once_in(8) && !program.clauses.is_empty() {
+            let number = random.upto(program.clauses.len() - 1);
+            varied(random, atoms, program.clauses[number].clone())
+        } else {
+            clause(random, atoms, size.part, facts)
+        };
+        program.clauses.push(clause);
+    }
+    program
+}
+
+fn clause(random: &mut Random, atoms: u16, most: usize, facts: usize) -> Clause {
+    let heads = random.pick(&[0, 1, 1, 1, 1, 1, 1, 2, 2, most]);
+    let head = part(random, atoms, heads);
+    if random.once_in(facts) {
+        return Clause { head, ..Clause::default() };
+    }
+    let (positive, negative) = (random.upto(most), random.upto(most));
+    Clause { head, pos: part(random, atoms, positive), neg: part(random, atoms, negative) }
+}
+
+/// An earlier clause, with an atom more or less in one part.
+fn varied(random: &mut Random, atoms: u16, mut clause: Clause) -> Clause {
+    let other = part(random, atoms, 1);
+    let changed = match random.upto(2) {
+        0 => &mut clause.head,
+        1 => &mut clause.pos,
+        _ => &mut clause.neg,
+    };
+    *changed = changed.symmetric_difference(&other).copied().collect();
+    clause
+}
+
+/// At most `most` atoms.
+pub fn part(random: &mut Random, atoms: u16, most: usize) -> Set {
+    let count = if atoms == 0 { 0 } else { most };
+    (0..count).map(|_| random.upto(usize::from(atoms) - 1) as u16).collect()
+}
+
+/// Most often the smallest size.
+pub fn any_size(random: &mut Random) -> Size {
+    random.pick(&[TINY, TINY, SMALL])
+}

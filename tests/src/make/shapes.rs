@@ -1,0 +1,126 @@
+//! Programs of given shapes, up to the largest that a table holds. Each shape is hard for some way of reducing.
+use super::programs::part;
+use crate::paper::program::{words, Clause, Program};
+use crate::random::Random;
+
+/// A shape: `program(size)` for a size from 1 to `full`.
+pub struct Shape {
+    pub name: &'static str,
+    pub full: usize,
+    pub program: fn(usize) -> Program,
+}
+
+pub const SHAPES: [Shape; 9] = [
+    Shape { name: "random sparse", full: 2048, program: sparse },
+    Shape { name: "random sparse with constraints", full: 2048, program: sparse_with_constraints },
+    Shape { name: "chain of facts against clause order", full: 1024, program: chain },
+    Shape { name: "one clause of a thousand conditions", full: 1000, program: conditions },
+    Shape { name: "two thousand equal facts", full: 2047, program: equal_facts },
+    Shape { name: "deep positive loops", full: 819, program: loops },
+    Shape { name: "a reach a thousand rounds deep", full: 1000, program: deep_reach },
+    Shape { name: "subsumption with late partners", full: 743, program: late_partners },
+    Shape { name: "kinds that open one another", full: 255, program: cascade },
+];
+
+fn clause(head: &[usize], pos: &[usize], neg: &[usize]) -> Clause {
+    let part = |atoms: &[usize]| atoms.iter().map(|&atom| atom as u16).collect();
+    Clause { head: part(head), pos: part(pos), neg: part(neg) }
+}
+
+fn program(atoms: usize, clauses: Vec<Clause>) -> Program {
+    Program { atoms: atoms as u16, clauses }
+}
+
+fn sparse(size: usize) -> Program {
+    random_clauses(size, usize::MAX)
+}
+
+fn sparse_with_constraints(size: usize) -> Program {
+    random_clauses(size, 10)
+}
+
+/// Up to `size` random clauses over half as many atoms; one in `constraints` has no head.
+fn random_clauses(size: usize, constraints: usize) -> Program {
+    let mut random = Random::new(size as u64);
+    let atoms = 1 + size / 2;
+    let mut made = program(atoms.min(1024), Vec::new());
+    let mut length = 2;
+    for _ in 0..size {
+        let heads = if random.once_in(constraints.min(1 << 40)) { 0 } else { 1 };
+        let head = part(&mut random, made.atoms, heads);
+        let (positive, negative) = random.pick(&[(0, 0), (1, 0), (1, 0), (0, 1), (1, 1), (2, 0)]);
+        let pos = part(&mut random, made.atoms, positive);
+        let neg = part(&mut random, made.atoms, negative);
+        length += 3 + head.len() + pos.len() + neg.len();
+        if length > 8192 {
+            break;
+        }
+        made.clauses.push(Clause { head, pos, neg });
+    }
+    made
+}
+
+/// 0 <- 1. 1 <- 2. and so on to a last fact: each success makes the clause before it a fact.
+fn chain(size: usize) -> Program {
+    let mut clauses: Vec<Clause> = (1..size).map(|i| clause(&[i - 1], &[i], &[])).collect();
+    clauses.push(clause(&[size - 1], &[], &[]));
+    program(size, clauses)
+}
+
+/// As many facts as one clause has conditions, which all succeed.
+fn conditions(size: usize) -> Program {
+    let mut clauses: Vec<Clause> = (0..size).map(|i| clause(&[i], &[], &[])).collect();
+    clauses.push(clause(&[size], &(0..size).collect::<Vec<_>>(), &[]));
+    program(size + 1, clauses)
+}
+
+fn equal_facts(size: usize) -> Program {
+    program(1, vec![clause(&[0], &[], &[]); size])
+}
+
+/// A ring of atoms, each derived from either of the next two, and nothing from outside.
+fn loops(size: usize) -> Program {
+    let next = |i: usize, by: usize| clause(&[i], &[(i + by) % size], &[]);
+    program(size, (0..size).flat_map(|i| [next(i, 1), next(i, 2)]).filter(|c| c.head != c.pos).collect())
+}
+
+/// A chain from a disjunctive fact, against clause order, and rings of two that it doesn't reach, each derived twice.
+fn deep_reach(size: usize) -> Program {
+    let rings = size / 8;
+    let deep = size - 2 * rings;
+    let mut clauses: Vec<Clause> = (1..deep).rev().map(|i| clause(&[i], &[i - 1], &[])).collect();
+    clauses.push(clause(&[0, size], &[], &[]));
+    for (a, b) in (0..rings).map(|ring| (deep + 2 * ring, deep + 2 * ring + 1)) {
+        clauses.extend([clause(&[a], &[b], &[]), clause(&[a], &[b], &[0]), clause(&[b], &[a], &[])]);
+    }
+    program(size + 1, clauses)
+}
+
+/// Clauses whose only subsuming partner stands in the second half.
+fn late_partners(size: usize) -> Program {
+    let mut clauses = vec![clause(&[0, 1], &[], &[])];
+    clauses.extend((0..size).map(|i| clause(&[2 + i], &[0, 1], &[])));
+    clauses.extend((0..size).map(|i| clause(&[2 + i], &[0], &[])));
+    program(size + 2, clauses)
+}
+
+/// Rounds of success, blocked, no head and failure, each opened by the one before; the rounds stand against clause order.
+fn cascade(size: usize) -> Program {
+    let mut clauses = Vec::new();
+    for (a, b, c, d) in (0..size).rev().map(|i| (4 * i, 4 * i + 1, 4 * i + 2, 4 * i + 3)) {
+        clauses.extend([
+            clause(&[d], &[c], &[]),
+            clause(&[a + 4], &[], &[c]),
+            clause(&[c], &[], &[b]),
+            clause(&[b], &[a], &[]),
+        ]);
+    }
+    clauses.push(clause(&[0], &[], &[]));
+    program(4 * size + 1, clauses)
+}
+
+impl Shape {
+    pub fn table(&self, size: usize) -> Vec<u16> {
+        words(&(self.program)(size))
+    }
+}

@@ -1,0 +1,42 @@
+//! Checking a list: 9, 11, then 12 to 16 step by step.
+use super::steps::{has_partner, Left, Step};
+use super::table::Table;
+use super::{ask, Answer, Refused};
+
+/// The answer, and the marks afterwards.
+pub fn check(words: &[u16], marks: &[u8], list: &[u16]) -> (Answer, Vec<u8>) {
+    let mut after = marks.to_vec();
+    let answer = check_on(words, &mut after, list);
+    (answer, after)
+}
+
+fn check_on(words: &[u16], marks: &mut [u8], list: &[u16]) -> Answer {
+    let table = Table::read(words)?;
+    ask(marks.len() >= words.len(), 9, 0)?;
+    ask(list.len() % 4 == 0 && list.len() <= 32760, 11, 0)?;
+    marks[..words.len()].fill(1);
+    for (number, step) in list.chunks(4).enumerate() {
+        let step = Step::new(step[0], step[1], step[2], step[3]);
+        let left = Left::new(&table, marks);
+        questions(&left, step, number)?;
+        marks[left.cleared(&table, step)] = 0;
+    }
+    Ok(list.len() as u64 / 4)
+}
+
+/// Questions 12 to 16 of one step.
+pub fn questions(left: &Left, step: Step, number: usize) -> Result<(), Refused> {
+    ask((1..=8).contains(&step.kind), 12, number)?;
+    ask(left.kept(step.target).is_some(), 13, number)?;
+    let partner_is_right = match has_partner(step.kind) {
+        true => left.kept(step.partner).is_some() && step.partner != step.target,
+        false => step.partner == 0,
+    };
+    ask(partner_is_right, 14, number)?;
+    let atom_is_right = match has_partner(step.kind) {
+        true => step.atom == 0,
+        false => step.atom < left.atoms,
+    };
+    ask(atom_is_right, 15, number)?;
+    ask(left.condition(step), 16, number)
+}

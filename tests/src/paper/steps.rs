@@ -1,0 +1,113 @@
+//! The eight steps.
+use super::program::{Clause, Set};
+use super::table::Table;
+use std::cell::OnceCell;
+
+#[derive(Clone, Copy, Debug, PartialEq, Eq)]
+pub struct Step {
+    pub kind: u16,
+    pub target: u16,
+    pub partner: u16,
+    pub atom: u16,
+}
+
+impl Step {
+    pub fn new(kind: u16, target: u16, partner: u16, atom: u16) -> Step {
+        Step { kind, target, partner, atom }
+    }
+
+    pub fn words(&self) -> [u16; 4] {
+        [self.kind, self.target, self.partner, self.atom]
+    }
+}
+
+/// "kinds 3, 5, 8 no atom word", "Kinds 1, 2, 4, 6, 7 have no partner word"
+pub fn has_partner(kind: u16) -> bool {
+    matches!(kind, 3 | 5 | 8)
+}
+
+/// The program as left at one moment.
+pub struct Left {
+    pub atoms: u16,
+    pub clauses: Vec<Option<Clause>>,
+    heads: OnceCell<Set>,
+    reach: OnceCell<Set>,
+}
+
+impl Left {
+    pub fn new(table: &Table, marks: &[u8]) -> Left {
+        Left { atoms: table.atoms, clauses: table.left(marks), heads: OnceCell::new(), reach: OnceCell::new() }
+    }
+
+    pub fn kept(&self, clause: u16) -> Option<&Clause> {
+        self.clauses.get(usize::from(clause))?.as_ref()
+    }
+
+    /// Whether an atom is "in the head of no kept clause".
+    fn in_no_head(&self, atom: u16) -> bool {
+        let heads = || self.clauses.iter().flatten().flat_map(|clause| clause.head.iter().copied()).collect();
+        !self.heads.get_or_init(heads).contains(&atom)
+    }
+
+    /// "the smallest set that holds all head atoms of every kept clause whose positive atoms it holds"
+    fn reach(&self) -> &Set {
+        self.reach.get_or_init(|| {
+            let mut reach = Set::new();
+            loop {
+                let before = reach.len();
+                for clause in self.clauses.iter().flatten() {
+                    if clause.pos.is_subset(&reach) {
+                        reach.extend(&clause.head);
+                    }
+                }
+                if reach.len() == before {
+                    return reach;
+                }
+            }
+        })
+    }
+
+    /// Whether the step's condition holds. The target and the partner are kept, different clauses.
+    pub fn condition(&self, step: Step) -> bool {
+        let Some(target) = self.kept(step.target) else { return false };
+        let atom = &step.atom;
+        let partner = |holds: &dyn Fn(&Clause) -> bool| self.kept(step.partner).is_some_and(holds);
+        match step.kind {
+            1 => target.head.contains(atom) && target.pos.contains(atom),
+            2 => target.pos.contains(atom) && target.neg.contains(atom),
+            3 => partner(&|fact| fact.is_fact() && fact.head.len() == 1 && fact.head.is_subset(&target.pos)),
+            4 => target.neg.contains(atom) && self.in_no_head(*atom),
+            5 => partner(&|fact| fact.is_fact() && fact.head.is_subset(&target.neg)),
+            6 => target.pos.contains(atom) && self.in_no_head(*atom),
+            7 => target.pos.contains(atom) && !self.reach().contains(atom),
+            8 => partner(&|small| {
+                small.head.is_subset(&target.head)
+                    && small.pos.is_subset(&target.pos)
+                    && small.neg.is_subset(&target.neg)
+            }),
+            _ => false,
+        }
+    }
+
+    /// The words that may stand behind kind and target.
+    pub fn choices(&self, kind: u16, target: u16) -> Vec<Step> {
+        if has_partner(kind) {
+            let others = (0..self.clauses.len() as u16).filter(|&partner| partner != target);
+            others.map(|partner| Step::new(kind, target, partner, 0)).collect()
+        } else {
+            (0..self.atoms).map(|atom| Step::new(kind, target, 0, atom)).collect()
+        }
+    }
+
+    /// The mark that a step clears: of the clause's first word, or of the literal dropped.
+    pub fn cleared(&self, table: &Table, step: Step) -> usize {
+        let span = &table.spans[usize::from(step.target)];
+        let literal =
+            |part: &std::ops::Range<usize>, atom: u16| part.clone().find(|&i| table.words[i] == atom).unwrap();
+        match step.kind {
+            3 => literal(&span.pos, *self.kept(step.partner).unwrap().head.first().unwrap()),
+            4 => literal(&span.neg, step.atom),
+            _ => span.first,
+        }
+    }
+}

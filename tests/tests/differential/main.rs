@@ -1,0 +1,70 @@
+//! The library compared with document 01 on random and damaged input. Seeds are fixed and printed; GAMBROLT_ROUNDS=k
+//! makes k rounds, each with seeds of its own and, past the first, the full-size tables asked at more of their steps.
+#![deny(warnings)]
+#![allow(unused_must_use)] // a comparison fails by itself
+mod full_size;
+mod models;
+mod steps;
+mod tables;
+mod texts;
+
+use gambrolt_tests::compare::Tally;
+use gambrolt_tests::make::shapes::SHAPES;
+use gambrolt_tests::random::Random;
+use std::time::Instant;
+
+/// A group of cases: its name, how many draws it makes, and what one draw compares.
+type Group = (&'static str, u64, fn(&mut Random, &mut Tally));
+
+const GROUPS: [Group; 11] = [
+    ("tables", 120_000, tables::damaged),
+    ("lists", 100_000, steps::checked),
+    ("reducing", 60_000, steps::reduced),
+    ("reducing, middle sizes", 400, steps::reduced_middle),
+    ("reduced tables", 60_000, tables::reduced),
+    ("sets", 40_000, models::tested),
+    ("sets of 16", 20, models::largest_sets),
+    ("models before and after", 10_000, models::same_models),
+    ("texts read", 80_000, texts::read),
+    ("texts at the limits", 20, texts::at_the_limits),
+    ("texts written", 20_000, texts::written),
+];
+
+fn main() {
+    let rounds =
+        std::env::var("GAMBROLT_ROUNDS").map_or(1, |rounds| rounds.parse().expect("GAMBROLT_ROUNDS is a number"));
+    let mut tally = Tally::new();
+    for round in 0..rounds {
+        for (number, group) in GROUPS.iter().enumerate() {
+            run(group, 1_000_000 * round + 1_000 * (1 + number as u64), &mut tally);
+        }
+        for shape in &SHAPES {
+            full_size::reduced(shape, if round == 0 { 6 } else { 60 }, &mut tally);
+        }
+    }
+    report(&tally);
+}
+
+fn run((name, draws, compare): &Group, seed: u64, tally: &mut Tally) {
+    let (cases, start) = (tally.cases, Instant::now());
+    println!("{name}: seed {seed}, {draws} draws");
+    for draw in 0..*draws {
+        let mut random = Random::new(seed.wrapping_mul(1 << 32) + draw);
+        compare(&mut random, tally);
+    }
+    println!("  {} cases, {:.1} s", tally.cases - cases, start.elapsed().as_secs_f64());
+}
+
+/// Fails where a question was never met, or where there were too few cases.
+fn report(tally: &Tally) {
+    println!("{} cases; refusals by question:", tally.cases);
+    for (number, &count) in tally.met.iter().enumerate().skip(1) {
+        println!("  {number:2}: {count}");
+    }
+    println!("steps made by kind: {:?}", &tally.made[1..]);
+    assert!(tally.made[1..].iter().all(|&steps| steps > 0), "a kind of step was never made");
+    let never: Vec<usize> = (1..=28).filter(|&number| tally.met[number] == 0).collect();
+    assert!(never.is_empty(), "questions never met: {never:?}");
+    assert!(tally.cases >= 200_000, "too few cases");
+    println!("differential tests: ok");
+}

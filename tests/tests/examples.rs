@@ -1,0 +1,124 @@
+//! Document 01's examples, asked of the library: those that are run and compared, with the values that it gives.
+#![deny(warnings)]
+use gambrolt_tests::compare::Tally;
+use gambrolt_tests::library;
+use gambrolt_tests::paper::program::{parse, words, Clause, Program};
+use gambrolt_tests::paper::{Answer, Refused};
+
+fn refused(number: u64, place: u64) -> Answer {
+    Err(Refused { number, place })
+}
+
+/// The words of a program as document 01 writes it.
+fn table(atoms: u16, program: &str) -> Vec<u16> {
+    words(&parse(atoms, program))
+}
+
+/// The reducer's steps, and the marks that they leave.
+fn reduce(table: &[u16]) -> (Vec<[u16; 4]>, Vec<u8>) {
+    let (steps, marks, list) = library::reduce(table, &vec![7; table.len()], &vec![7; 4 * table.len()]);
+    let list = list.chunks(4).take(steps as usize).map(|step| step.try_into().unwrap());
+    (list.collect(), marks)
+}
+
+fn steps(table: &[u16]) -> Vec<[u16; 4]> {
+    reduce(table).0
+}
+
+/// The table that the reducer's marks leave.
+fn reduced(table: &[u16]) -> Vec<u16> {
+    let (written, mut out) = library::reduced_table(table, &reduce(table).1, table);
+    out.truncate(written as usize);
+    out
+}
+
+/// The first `facts` atoms are facts, and the last atom has all others as conditions.
+fn conditions(atoms: u16, facts: u16) -> Vec<u16> {
+    let fact = |atom: u16| Clause { head: [atom].into(), ..Clause::default() };
+    let mut clauses: Vec<Clause> = (0..facts).map(fact).collect();
+    clauses.push(Clause { head: [atoms - 1].into(), pos: (0..atoms - 1).collect(), ..Clause::default() });
+    words(&Program { atoms, clauses })
+}
+
+#[test]
+fn three_hundred_conditions_and_299_facts() {
+    let table = conditions(301, 299);
+    let mut expected: Vec<[u16; 4]> = (0..299).map(|fact| [3, 299, fact, 0]).collect();
+    expected.push([6, 299, 0, 299]);
+    assert_eq!(steps(&table), expected);
+    let facts = parse(301, &(0..299).map(|i| format!("{i}.")).collect::<String>());
+    assert_eq!(reduced(&table), words(&facts), "300 never becomes a fact");
+}
+
+#[test]
+fn three_hundred_conditions_and_300_facts() {
+    let table = conditions(301, 300);
+    assert_eq!(steps(&table), (0..300).map(|fact| [3, 300, fact, 0]).collect::<Vec<_>>());
+    let facts = parse(301, &(0..301).map(|i| format!("{i}.")).collect::<String>());
+    assert_eq!(reduced(&table), words(&facts), "300 becomes a fact");
+}
+
+#[test]
+fn a_thousand_conditions() {
+    let table = conditions(1001, 1000);
+    assert_eq!(steps(&table), (0..1000).map(|fact| [3, 1000, fact, 0]).collect::<Vec<_>>());
+}
+
+#[test]
+fn limits() {
+    let mut tally = Tally::new();
+    assert_eq!(tally.check_table(&[1024, 0]), Ok(0));
+    assert_eq!(tally.check_table(&[1025, 0]), refused(2, 0));
+    assert_eq!(tally.test(&[16, 0], &(0..16).collect::<Vec<_>>()), Ok(0));
+    assert_eq!(tally.test(&[17, 0], &(0..17).collect::<Vec<_>>()), refused(19, 0));
+    assert_eq!(tally.check_table(&[0; 8193]), refused(1, 0));
+    assert_eq!(tally.check_table(&[0; 8192]), refused(8, 2));
+    assert_eq!(tally.check_table(&[0, 2048]), refused(4, 2));
+    assert_eq!(tally.check_table(&[0, 2049]), refused(3, 1));
+}
+
+#[test]
+fn traps() {
+    assert_eq!(steps(&table(3, "0|1. 2 <- 0.")), [[0; 4]; 0], "a disjunctive fact is used for success");
+    assert_eq!(
+        steps(&table(2, "0 <- 0. 1 <- 0.")),
+        [[1, 0, 0, 0], [6, 1, 0, 0]],
+        "a head is looked up in a deleted clause"
+    );
+    assert_eq!(steps(&table(2, "0 <- 1, ~0. 1 <- ~0.")), [[0; 4]; 0], "negative atoms count in the reach");
+}
+
+#[test]
+fn the_sample() {
+    let text =
+        "atoms=4\nclauses=4\nhead=0\npos=\nneg=\nhead=1\npos=0\nneg=2\nhead=3\npos=3\nneg=\nhead=2\npos=3\nneg=\n";
+    let (answer, read) = Tally::new().read_text(text.as_bytes(), &[0; 8192]);
+    let read = &read[..answer.unwrap() as usize];
+    assert_eq!(read, table(4, "0. 1 <- 0, ~2. 3 <- 3. 2 <- 3."));
+    assert_eq!(steps(read), [[1, 2, 0, 3], [3, 1, 0, 0], [6, 3, 0, 3], [4, 1, 0, 2]]);
+    assert_eq!(reduced(read), table(4, "0. 1."));
+    let (answer, out) = Tally::new().write_text(&reduced(read), &[0; 100]);
+    let written = String::from_utf8(out[..answer.unwrap() as usize].to_vec()).unwrap();
+    assert_eq!(written, "atoms=4\nclauses=2\nhead=0\npos=\nneg=\nhead=1\npos=\nneg=\n");
+}
+
+#[test]
+fn small_programs() {
+    assert_eq!(steps(&table(2, "0 <- 1. 1 <- 0.")), [[7, 0, 0, 1], [6, 1, 0, 0]]);
+    assert_eq!(steps(&table(2, "0 <- 1.")), [[6, 0, 0, 1]]);
+    assert_eq!(steps(&table(2, "0. 0.")), [[8, 0, 1, 0]]);
+    assert_eq!(steps(&table(2, "0 <- ~0.")), [[0; 4]; 0]);
+    let check = |program: &str, list: &[u16]| Tally::new().check(&table(2, program), &[7; 20], list).0;
+    assert_eq!(check("0 <- 1.", &[7, 0, 0, 1]), Ok(1));
+    assert_eq!(check("0.", &[8, 0, 0, 0]), refused(14, 0));
+    assert_eq!(check("<- .", &[5, 0, 0, 0]), refused(14, 0));
+    let test = |program: &str, set: &[u16]| Tally::new().test(&table(2, program), set);
+    assert_eq!(test("", &[]), Ok(1));
+    assert_eq!(test("<- .", &[]), Ok(0));
+    assert_eq!(test("0|1. 0 <- 1. 1 <- 0.", &[0, 1]), Ok(1));
+    assert_eq!(test("0|1. 0 <- 1. 1 <- 0.", &[0]), Ok(0));
+    assert_eq!(test("0 <- 1. 0 <- ~1. 1 <- 0.", &[0, 1]), Ok(0));
+    assert_eq!(test("0 <- ~1. 1 <- ~0.", &[0]), Ok(1));
+    assert_eq!(test("0 <- ~1. 1 <- ~0.", &[0, 1]), Ok(0));
+    assert_eq!(Tally::new().cycle(&table(2, "0 <- ~1. 1 <- ~0.")), Ok(1));
+}
