@@ -274,7 +274,7 @@ static int read_statements(struct order *o, struct reader *r, struct rule *rule)
 
 int order_from_aspif(struct order *o, struct fault *f)
 {
-    const char *from = o->bytes.at ? o->bytes.at : "";
+    const char *from = bytes_of(&o->bytes);
     struct reader r = {from, from + o->bytes.len, 1, NO_STATEMENT, f};
     struct rule rule = {0};
     program_start(&o->program);

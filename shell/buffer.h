@@ -11,6 +11,12 @@ struct buffer {
     size_t len, room;
 };
 
+/* Its bytes, of which there may be none. */
+static inline const char *bytes_of(const struct buffer *b)
+{
+    return b->at ? b->at : "";
+}
+
 void put(struct buffer *b, const char *bytes, size_t len);
 void putf(struct buffer *b, const char *format, ...) __attribute__((format(printf, 2, 3)));
 void buffer_free(struct buffer *b);

@@ -140,7 +140,7 @@ int names_learn(struct names *names, const struct buffer *text)
     size_t next = 0; /* the next statement of the order */
     int all = 1;
 
-    for (const char *line = text->at, *end = text->at + text->len; all && line && line < end;) {
+    for (const char *line = bytes_of(text), *end = line + text->len; all && line < end;) {
         const char *stop = memchr(line, '\n', (size_t)(end - line));
         stop = stop ? stop : end;
         if (read_named(&named, line, stop) == 0) {

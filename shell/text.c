@@ -31,7 +31,7 @@ int order_from_text(struct order *o, struct fault *f)
 {
     struct buffer text = o->bytes, aspif = {0};
     uint16_t table[GAMBROLT_MAX_WORDS];
-    uint64_t answer = gambrolt_read_text((const uint8_t *)(text.at ? text.at : ""), text.len, table, GAMBROLT_MAX_WORDS);
+    uint64_t answer = gambrolt_read_text((const uint8_t *)bytes_of(&text), text.len, table, GAMBROLT_MAX_WORDS);
     unsigned number = gambrolt_refusal(answer);
     if (number)
         return refuse(f, "line %zu: text: %s (refused=%u,%llu); %s", line_of(&text, gambrolt_value(answer)),
