@@ -1,6 +1,8 @@
 # make run: proves and builds what can be run, and runs it. make test: everything that is checked.
 # make lib: the library for C; make install PREFIX=..: header, library and pkg-config file. make bench: docs/BENCHMARKS.md's table.
-.PHONY: run test lib install bench test-lib test-c clean
+# make shell: the program `gambrolt` in build/; make install-shell: it and its man page. make test-shell: its tests.
+# make fuzz: a minute of a fuzzer on it.
+.PHONY: run test lib install bench test-lib test-c shell install-shell test-shell fuzz clean compiler FORCE
 
 PREFIX ?= /usr/local
 LIB_DIR := $(CURDIR)/target/staticlib
@@ -39,8 +41,52 @@ install: lib
 	install -m 644 $(LIB_DIR)/libgambrolt.a $(DESTDIR)$(PREFIX)/lib/
 	sed 's|@PREFIX@|$(PREFIX)|' include/gambrolt.pc.in > $(DESTDIR)$(PREFIX)/lib/pkgconfig/gambrolt.pc
 
+install-shell: shell
+	install -d $(DESTDIR)$(PREFIX)/bin $(DESTDIR)$(PREFIX)/share/man/man1
+	install -m 755 build/gambrolt $(DESTDIR)$(PREFIX)/bin/
+	install -m 644 shell/gambrolt.1 $(DESTDIR)$(PREFIX)/share/man/man1/
+
 bench: lib
 	$(CARGO_ENV) cargo run --offline --release --quiet --manifest-path bench/Cargo.toml
+
+# ---- the shell: C over the library ----
+LIBGAMBROLT = $(LIB_DIR)/libgambrolt.a
+GAMBROLT_INCLUDE = include
+STRICT = -std=c11 -Wall -Wextra -Werror -I$(GAMBROLT_INCLUDE) -Ishell
+SANITIZE = -g -O1 -fsanitize=address,undefined -fno-sanitize-recover=all -fno-omit-frame-pointer
+SHELL_PARTS = $(filter-out shell/gambrolt.c,$(wildcard shell/*.c))
+SHELL_FILES = $(wildcard shell/*.c shell/*.h shell/tests/*.c) $(GAMBROLT_INCLUDE)/gambrolt.h $(LIBGAMBROLT)
+
+compiler:
+	@command -v $(CC) >/dev/null || { apt-get update && apt-get install -y gcc libc6-dev; } >/dev/null
+
+$(LIB_DIR)/libgambrolt.a: FORCE
+	@rt staticlib gambrolt
+
+shell: build/gambrolt
+
+build/gambrolt: $(SHELL_FILES) | compiler
+	@mkdir -p build
+	$(CC) $(STRICT) -O2 shell/*.c $(LIBGAMBROLT) -o $@
+
+build/sanitized/gambrolt: $(SHELL_FILES) | compiler
+	@mkdir -p build/sanitized
+	$(CC) $(STRICT) $(SANITIZE) shell/*.c $(LIBGAMBROLT) -o $@
+
+build/sanitized/%: shell/tests/%.c $(SHELL_FILES) | compiler
+	@mkdir -p build/sanitized
+	$(CC) $(STRICT) $(SANITIZE) $< $(SHELL_PARTS) $(LIBGAMBROLT) -o $@
+
+# the program over a library that says what is not so
+build/lying: $(SHELL_FILES) | compiler
+	@mkdir -p build
+	$(CC) $(STRICT) -O2 shell/*.c shell/tests/lying.c -Wl,--wrap=gambrolt_reduce $(LIBGAMBROLT) -o $@
+
+test-shell: build/gambrolt build/lying build/sanitized/gambrolt build/sanitized/builder build/sanitized/damage
+	@sh shell/tests/run.sh
+
+fuzz: $(LIBGAMBROLT)
+	@sh shell/tests/fuzz.sh '$(STRICT)' '$(LIBGAMBROLT)'
 
 clean:
 	rm -rf target build
