@@ -123,15 +123,18 @@ ask-no true q r v w f e = f e
 ask-no false q r v w f e = e
 
 module _ (n : ℕ) (P : Marked) (s : Step) where
-  pub shape-inv : Fine ≡ shapeQuestions n P s Fine → Shaped n P s
+  pub shape-both : (v : Verdict) → Fine ≡ shapeQuestions n P s v → Shaped n P s × (v ≡ Fine)
   unfolding shapeQuestions
-  shape-inv e =
+  shape-both v e =
       let (a, e1) = ask-inv _ _ _ (sym e) in
       let (b, e2) = ask-inv _ _ _ e1 in
       let (c, e3) = ask-inv _ _ _ e2 in
       let (d, e4) = ask-inv _ _ _ e3 in
       let w = and-iff (leb 1 (s .kind)) (leb (s .kind) 8) .0 a in
-      record { low = leb-true _ _ (w .0); high = leb-true _ _ (w .1); target = b; partner = c; atom = d }
+      (record { low = leb-true _ _ (w .0); high = leb-true _ _ (w .1); target = b; partner = c; atom = d }, e4)
+
+  pub shape-inv : Fine ≡ shapeQuestions n P s Fine → Shaped n P s
+  shape-inv e = shape-both Fine e .0
 
   shape-no : (q : StepQuestion) (v : Verdict) → No q ≡ shapeQuestions n P s Fine → No q ≡ shapeQuestions n P s v
   unfolding shapeQuestions
@@ -307,3 +310,8 @@ module _ (ws ms ls : List ℕ) where
 
     pub leaves-made : (ms₁ ms′ : List ℕ) (r : CheckAnswer) → length ws ≤ length ms → listFits ls ≡ true → ms₁ ≡ allKept ws ms → Leaves (stepsFrom ws ms₁ ls 0 (length ls / 4)) r ms′ → Leaves (checkList ws ms ls) r ms′
     leaves-made ms₁ ms′ r h f q l = subst (λ o. Leaves o r ms′) (ap (λ k. stepsFrom ws k ls 0 (length ls / 4)) q ∙ sym (check-made h f)) l
+
+-- A step that no question is answered no of is applicable.
+pub fine-applies : (n : ℕ) (P : Marked) (s : Step) → Fine ≡ stepQuestions n P s → So (applies n P (stepOf s))
+unfolding stepQuestions
+fine-applies n P s e = let w = shape-both n P s (ask (conditionHolds P (stepOf s)) ConditionHolds Fine) e in applies-of n P s (w .0) (ask-inv (conditionHolds P (stepOf s)) ConditionHolds Fine (w .1) .0)

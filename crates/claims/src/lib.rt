@@ -1,0 +1,1 @@
+// The demands as theorems over the definitions that the calls equate their results with.
