@@ -4,3 +4,5 @@ pub mod Texts
 pub mod Reductions
 pub mod Reduced
 pub mod StableExamples
+pub mod Lists
+pub mod ListExamples

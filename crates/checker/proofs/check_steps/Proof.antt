@@ -1,0 +1,17 @@
+-- `checker::check_steps` meets its contract.
+use native.Mathlib.Omega.{arith}
+use Rattle.table.proofs.Encoding.{passed-limits}
+use borrow.Author.Needs.{needs}
+use Rattle.checker.proofs.check_steps.Statement.{statement}
+use Rattle.checker.proofs.check_steps.Tie as tie
+
+clause-starts-requires : tie.Need-clause-starts-requires
+clause-starts-requires c κs = (c .before .before .before .before .pre .0, omega (arith, passed-limits _ (c .before .before .before .before .pre .0) .fewClauses))
+
+take-steps-requires : tie.Need-take-steps-requires
+take-steps-requires c κs = (record { placed = c .before .before .before .before .before .clause-starts .ensures; marks = c .before .before .before .before .before .before .before .before .before .before .pre .1 }, (omega (arith, passed-limits _ (c .before .before .before .before .before .before .before .before .before .before .pre .0) .fewAtoms), omega (arith, passed-limits _ (c .before .before .before .before .before .before .before .before .before .before .pre .0) .fewAtoms)))
+
+pub check-steps-spec : {M : Type 1} → statement M
+check-steps-spec =
+    tie.close
+    (tie.spec (λ c. search needs) clause-starts-requires (λ c. search needs) (λ c. search needs) (λ c. search needs) take-steps-requires (λ c. search needs) (λ c. search needs))

@@ -1,0 +1,183 @@
+-- Checking a list keeps the stable models, whatever its answer; what a refused call leaves; and marks past the table.
+use mathlib.Core.Path.{_≡_, refl, sym, ap, subst, _∙_}
+use mathlib.Core.Logic.{_↔_, Iff·trans, Iff·rfl}
+use mathlib.Core.Bool.{Bool, true, false, So}
+use mathlib.Core.List.{List, [], _∷_, _++_}
+use Prim.Native.Nat.{ℕ, zero, suc, _+_, _-_, _*_, _/_, _≤_, _<_}
+use native.Mathlib.Omega.{arith}
+use native.Mathlib.Nat.{add-zero}
+use lib.Dec.{leb}
+use lib.ListN.{length, getD, set, take, drop, replicate, length-replicate}
+use lib.Seq.{drop-set-lt, drop-at}
+use borrow.Author.Tests.{leb-true}
+use Rattle.semantics.specs.Programs.{Atoms, Program, program, Stable}
+use Rattle.rewriting.specs.Marked.{left}
+use Rattle.rewriting.specs.Steps.{applies, effect}
+use Rattle.rewriting.proofs.Sound.{step-sound}
+use Rattle.table.specs.declared.StepQuestion.{StepQuestion}
+use Rattle.table.specs.declared.CallQuestion.{CallQuestion}
+use Rattle.table.specs.declared.CallQuestion.the-variants.{MarksLength, ListLength}
+use Rattle.table.specs.declared.Refusal.{Refusal}
+use Rattle.table.specs.declared.Refusal.the-variants as refusal
+use Rattle.table.specs.declared.Checked.{Checked}
+use Rattle.table.specs.declared.Checked.the-variants as checked
+use Rattle.table.specs.Questions.{Passed, tableOf}
+use Rattle.table.specs.Places.{programOf}
+use Rattle.table.specs.View.{view, allKept, marksAfter}
+use Rattle.table.proofs.Laws.{one-left}
+use Rattle.table.proofs.Encoding.{valid-passed}
+use Rattle.table.proofs.View.{view-after, length-after, clears-lt}
+use Rattle.table.proofs.Parts.{left-allKept, length-allKept}
+use Rattle.conditions.specs.Known.{stepOf}
+use Rattle.checker.specs.declared.CheckAnswer.{CheckAnswer}
+use Rattle.checker.specs.declared.CheckAnswer.the-variants.{Accepted, Refused}
+use Rattle.checker.specs.declared.Verdict.{Verdict}
+use Rattle.checker.specs.declared.Verdict.the-variants.{Fine, No}
+use Rattle.checker.specs.Lists.{stepAt, stepQuestions, Outcome, refused, onward, stepsFrom, listFits, askCall, checkOn, checkList}
+use Rattle.checker.proofs.Laws.{fine-applies, check-made}
+
+-- ---- the steps
+
+-- the program that marks leave
+abbrev pub programLeft : List ℕ → List ℕ → Program
+programLeft ws ms = program (getD ws 0 0) (left (view ws ms))
+
+module _ (ws ls : List ℕ) (passed : Passed ws) where
+  -- what holds of the marks and is kept by every applicable step holds of the marks that the steps leave
+  steps-keep : (Q : List ℕ → Type 0) → ((ms : List ℕ) (k : ℕ) → length ws ≤ length ms → So (applies (getD ws 0 0) (view ws ms) (stepOf (stepAt ls k))) → Q (marksAfter ws ms (stepOf (stepAt ls k))) → Q ms)
+      → (left k : ℕ) (ms : List ℕ) → length ws ≤ length ms → Q (stepsFrom ws ms ls k left .marks) → Q ms
+  unfolding stepsFrom
+  steps-keep Q f zero k ms l q = q
+  steps-keep Q f (suc left) k ms l q = go (stepQuestions (getD ws 0 0) (view ws ms) (stepAt ls k)) refl q
+      (λ a. steps-keep Q f left (k + 1) (marksAfter ws ms (stepOf (stepAt ls k))) (omega (arith, length-after ws ms (stepOf (stepAt ls k)))) a)
+    where
+      go : (v : Verdict) → stepQuestions (getD ws 0 0) (view ws ms) (stepAt ls k) ≡ v
+          → Q (onward v k ms (stepsFrom ws (marksAfter ws ms (stepOf (stepAt ls k))) ls (k + 1) left) .marks)
+          → (Q (stepsFrom ws (marksAfter ws ms (stepOf (stepAt ls k))) ls (k + 1) left .marks) → Q (marksAfter ws ms (stepOf (stepAt ls k)))) → Q ms
+      go Fine e q r = f ms k l (fine-applies (getD ws 0 0) (view ws ms) (stepAt ls k) (sym e)) (r q)
+      go (No x) e q r = q
+
+  steps-models : (left k : ℕ) (ms : List ℕ) → length ws ≤ length ms → (M : Atoms) → Stable (programLeft ws ms) M ↔ Stable (programLeft ws (stepsFrom ws ms ls k left .marks)) M
+  steps-models left k ms l M = steps-keep (λ x. Stable (programLeft ws x) M ↔ Stable (programLeft ws (stepsFrom ws ms ls k left .marks)) M)
+      (λ x j b h r. Iff·trans (subst (λ P. Stable (programLeft ws x) M ↔ Stable (program (getD ws 0 0) (Rattle.rewriting.specs.Marked.left P)) M) (sym (view-after ws x passed b (getD ws 0 0) (stepOf (stepAt ls j)) h)) (step-sound (getD ws 0 0) (view ws x) (stepOf (stepAt ls j)) h M)) r)
+      left k ms l Iff·rfl
+
+  steps-past : (left k : ℕ) (ms : List ℕ) → length ws ≤ length ms → drop (length ws) (stepsFrom ws ms ls k left .marks) ≡ drop (length ws) ms
+  unfolding marksAfter
+  steps-past left k ms l = steps-keep (λ x. drop (length ws) (stepsFrom ws ms ls k left .marks) ≡ drop (length ws) x)
+      (λ x j b h r. r ∙ drop-set-lt (length ws) x _ 0 (clears-lt ws x passed b (getD ws 0 0) (stepOf (stepAt ls j)) h))
+      left k ms l refl
+
+steps-count : (ws ls : List ℕ) (left k : ℕ) (ms : List ℕ) (s : ℕ) → stepsFrom ws ms ls k left .answer ≡ Accepted s → s ≡ k + left
+unfolding stepsFrom onward
+steps-count ws ls zero k ms s e = let q : k ≡ s = cc in omega arith
+steps-count ws ls (suc left) k ms s e = go (stepQuestions (getD ws 0 0) (view ws ms) (stepAt ls k)) e (steps-count ws ls left (k + 1) (marksAfter ws ms (stepOf (stepAt ls k))) s)
+  where
+    go : (v : Verdict) → onward v k ms (stepsFrom ws (marksAfter ws ms (stepOf (stepAt ls k))) ls (k + 1) left) .answer ≡ Accepted s
+        → (stepsFrom ws (marksAfter ws ms (stepOf (stepAt ls k))) ls (k + 1) left .answer ≡ Accepted s → s ≡ k + 1 + left) → s ≡ k + suc left
+    go Fine e f = let q = f e in omega arith
+    go (No x) e f = let z : _≡_ {A = ℕ} 0 1 = cc in absurd (omega arith)
+
+-- ---- the whole call
+
+-- For every table that passes and every list, accepted or refused at a step: every set is stable for the program given exactly when it is for the
+-- program as the marks leave it. ("That the models stay the same is one claim about the whole list, not one for each step.")
+pub list-keeps-models : (ws ms ls : List ℕ) → Passed ws → length ws ≤ length ms → So (listFits ls) → (M : Atoms)
+    → Stable (programOf ws) M ↔ Stable (programLeft ws (checkList ws ms ls .marks)) M
+unfolding programOf
+list-keeps-models ws ms ls p l f M = subst (λ o. Stable (programOf ws) M ↔ Stable (programLeft ws (o .marks)) M) (sym (check-made ws ms ls _ (p .valid) l f))
+    (subst (λ cs. Stable (program (getD ws 0 0) cs) M ↔ Stable (programLeft ws (stepsFrom ws (allKept ws ms) ls 0 (length ls / 4) .marks)) M) (left-allKept ws ms p)
+    (steps-models ws ls p (length ls / 4) 0 (allKept ws ms) (omega (arith, length-allKept ws ms l)) M))
+
+-- the outcome of a call: refused with the marks as they were, or the steps from all marks 1
+data Came (ws ms ls : List ℕ) : Outcome → Type 0 where
+  early : (r : Refusal) → Came ws ms ls (refused r ms)
+  stepped : Passed ws → length ws ≤ length ms → Came ws ms ls (stepsFrom ws (allKept ws ms) ls 0 (length ls / 4))
+
+came : (ws ms ls : List ℕ) → Came ws ms ls (checkList ws ms ls)
+unfolding checkList checkOn askCall
+came ws ms ls = table (tableOf ws) refl
+  where
+    list : (b : Bool) → Passed ws → length ws ≤ length ms → Came ws ms ls (askCall b ListLength ms (stepsFrom ws (allKept ws ms) ls 0 (length ls / 4)))
+    list true p l = stepped p l
+    list false p l = early (refusal.Call ListLength)
+
+    marks : (b : Bool) → leb (length ws) (length ms) ≡ b → Passed ws → Came ws ms ls (askCall b MarksLength ms (askCall (listFits ls) ListLength ms (stepsFrom ws (allKept ws ms) ls 0 (length ls / 4))))
+    marks true e p = list (listFits ls) p (leb-true _ _ e)
+    marks false e p = early (refusal.Call MarksLength)
+
+    table : (c : Checked) → tableOf ws ≡ c → Came ws ms ls (checkOn c ws ms ls)
+    table (checked.Refused r) e = early r
+    table (checked.Valid t) e = marks (leb (length ws) (length ms)) refl (valid-passed ws t e .0)
+
+-- "Marks past the table never change."
+pub marks-past-table : (ws ms ls : List ℕ) → drop (length ws) (checkList ws ms ls .marks) ≡ drop (length ws) ms
+marks-past-table ws ms ls = go (checkList ws ms ls) (came ws ms ls)
+  where
+    go : (o : Outcome) → Came ws ms ls o → drop (length ws) (o .marks) ≡ drop (length ws) ms
+    go o (early r) = refl
+    go o (stepped p l) = steps-past ws ls p (length ls / 4) 0 (allKept ws ms) (omega (arith, length-allKept ws ms l)) ∙ drop-at (replicate (length ws) 1) (drop (length ws) ms) (length ws) (length-replicate (length ws) 1)
+
+-- ---- refused at a step
+
+-- steps from `k` on, `left` of them, that leave the outcome o, are refused at a step: the steps before it are accepted and leave these marks, and on these the
+-- step's first question that is answered no is the one given
+pub record RefusedAt (ws ms ls : List ℕ) (k left : ℕ) (o : Outcome) : Type 0 where
+  pub step : ℕ
+  pub question : StepQuestion
+  pub is : o .answer ≡ Refused (refusal.Step question step)
+  pub above : k ≤ step
+  pub below : step < k + left
+  pub before : stepsFrom ws ms ls k (step - k) ≡ record { answer = Accepted step; marks = o .marks }
+  pub no : stepQuestions (getD ws 0 0) (view ws (o .marks)) (stepAt ls step) ≡ No question
+
+steps-refused : (ws ls : List ℕ) (left k : ℕ) (ms : List ℕ) (r : Refusal) → stepsFrom ws ms ls k left .answer ≡ Refused r → RefusedAt ws ms ls k left (stepsFrom ws ms ls k left)
+unfolding stepsFrom onward
+steps-refused ws ls zero k ms r e = let z : _≡_ {A = ℕ} 0 1 = cc in absurd (omega arith)
+steps-refused ws ls (suc left) k ms r e = go (stepQuestions (getD ws 0 0) (view ws ms) (stepAt ls k)) refl e (λ h. steps-refused ws ls left (k + 1) (marksAfter ws ms (stepOf (stepAt ls k))) r h)
+  where
+    after : Outcome
+    after = stepsFrom ws (marksAfter ws ms (stepOf (stepAt ls k))) ls (k + 1) left
+
+    go : (v : Verdict) → stepQuestions (getD ws 0 0) (view ws ms) (stepAt ls k) ≡ v → onward v k ms after .answer ≡ Refused r
+        → (after .answer ≡ Refused r → RefusedAt ws (marksAfter ws ms (stepOf (stepAt ls k))) ls (k + 1) left after)
+        → RefusedAt ws ms ls k (suc left) (onward v k ms after)
+    go Fine q e f = let w = f e in record {
+      step = w .step;
+      question = w .question;
+      is = w .is;
+      above = omega (arith, w .above);
+      below = omega (arith, w .below);
+      before = rw (one-left k (w .step) (omega (arith, w .above)), q) (w .before);
+      no = w .no;
+    }
+    go (No x) q e f = record {
+      step = k;
+      question = x;
+      is = refl;
+      above = omega arith;
+      below = omega arith;
+      before = let z : k - k ≡ 0 = omega arith in rw z;
+      no = q;
+    }
+
+-- what a refused call leaves
+pub data Kept (ws ms ls : List ℕ) (o : Outcome) : Type 0 where
+  unchanged : o .marks ≡ ms → Kept ws ms ls o
+  atStep : RefusedAt ws (allKept ws ms) ls 0 (length ls / 4) o → Kept ws ms ls o
+
+-- "A list refused at step k leaves the marks of steps 0 to k-1; at k = 0 the table's marks are all 1." "Every other refusal changes nothing."
+pub refused-marks : (ws ms ls : List ℕ) (r : Refusal) → checkList ws ms ls .answer ≡ Refused r → Kept ws ms ls (checkList ws ms ls)
+refused-marks ws ms ls r = go (checkList ws ms ls) (came ws ms ls)
+  where
+    go : (o : Outcome) → Came ws ms ls o → o .answer ≡ Refused r → Kept ws ms ls o
+    go o (early x) e = unchanged refl
+    go o (stepped p l) e = atStep (steps-refused ws ls (length ls / 4) 0 (allKept ws ms) r e)
+
+-- "An accepted list leaves the marks of all its steps.", and its answer is their number
+pub accepted-marks : (ws ms ls : List ℕ) (s : ℕ) → checkList ws ms ls .answer ≡ Accepted s → (checkList ws ms ls ≡ stepsFrom ws (allKept ws ms) ls 0 (length ls / 4)) × (s ≡ length ls / 4)
+accepted-marks ws ms ls s = go (checkList ws ms ls) (came ws ms ls)
+  where
+    go : (o : Outcome) → Came ws ms ls o → o .answer ≡ Accepted s → (o ≡ stepsFrom ws (allKept ws ms) ls 0 (length ls / 4)) × (s ≡ length ls / 4)
+    go o (early x) e = let z : _≡_ {A = ℕ} 0 1 = cc in absurd (omega arith)
+    go o (stepped p l) e = (refl, omega (arith, steps-count ws ls (length ls / 4) 0 (allKept ws ms) s e))
