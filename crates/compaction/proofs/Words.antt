@@ -109,11 +109,18 @@ clause-words ws ms at a b c d e f g h =
     let w : d - a ≡ H + (P + Q) = omega arith in
     rw (x, y, z, w, e, f, g, part-append ws ms (headAt at) H (P + Q), part-append ws ms (headAt at + H) P Q, length-part ws ms (headAt at) H, length-part ws ms (posAt ws at) P, length-part ws ms (negAt ws at) Q)
 
+-- where the clause fits, so does what follows its counts
+pub clause-room : (ws ms : List ℕ) (at to a d n : ℕ) → a ≡ headAt at → d ≡ nextAt ws at → to + length (clauseWords (entryAt ws ms at .clause)) ≤ n → to + 3 + length (part ws ms a (d - a)) ≤ n
+clause-room ws ms at to a d n x w h = omega (arith, ap length (clause-words ws ms at a (posAt ws at) (negAt ws at) d x refl refl w))
+
+-- the place past it
+pub clause-past : (ws ms : List ℕ) (at to a d e : ℕ) → a ≡ headAt at → d ≡ nextAt ws at → e ≡ to + 3 + length (part ws ms a (d - a)) → e ≡ to + length (clauseWords (entryAt ws ms at .clause))
+clause-past ws ms at to a d e x w h = omega (arith, ap length (clause-words ws ms at a (posAt ws at) (negAt ws at) d x refl refl w))
+
 -- the counts are stored, then the rest
-pub clause-stored : (ws ms out o e : List ℕ) (at to a b c d : ℕ) → a ≡ headAt at → b ≡ posAt ws at → c ≡ negAt ws at → d ≡ nextAt ws at
-    → o ≡ sets out to (keptFrom ms a (b - a) ∷ keptFrom ms b (c - b) ∷ keptFrom ms c (d - c) ∷ []) → e ≡ sets o (to + 3) (part ws ms a (d - a))
-    → e ≡ sets out to (clauseWords (entryAt ws ms at .clause))
-clause-stored ws ms out o e at to a b c d x y z w h g =
+pub clause-stored : (ws ms out o e : List ℕ) (at to a b c d : ℕ) → o ≡ sets out to (keptFrom ms a (b - a) ∷ keptFrom ms b (c - b) ∷ keptFrom ms c (d - c) ∷ [])
+    → e ≡ sets o (to + 3) (part ws ms a (d - a)) → a ≡ headAt at → b ≡ posAt ws at → c ≡ negAt ws at → d ≡ nextAt ws at → e ≡ sets out to (clauseWords (entryAt ws ms at .clause))
+clause-stored ws ms out o e at to a b c d h g x y z w =
     let xs = keptFrom ms a (b - a) ∷ keptFrom ms b (c - b) ∷ keptFrom ms c (d - c) ∷ [] in
     g ∙ sets-next out o to (to + 3) (clauseWords (entryAt ws ms at .clause)) xs (part ws ms a (d - a)) _ (clause-words ws ms at a b c d x y z w) refl h refl
 

@@ -1,9 +1,8 @@
 // The reduced table: what the marks leave of a table's program, written as a table of its own.
 ghost use mathlib.Core.Path.{_≡_};
 ghost use mathlib.Core.List.{[], _∷_};
-ghost use mathlib.Core.Bool.{So};
 ghost use Prim.Native.Nat.{ℕ, _+_, _-_, _≤_, _<_};
-ghost use lib.ListN.{length, getD};
+ghost use lib.ListN.{length};
 ghost use lib.Seq.{sets};
 ghost use Rattle.rewriting.specs.Marked.{left};
 ghost use Rattle.table.specs.Questions.{Passed};

@@ -1,26 +1,26 @@
 -- The counts, then the words of all three parts, which stand side by side.
-use Rattle.compaction.proofs.Words.{clause-stored, clause-words}
+use Rattle.compaction.proofs.Words.{clause-room, clause-past, clause-stored}
 use Prim.Native.Nat.{_-_, _+_}
-use mathlib.Core.Path.{refl, ap}
+use mathlib.Core.Path.{refl}
 use native.Mathlib.Omega.{arith}
-use lib.ListN.{length}
 use borrow.Author.Needs.{needs}
 use Rattle.compaction.proofs.copy_clause.Statement.{statement}
 use Rattle.compaction.proofs.copy_clause.Tie as tie
 
 write-counts-requires : tie.Need-write-counts-requires
-write-counts-requires c κs = let w = ap length (clause-words (c .before .before .before .before .before .before .before .before .before .before .args .words .now) (c .before .before .before .before .before .before .before .before .before .before .args .marks .now) (c .before .before .before .before .before .before .before .before .before .before .args .at) ((c .before .before .before .before .before .before .before .before .before .before .args .at) + 3) ((c .before .before .before .before .before .before .before .before .before .before .args .at) + 3 + (c .before .before .before .before .before .wide .result)) ((c .before .before .before .before .before .before .before .before .before .before .args .at) + 3 + (c .before .before .before .before .before .wide .result) + (c .before .before .before .wide2 .result)) ((c .before .before .before .before .before .before .before .before .before .before .args .at) + 3 + (c .before .before .before .before .before .wide .result) + (c .before .before .before .wide2 .result) + (c .before .wide3 .result)) refl (omega arith) (omega arith) (omega arith)) in (search needs, (search needs, (search needs, (omega arith, (omega arith, omega arith)))))
+write-counts-requires c κs = (search needs, (search needs, (search needs, (omega arith, (omega arith, omega arith)))))
 
 add-copy-part : tie.Need-add-copy-part
-add-copy-part c = let w = ap length (clause-words (c .before .before .before .before .before .before .before .before .before .before .before .before .before .before .args .words .now) (c .before .before .before .before .before .before .before .before .before .before .before .before .before .before .args .marks .now) (c .before .before .before .before .before .before .before .before .before .before .before .before .before .before .args .at) ((c .before .before .before .before .before .before .before .before .before .before .before .before .before .before .args .at) + 3) ((c .before .before .before .before .before .before .before .before .before .before .before .before .before .before .args .at) + 3 + (c .before .before .before .before .before .before .before .before .before .wide .result)) ((c .before .before .before .before .before .before .before .before .before .before .before .before .before .before .args .at) + 3 + (c .before .before .before .before .before .before .before .before .before .wide .result) + (c .before .before .before .before .before .before .before .wide2 .result)) ((c .before .before .before .before .before .before .before .before .before .before .before .before .before .before .args .at) + 3 + (c .before .before .before .before .before .before .before .before .before .wide .result) + (c .before .before .before .before .before .before .before .wide2 .result) + (c .before .before .before .before .before .wide3 .result)) refl (omega arith) (omega arith) (omega arith)) in omega arith
+add-copy-part c = omega arith
 
 copy-part-requires : tie.Need-copy-part-requires
-copy-part-requires c κs = let w = ap length (clause-words (c .before .before .before .before .before .before .before .before .before .before .before .before .before .before .args .words .now) (c .before .before .before .before .before .before .before .before .before .before .before .before .before .before .args .marks .now) (c .before .before .before .before .before .before .before .before .before .before .before .before .before .before .args .at) ((c .before .before .before .before .before .before .before .before .before .before .before .before .before .before .args .at) + 3) ((c .before .before .before .before .before .before .before .before .before .before .before .before .before .before .args .at) + 3 + (c .before .before .before .before .before .before .before .before .before .wide .result)) ((c .before .before .before .before .before .before .before .before .before .before .before .before .before .before .args .at) + 3 + (c .before .before .before .before .before .before .before .before .before .wide .result) + (c .before .before .before .before .before .before .before .wide2 .result)) ((c .before .before .before .before .before .before .before .before .before .before .before .before .before .before .args .at) + 3 + (c .before .before .before .before .before .before .before .before .before .wide .result) + (c .before .before .before .before .before .before .before .wide2 .result) + (c .before .before .before .before .before .wide3 .result)) refl (omega arith) (omega arith) (omega arith)) in (search needs, (search needs, (search needs, omega arith)))
+copy-part-requires c κs = (search needs, (search needs, (search needs, clause-room _ _ (c .before .before .before .before .before .before .before .before .before .before .before .before .before .before .args .at) _ _ _ _ refl (omega arith) (omega arith))))
 
 returns : tie.Need-returns
-returns c =
-    let n = ap length (clause-words (c .before .before .before .before .before .before .before .before .before .before .before .before .before .before .before .before .before .args .words .now) (c .before .before .before .before .before .before .before .before .before .before .before .before .before .before .before .before .before .args .marks .now) (c .before .before .before .before .before .before .before .before .before .before .before .before .before .before .before .before .before .args .at) ((c .before .before .before .before .before .before .before .before .before .before .before .before .before .before .before .before .before .args .at) + 3) ((c .before .before .before .before .before .before .before .before .before .before .before .before .before .before .before .before .before .args .at) + 3 + (c .before .before .before .before .before .before .before .before .before .before .before .before .wide .result)) ((c .before .before .before .before .before .before .before .before .before .before .before .before .before .before .before .before .before .args .at) + 3 + (c .before .before .before .before .before .before .before .before .before .before .before .before .wide .result) + (c .before .before .before .before .before .before .before .before .before .before .wide2 .result)) ((c .before .before .before .before .before .before .before .before .before .before .before .before .before .before .before .before .before .args .at) + 3 + (c .before .before .before .before .before .before .before .before .before .before .before .before .wide .result) + (c .before .before .before .before .before .before .before .before .before .before .wide2 .result) + (c .before .before .before .before .before .before .before .before .wide3 .result)) refl (omega arith) (omega arith) (omega arith)) in
-    (omega arith, clause-stored (c .before .before .before .before .before .before .before .before .before .before .before .before .before .before .before .before .before .args .words .now) (c .before .before .before .before .before .before .before .before .before .before .before .before .before .before .before .before .before .args .marks .now) (c .before .before .before .before .before .before .before .before .before .before .before .before .before .before .before .before .before .args .out .now) _ _ (c .before .before .before .before .before .before .before .before .before .before .before .before .before .before .before .before .before .args .at) (c .before .before .before .before .before .before .before .before .before .before .before .before .before .before .before .before .before .args .to) ((c .before .before .before .before .before .before .before .before .before .before .before .before .before .before .before .before .before .args .at) + 3) ((c .before .before .before .before .before .before .before .before .before .before .before .before .before .before .before .before .before .args .at) + 3 + (c .before .before .before .before .before .before .before .before .before .before .before .before .wide .result)) ((c .before .before .before .before .before .before .before .before .before .before .before .before .before .before .before .before .before .args .at) + 3 + (c .before .before .before .before .before .before .before .before .before .before .before .before .wide .result) + (c .before .before .before .before .before .before .before .before .before .before .wide2 .result)) ((c .before .before .before .before .before .before .before .before .before .before .before .before .before .before .before .before .before .args .at) + 3 + (c .before .before .before .before .before .before .before .before .before .before .before .before .wide .result) + (c .before .before .before .before .before .before .before .before .before .before .wide2 .result) + (c .before .before .before .before .before .before .before .before .wide3 .result)) refl (omega arith) (omega arith) (omega arith) (c .before .before .before .before .before .before .write-counts .ensures) (c .before .before .copy-part .ensures .1))
+returns c = (
+  clause-past _ _ (c .before .before .before .before .before .before .before .before .before .before .before .before .before .before .before .before .before .args .at) _ _ _ _ refl (omega arith) (c .before .before .copy-part .ensures .0),
+  clause-stored _ _ (c .before .before .before .before .before .before .before .before .before .before .before .before .before .before .before .before .before .args .out .now) _ _ (c .before .before .before .before .before .before .before .before .before .before .before .before .before .before .before .before .before .args .at) _ ((c .before .before .before .before .before .before .before .before .before .before .before .before .before .before .before .before .before .args .at) + 3) ((c .before .before .before .before .before .before .before .before .before .before .before .before .before .before .before .before .before .args .at) + 3 + (c .before .before .before .before .before .before .before .before .before .before .before .before .wide .result)) ((c .before .before .before .before .before .before .before .before .before .before .before .before .before .before .before .before .before .args .at) + 3 + (c .before .before .before .before .before .before .before .before .before .before .before .before .wide .result) + (c .before .before .before .before .before .before .before .before .before .before .wide2 .result)) ((c .before .before .before .before .before .before .before .before .before .before .before .before .before .before .before .before .before .args .at) + 3 + (c .before .before .before .before .before .before .before .before .before .before .before .before .wide .result) + (c .before .before .before .before .before .before .before .before .before .before .wide2 .result) + (c .before .before .before .before .before .before .before .before .wide3 .result)) (c .before .before .before .before .before .before .write-counts .ensures) (c .before .before .copy-part .ensures .1) refl (omega arith) (omega arith) (omega arith),
+)
 
 pub copy-clause-spec : {M : Type 1} → statement M
 copy-clause-spec =

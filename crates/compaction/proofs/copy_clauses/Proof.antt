@@ -29,20 +29,20 @@ abbrev μ-loop : tie.MeasureT-loop
 μ-loop words marks out₀ clauses at₀ to₀ k₀ out at to k = clauses - k
 
 shared-slice-read-clauses : tie.Need-shared-slice-read-clauses Inv-loop μ-loop
-shared-slice-read-clauses c = let l = passed-limits (c .before .before .before .before .args .words .now) (c .before .before .before .before .pre .ready .passed) in search needs
+shared-slice-read-clauses c = let l = passed-limits _ (c .before .before .before .before .pre .ready .passed) in search needs
 
 loop-holds : tie.Need-loop-holds Inv-loop μ-loop
 unfolding startFrom
-loop-holds c = (search needs, (refl, (refl, rw (view-start (c .before .before .before .before .args .words .now) (c .before .before .before .before .args .marks .now)) (sym (reduced-length (c .before .before .before .before .args .words .now) (c .before .before .before .before .args .marks .now)), refl))))
+loop-holds c = (search needs, (refl, (refl, rw view-start (sym (reduced-length _ _), refl))))
 
 copy-entry-requires : tie.Need-copy-entry-requires Inv-loop μ-loop
-copy-entry-requires c κs = let i = inside (c .before .before .before .before .before .before .before .args .words .now) (c .before .before .before .before .before .before .before .args .marks .now) (c .before .before .before .before .before .before .before .pre .ready) (c .before .before .loop .k) (c .before .before .loop .at) (c .before .loop-test .taken) (c .before .before .loop .inv .1 .0) in record { inside = i; room = omega (arith, size-on (c .before .before .before .before .before .before .before .args .words .now) (c .before .before .before .before .before .before .before .args .marks .now) (c .before .before .loop .k) _ (c .before .before .loop .at) _ (c .before .loop-test .taken) refl, (c .before .before .before .before .before .before .before .pre .room)) }
+copy-entry-requires c κs = let i = inside _ _ (c .before .before .before .before .before .before .before .pre .ready) _ _ (c .before .loop-test .taken) (c .before .before .loop .inv .1 .0) in record { inside = i; room = omega (arith, size-on (c .before .before .before .before .before .before .before .args .words .now) (c .before .before .before .before .before .before .before .args .marks .now) (c .before .before .loop .k) _ (c .before .before .loop .at) _ (c .before .loop-test .taken) refl, (c .before .before .before .before .before .before .before .pre .room)) }
 
 next-clause-requires : tie.Need-next-clause-requires Inv-loop μ-loop
-next-clause-requires c κs = let i = inside (c .before .before .before .before .before .before .before .before .before .before .args .words .now) (c .before .before .before .before .before .before .before .before .before .before .args .marks .now) (c .before .before .before .before .before .before .before .before .before .before .pre .ready) (c .before .before .before .before .before .loop .k) (c .before .before .before .before .before .loop .at) (c .before .before .before .before .loop-test .taken) (c .before .before .before .before .before .loop .inv .1 .0) in i .fits
+next-clause-requires c κs = let i = inside _ _ (c .before .before .before .before .before .before .before .before .before .before .pre .ready) _ _ (c .before .before .before .before .loop-test .taken) (c .before .before .before .before .before .loop .inv .1 .0) in i .fits
 
 add-k : tie.Need-add-k Inv-loop μ-loop
-add-k c = let l = passed-limits (c .before .before .before .before .before .before .before .before .before .before .before .args .words .now) (c .before .before .before .before .before .before .before .before .before .before .before .pre .ready .passed) in search needs
+add-k c = let l = passed-limits _ (c .before .before .before .before .before .before .before .before .before .before .before .pre .ready .passed) in search needs
 
 loop-again : tie.Need-loop-again Inv-loop μ-loop
 loop-again c =
@@ -50,16 +50,16 @@ loop-again c =
     let n = size-on (c .before .before .before .before .before .before .before .before .before .before .before .args .words .now) (c .before .before .before .before .before .before .before .before .before .before .before .args .marks .now) (c .before .before .before .before .before .before .loop .k) _ (c .before .before .before .before .before .before .loop .at) (c .next-clause .result) (c .before .before .before .before .before .loop-test .taken) e in (
       search needs,
       (
-        start-next (c .before .before .before .before .before .before .before .before .before .before .before .args .words .now) (c .before .before .before .before .before .before .before .before .before .before .before .args .marks .now) (c .before .before .before .before .before .before .before .before .before .before .before .pre .ready) (c .before .before .before .before .before .before .loop .k) (c .before .before .before .before .before .before .loop .at) (c .before .before .before .before .before .loop-test .taken) (c .before .before .before .before .before .before .loop .inv .1 .0) (c .next-clause .result) e,
+        start-next _ _ (c .before .before .before .before .before .before .before .before .before .before .before .pre .ready) _ _ (c .before .before .before .before .before .loop-test .taken) (c .before .before .before .before .before .before .loop .inv .1 .0) _ e,
         (
           ap length (c .before .before .before .copy-entry .ensures .1) ∙ length-sets (c .before .before .before .before .before .before .loop .out) (c .before .before .before .before .before .before .loop .to) (entryWords (entryAt (c .before .before .before .before .before .before .before .before .before .before .before .args .words .now) (c .before .before .before .before .before .before .before .before .before .before .before .args .marks .now) (c .before .before .before .before .before .before .loop .at))) ∙ c .before .before .before .before .before .before .loop .inv .1 .1 .0,
-          (omega arith, copy-on (c .before .before .before .before .before .before .before .before .before .before .before .args .words .now) (c .before .before .before .before .before .before .before .before .before .before .before .args .marks .now) (c .before .before .before .before .before .before .loop .k) _ (c .before .before .before .before .before .before .loop .at) (c .next-clause .result) (c .before .before .before .before .before .loop-test .taken) e _ _ _ _ _ (c .before .before .before .copy-entry .ensures .0) (c .before .before .before .copy-entry .ensures .1) (c .before .before .before .before .before .before .loop .inv .1 .1 .1 .1)),
+          (omega arith, copy-on _ _ _ _ _ _ (c .before .before .before .before .before .loop-test .taken) e _ _ _ _ _ (c .before .before .before .copy-entry .ensures .0) (c .before .before .before .copy-entry .ensures .1) (c .before .before .before .before .before .before .loop .inv .1 .1 .1 .1)),
         ),
       ),
     )
 
 returns : tie.Need-returns Inv-loop μ-loop
-returns c = sym (copy-end (c .before .before .before .before .before .before .args .words .now) (c .before .before .before .before .before .before .args .marks .now) _ _ _ (c .before .loop .at) (c .before .loop .to) (c .loop-test .left)) ∙ c .before .loop .inv .1 .1 .1 .1
+returns c = sym (copy-end _ _ _ _ _ (c .before .loop .at) (c .before .loop .to) (c .loop-test .left)) ∙ c .before .loop .inv .1 .1 .1 .1
 
 pub copy-clauses-spec : {M : Type 1} → statement M
 copy-clauses-spec =

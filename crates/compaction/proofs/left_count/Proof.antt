@@ -22,31 +22,31 @@ abbrev μ-loop : tie.MeasureT-loop
 μ-loop words marks clauses at₀ n₀ k₀ at n k = clauses - k
 
 shared-slice-read-clauses : tie.Need-shared-slice-read-clauses Inv-loop μ-loop
-shared-slice-read-clauses c = let l = passed-limits (c .before .before .before .args .words .now) (c .before .before .before .pre .passed) in search needs
+shared-slice-read-clauses c = let l = passed-limits _ (c .before .before .before .pre .passed) in search needs
 
 loop-holds : tie.Need-loop-holds Inv-loop μ-loop
 unfolding startFrom
-loop-holds c = (search needs, (refl, rw (view-start (c .before .before .before .args .words .now) (c .before .before .before .args .marks .now)) (omega arith)))
+loop-holds c = (search needs, (refl, rw view-start (omega arith)))
 
 add-kept-in : tie.Need-add-kept-in Inv-loop μ-loop
-add-kept-in c = let i = inside (c .before .before .before .before .before .args .words .now) (c .before .before .before .before .before .args .marks .now) (c .before .before .before .before .before .pre) (c .before .loop .k) (c .before .loop .at) (c .loop-test .taken) (c .before .loop .inv .1 .0) in omega arith
+add-kept-in c = let i = inside _ _ (c .before .before .before .before .before .pre) _ _ (c .loop-test .taken) (c .before .loop .inv .1 .0) in omega arith
 
 kept-in-requires : tie.Need-kept-in-requires Inv-loop μ-loop
-kept-in-requires c κs = let i = inside (c .before .before .before .before .before .args .words .now) (c .before .before .before .before .before .args .marks .now) (c .before .before .before .before .before .pre) (c .before .loop .k) (c .before .loop .at) (c .loop-test .taken) (c .before .loop .inv .1 .0) in (omega arith, (omega arith, omega arith))
+kept-in-requires c κs = let i = inside _ _ (c .before .before .before .before .before .pre) _ _ (c .loop-test .taken) (c .before .loop .inv .1 .0) in (omega arith, (omega arith, omega arith))
 
 add-n : tie.Need-add-n Inv-loop μ-loop
-add-n c = let l = passed-limits (c .before .before .before .before .before .before .args .words .now) (c .before .before .before .before .before .before .pre .passed) in omega (arith, count-on (c .before .before .before .before .before .before .args .words .now) (c .before .before .before .before .before .before .args .marks .now) (c .before .before .loop .k) _ (c .before .before .loop .at) _ (c .before .loop-test .taken) refl, count-le (c .before .before .before .before .before .before .args .words .now) (c .before .before .before .before .before .before .args .marks .now), (c .kept-in .ensures))
+add-n c = let l = passed-limits _ (c .before .before .before .before .before .before .pre .passed) in omega (arith, count-on (c .before .before .before .before .before .before .args .words .now) (c .before .before .before .before .before .before .args .marks .now) (c .before .before .loop .k) _ (c .before .before .loop .at) _ (c .before .loop-test .taken) refl, count-le (c .before .before .before .before .before .before .args .words .now) (c .before .before .before .before .before .before .args .marks .now), (c .kept-in .ensures))
 
 next-clause-requires : tie.Need-next-clause-requires Inv-loop μ-loop
-next-clause-requires c κs = let i = inside (c .before .before .before .before .before .before .args .words .now) (c .before .before .before .before .before .before .args .marks .now) (c .before .before .before .before .before .before .pre) (c .before .before .loop .k) (c .before .before .loop .at) (c .before .loop-test .taken) (c .before .before .loop .inv .1 .0) in i .fits
+next-clause-requires c κs = let i = inside _ _ (c .before .before .before .before .before .before .pre) _ _ (c .before .loop-test .taken) (c .before .before .loop .inv .1 .0) in i .fits
 
 add-k : tie.Need-add-k Inv-loop μ-loop
-add-k c = let l = passed-limits (c .before .before .before .before .before .before .before .args .words .now) (c .before .before .before .before .before .before .before .pre .passed) in search needs
+add-k c = let l = passed-limits _ (c .before .before .before .before .before .before .before .pre .passed) in search needs
 
 loop-again : tie.Need-loop-again Inv-loop μ-loop
 loop-again c =
     let e = c .next-clause .ensures in
-    (search needs, (start-next (c .before .before .before .before .before .before .before .args .words .now) (c .before .before .before .before .before .before .before .args .marks .now) (c .before .before .before .before .before .before .before .pre) (c .before .before .before .loop .k) (c .before .before .before .loop .at) (c .before .before .loop-test .taken) (c .before .before .before .loop .inv .1 .0) (c .next-clause .result) e, omega (arith, count-on (c .before .before .before .before .before .before .before .args .words .now) (c .before .before .before .before .before .before .before .args .marks .now) (c .before .before .before .loop .k) _ (c .before .before .before .loop .at) (c .next-clause .result) (c .before .before .loop-test .taken) e)))
+    (search needs, (start-next _ _ (c .before .before .before .before .before .before .before .pre) _ _ (c .before .before .loop-test .taken) (c .before .before .before .loop .inv .1 .0) _ e, omega (arith, count-on (c .before .before .before .before .before .before .before .args .words .now) (c .before .before .before .before .before .before .before .args .marks .now) (c .before .before .before .loop .k) _ (c .before .before .before .loop .at) (c .next-clause .result) (c .before .before .loop-test .taken) e)))
 
 returns : tie.Need-returns Inv-loop μ-loop
 returns c = omega (arith, ap length (left-end (c .before .before .before .before .before .args .words .now) (c .before .before .before .before .before .args .marks .now) (c .before .loop .k) _ (c .before .loop .at) (c .loop-test .left)))

@@ -24,28 +24,28 @@ abbrev μ-loop : tie.MeasureT-loop
 μ-loop words marks clauses at₀ size₀ k₀ at size k = clauses - k
 
 shared-slice-read-clauses : tie.Need-shared-slice-read-clauses Inv-loop μ-loop
-shared-slice-read-clauses c = let l = passed-limits (c .before .before .before .args .words .now) (c .before .before .before .pre .passed) in search needs
+shared-slice-read-clauses c = let l = passed-limits _ (c .before .before .before .pre .passed) in search needs
 
 loop-holds : tie.Need-loop-holds Inv-loop μ-loop
 unfolding startFrom
-loop-holds c = (search needs, (refl, rw (view-start (c .before .before .before .args .words .now) (c .before .before .before .args .marks .now)) (sym (reduced-length (c .before .before .before .args .words .now) (c .before .before .before .args .marks .now)))))
+loop-holds c = (search needs, (refl, rw view-start (sym (reduced-length _ _))))
 
 entry-size-requires : tie.Need-entry-size-requires Inv-loop μ-loop
-entry-size-requires c κs = inside (c .before .before .before .before .before .args .words .now) (c .before .before .before .before .before .args .marks .now) (c .before .before .before .before .before .pre) (c .before .loop .k) (c .before .loop .at) (c .loop-test .taken) (c .before .loop .inv .1 .0)
+entry-size-requires c κs = inside _ _ (c .before .before .before .before .before .pre) _ _ (c .loop-test .taken) (c .before .loop .inv .1 .0)
 
 add-size : tie.Need-add-size Inv-loop μ-loop
 add-size c = omega (arith, size-on (c .before .before .before .before .before .before .args .words .now) (c .before .before .before .before .before .before .args .marks .now) (c .before .before .loop .k) _ (c .before .before .loop .at) _ (c .before .loop-test .taken) refl, reduced-le (c .before .before .before .before .before .before .args .words .now) (c .before .before .before .before .before .before .args .marks .now) (c .before .before .before .before .before .before .pre .passed))
 
 next-clause-requires : tie.Need-next-clause-requires Inv-loop μ-loop
-next-clause-requires c κs = let i = inside (c .before .before .before .before .before .before .args .words .now) (c .before .before .before .before .before .before .args .marks .now) (c .before .before .before .before .before .before .pre) (c .before .before .loop .k) (c .before .before .loop .at) (c .before .loop-test .taken) (c .before .before .loop .inv .1 .0) in i .fits
+next-clause-requires c κs = let i = inside _ _ (c .before .before .before .before .before .before .pre) _ _ (c .before .loop-test .taken) (c .before .before .loop .inv .1 .0) in i .fits
 
 add-k : tie.Need-add-k Inv-loop μ-loop
-add-k c = let l = passed-limits (c .before .before .before .before .before .before .before .args .words .now) (c .before .before .before .before .before .before .before .pre .passed) in search needs
+add-k c = let l = passed-limits _ (c .before .before .before .before .before .before .before .pre .passed) in search needs
 
 loop-again : tie.Need-loop-again Inv-loop μ-loop
 loop-again c =
     let e = c .next-clause .ensures in
-    (search needs, (start-next (c .before .before .before .before .before .before .before .args .words .now) (c .before .before .before .before .before .before .before .args .marks .now) (c .before .before .before .before .before .before .before .pre) (c .before .before .before .loop .k) (c .before .before .before .loop .at) (c .before .before .loop-test .taken) (c .before .before .before .loop .inv .1 .0) (c .next-clause .result) e, omega (arith, size-on (c .before .before .before .before .before .before .before .args .words .now) (c .before .before .before .before .before .before .before .args .marks .now) (c .before .before .before .loop .k) _ (c .before .before .before .loop .at) (c .next-clause .result) (c .before .before .loop-test .taken) e)))
+    (search needs, (start-next _ _ (c .before .before .before .before .before .before .before .pre) _ _ (c .before .before .loop-test .taken) (c .before .before .before .loop .inv .1 .0) _ e, omega (arith, size-on (c .before .before .before .before .before .before .before .args .words .now) (c .before .before .before .before .before .before .before .args .marks .now) (c .before .before .before .loop .k) _ (c .before .before .before .loop .at) (c .next-clause .result) (c .before .before .loop-test .taken) e)))
 
 returns : tie.Need-returns Inv-loop μ-loop
 returns c = omega (arith, size-end (c .before .before .before .before .before .args .words .now) (c .before .before .before .before .before .args .marks .now) (c .before .loop .k) _ (c .before .loop .at) (c .loop-test .left))

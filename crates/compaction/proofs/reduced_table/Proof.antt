@@ -13,7 +13,7 @@ unfolding reducedOut written
 returns-2 c = let e = answer-table (c .before .before .before .before .before .before .before .before .before .before .args .words .now) (c .before .before .before .before .before .before .before .before .before .before .args .marks .now) (c .before .before .before .before .before .before .before .before .before .before .args .out .now) _ (sym (c .before .before .before .before .before .before .check-table .ensures) ∙ c .before .before .before .before .checked .given .1) in rw e (cc, refl)
 
 compact-requires : tie.Need-compact-requires
-compact-requires c κs = valid-passed (c .before .before .before .before .before .before .before .args .words .now) _ (sym (c .before .before .before .check-table .ensures) ∙ c .before .enum-told .given .1) .0
+compact-requires c κs = valid-passed _ _ (sym (c .before .before .before .check-table .ensures) ∙ c .before .enum-told .given .1) .0
 
 returns-3 : tie.Need-returns-3
 unfolding reducedOut

@@ -12,7 +12,7 @@ use Rattle.compaction.proofs.write_reduced.Statement.{statement}
 use Rattle.compaction.proofs.write_reduced.Tie as tie
 
 shared-slice-read-out : tie.Need-shared-slice-read-out
-shared-slice-read-out c = let l = passed-limits (c .before .before .before .before .args .words .now) (c .before .before .before .before .pre .ready .passed) in search needs
+shared-slice-read-out c = let l = passed-limits _ (c .before .before .before .before .pre .ready .passed) in search needs
 
 slice-write-out : tie.Need-slice-write-out
 slice-write-out c = let l = reduced-length (c .before .before .before .before .args .words .now) (c .before .before .before .before .args .marks .now) in search needs
