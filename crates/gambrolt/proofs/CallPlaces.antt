@@ -1,4 +1,4 @@
--- The place of a refused call is at most 65,536: of a set, of marks, of a list.
+-- The place of a refused call, and the value of one that is taken, are at most 65,536: of a set, of marks, of the cycle answer.
 use Prim.Native.Nat.{ℕ, zero, suc, _≤_, _<_, _-_, _+_}
 use mathlib.Core.Path.{_≡_, refl}
 use mathlib.Core.List.{List}
@@ -15,11 +15,12 @@ use Rattle.table.specs.declared.Walk.the-variants.{To, Stop}
 use Rattle.table.specs.declared.Checked.{Checked}
 use Rattle.table.specs.declared.Checked.the-variants as checked
 use Rattle.table.specs.Refusals.{refusalPlace}
-use Rattle.table.specs.Questions.{tableOf}
-use Rattle.table.proofs.Encoding.{valid-inv}
+use Rattle.table.specs.Questions.{Passed, tableOf}
+use Rattle.table.proofs.Encoding.{valid-passed, passed-limits}
 use Rattle.compaction.specs.declared.CompactAnswer.{CompactAnswer}
 use Rattle.compaction.specs.declared.CompactAnswer.the-variants as compacted
 use Rattle.compaction.specs.Reduced.{allowed, marksFrom, reduced, askCall, onMarks, onTable as onCompact, roomAnswer, markedAnswer, reducedAnswer}
+use Rattle.compaction.proofs.Limits.{left-within}
 use Rattle.stability.specs.Answer.{entriesFrom, setOf, onSet, onTable, testOf}
 use Rattle.stability.specs.declared.TestAnswer.{TestAnswer}
 use Rattle.stability.specs.declared.TestAnswer.the-variants as tested
@@ -69,7 +70,7 @@ marks-near f at zero b h = omega arith
 marks-near f at (suc k) b h = near-ask b _ _ _ (omega arith) (λ _. marks-near f (at + 1) k b (omega arith))
 
 abbrev Compacts : CompactAnswer → Type 0
-Compacts (compacted.Accepted k) = Unit {0}
+Compacts (compacted.Accepted k) = k ≤ 65536
 Compacts (compacted.Refused r) = refusalPlace r ≤ 65536
 
 compacts-ask : (t : Bool) (r : Refusal) (a : CompactAnswer) → refusalPlace r ≤ 65536 → Compacts a → Compacts (askCall t r a)
@@ -82,20 +83,25 @@ unfolding onMarks
 on-marks (To e) a h k = k
 on-marks (Stop r) a h k = omega arith
 
-marked-compacts : (ws ms out : List ℕ) → length ws ≤ 8192 → Compacts (markedAnswer ws ms out)
+marked-compacts : (ws ms out : List ℕ) → Passed ws → Compacts (markedAnswer ws ms out)
 unfolding markedAnswer roomAnswer
-marked-compacts ws ms out h =
+marked-compacts ws ms out p =
+    let l : length ws ≤ 8192 = passed-limits ws p .short in
+    let k : length (reduced ws ms) ≤ 8192 = left-within ws ms p .fewWords in
     compacts-ask (leb (length ws) (length ms)) (Call MarksLength) _ (omega arith)
     (on-marks (marksFrom (allowed ws ms) 0 (length ws)) _ (marks-near (allowed ws ms) 0 (length ws) 8192 (omega arith))
-    (compacts-ask (leb (length (reduced ws ms)) (length out)) (Call TableRoom) (compacted.Accepted (length (reduced ws ms))) (omega arith) tt))
+    (compacts-ask (leb (length (reduced ws ms)) (length out)) (Call TableRoom) (compacted.Accepted (length (reduced ws ms))) (omega arith) (omega arith)))
 
 table-compacts : (ws ms out : List ℕ) → Compacts (reducedAnswer ws ms out)
 unfolding reducedAnswer onCompact
 table-compacts ws ms out = go (tableOf ws) refl (table-checks ws)
   where
     go : (c : Checked) → tableOf ws ≡ c → Checks c → Compacts (onCompact c (markedAnswer ws ms out))
-    go (checked.Valid t) q h = marked-compacts ws ms out (valid-inv ws t q .0 .short)
+    go (checked.Valid t) q h = marked-compacts ws ms out (valid-passed ws t q .0)
     go (checked.Refused r) q h = h
+
+pub compact-value : (ws ms out : List ℕ) (k : ℕ) → reducedAnswer ws ms out ≡ compacted.Accepted k → k ≤ 65536
+compact-value ws ms out k q = rw q at (table-compacts ws ms out)
 
 pub compact-place : (ws ms out : List ℕ) (r : Refusal) → reducedAnswer ws ms out ≡ compacted.Refused r → refusalPlace r ≤ 65536
 compact-place ws ms out r q = rw q at (table-compacts ws ms out)
