@@ -1,3 +1,5 @@
 pub mod Numbers
 pub mod Places
+pub mod CallPlaces
 pub mod TextPlaces
+pub mod Halves

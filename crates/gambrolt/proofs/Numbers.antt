@@ -1,4 +1,4 @@
--- The number of a refusal is at most 28.
+-- The number of a refusal is 1 to 28.
 use Prim.Native.Nat.{_≤_}
 use native.Mathlib.Omega.{arith}
 use Rattle.table.specs.declared.CallQuestion.{CallQuestion}
@@ -15,51 +15,51 @@ use Rattle.table.specs.declared.Refusal.{Refusal}
 use Rattle.table.specs.declared.Refusal.the-variants.{Call, Word, Step, Entry, Byte}
 use Rattle.table.specs.Refusals.{callNumber, wordNumber, stepNumber, entryNumber, byteNumber, refusalNumber}
 
-call-small : (q : CallQuestion) → callNumber q ≤ 28
-call-small TableLength = omega arith
-call-small MarksLength = omega arith
-call-small ListLength = omega arith
-call-small ListRoom = omega arith
-call-small TableRoom = omega arith
-call-small SetLength = omega arith
-call-small TextLength = omega arith
-call-small TableSlice = omega arith
-call-small TextRoom = omega arith
+call-range : (q : CallQuestion) → (1 ≤ callNumber q) × (callNumber q ≤ 28)
+call-range TableLength = (omega arith, omega arith)
+call-range MarksLength = (omega arith, omega arith)
+call-range ListLength = (omega arith, omega arith)
+call-range ListRoom = (omega arith, omega arith)
+call-range TableRoom = (omega arith, omega arith)
+call-range SetLength = (omega arith, omega arith)
+call-range TextLength = (omega arith, omega arith)
+call-range TableSlice = (omega arith, omega arith)
+call-range TextRoom = (omega arith, omega arith)
 
-word-small : (q : WordQuestion) → wordNumber q ≤ 28
-word-small AtomLimit = omega arith
-word-small ClauseLimit = omega arith
-word-small CountsLeft = omega arith
-word-small LiteralsLeft = omega arith
-word-small AtomBelow = omega arith
-word-small Ascending = omega arith
-word-small AllUsed = omega arith
-word-small MarkAllowed = omega arith
+word-range : (q : WordQuestion) → (1 ≤ wordNumber q) × (wordNumber q ≤ 28)
+word-range AtomLimit = (omega arith, omega arith)
+word-range ClauseLimit = (omega arith, omega arith)
+word-range CountsLeft = (omega arith, omega arith)
+word-range LiteralsLeft = (omega arith, omega arith)
+word-range AtomBelow = (omega arith, omega arith)
+word-range Ascending = (omega arith, omega arith)
+word-range AllUsed = (omega arith, omega arith)
+word-range MarkAllowed = (omega arith, omega arith)
 
-step-small : (q : StepQuestion) → stepNumber q ≤ 28
-step-small KindKnown = omega arith
-step-small TargetKept = omega arith
-step-small PartnerKept = omega arith
-step-small AtomKnown = omega arith
-step-small ConditionHolds = omega arith
+step-range : (q : StepQuestion) → (1 ≤ stepNumber q) × (stepNumber q ≤ 28)
+step-range KindKnown = (omega arith, omega arith)
+step-range TargetKept = (omega arith, omega arith)
+step-range PartnerKept = (omega arith, omega arith)
+step-range AtomKnown = (omega arith, omega arith)
+step-range ConditionHolds = (omega arith, omega arith)
 
-entry-small : (q : EntryQuestion) → entryNumber q ≤ 28
-entry-small EntryBelow = omega arith
-entry-small EntryAscending = omega arith
+entry-range : (q : EntryQuestion) → (1 ≤ entryNumber q) × (entryNumber q ≤ 28)
+entry-range EntryBelow = (omega arith, omega arith)
+entry-range EntryAscending = (omega arith, omega arith)
 
-byte-small : (q : ByteQuestion) → byteNumber q ≤ 28
-byte-small TextAtomLimit = omega arith
-byte-small TextClauseLimit = omega arith
-byte-small TextAtomBelow = omega arith
-byte-small TextAscending = omega arith
-byte-small LineThere = omega arith
-byte-small ValueInForm = omega arith
-byte-small WordLimit = omega arith
-byte-small TextAllUsed = omega arith
+byte-range : (q : ByteQuestion) → (1 ≤ byteNumber q) × (byteNumber q ≤ 28)
+byte-range TextAtomLimit = (omega arith, omega arith)
+byte-range TextClauseLimit = (omega arith, omega arith)
+byte-range TextAtomBelow = (omega arith, omega arith)
+byte-range TextAscending = (omega arith, omega arith)
+byte-range LineThere = (omega arith, omega arith)
+byte-range ValueInForm = (omega arith, omega arith)
+byte-range WordLimit = (omega arith, omega arith)
+byte-range TextAllUsed = (omega arith, omega arith)
 
-pub number-small : (r : Refusal) → refusalNumber r ≤ 28
-number-small (Call q) = call-small q
-number-small (Word q at) = word-small q
-number-small (Step q at) = step-small q
-number-small (Entry q at) = entry-small q
-number-small (Byte q at) = byte-small q
+pub number-range : (r : Refusal) → (1 ≤ refusalNumber r) × (refusalNumber r ≤ 28)
+number-range (Call q) = call-range q
+number-range (Word q at) = word-range q
+number-range (Step q at) = step-range q
+number-range (Entry q at) = entry-range q
+number-range (Byte q at) = byte-range q

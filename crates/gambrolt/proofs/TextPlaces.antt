@@ -1,4 +1,4 @@
--- The place of a refused text is at most its length, so at most 65,536; a table that isn't written has a place of its words.
+-- The place of a refused text is at most its length, so at most 65,536; so are the words read and the bytes written.
 use Prim.Native.Nat.{ℕ, zero, suc, _≤_, _<_, _-_, _+_}
 use mathlib.Core.Path.{_≡_, refl}
 use mathlib.Core.List.{List}
@@ -31,6 +31,7 @@ use Rattle.text.specs.Writer as writer
 use Rattle.text.specs.declared.WriteAnswer.{WriteAnswer}
 use Rattle.text.specs.declared.WriteAnswer.the-variants as wrote
 use Rattle.text.proofs.Lines.{line-inv}
+use Rattle.text.proofs.Calls.{accepted-reads, accepted-writes, text-short}
 use Rattle.gambrolt.proofs.Places.{Checks, table-checks}
 
 module _ {A : Type 0} where
@@ -116,6 +117,9 @@ read-place ts room r q = go (readText ts room) (text-near ts room) q
     go (done P e) h q = let z : _≡_ {A = ℕ} 0 1 = cc in absurd (omega arith)
     go (stop s) h q = let k : s ≡ r = cc in rw k at h
 
+pub read-value : (ts table : List ℕ) (k : ℕ) → readAnswer ts (length table) ≡ Accepted k → k ≤ 65536
+read-value ts table k q = let a = accepted-reads ts table k q in omega (arith, a .count, a .within .fewWords)
+
 abbrev Writes : WriteAnswer → Type 0
 Writes (wrote.Accepted n) = Unit {0}
 Writes (wrote.Refused r) = refusalPlace r ≤ 65536
@@ -131,6 +135,9 @@ writes-table (checked.Refused r) text room h = h
 write-writes : (ws : List ℕ) (room : ℕ) → Writes (writeAnswer ws room)
 unfolding writeAnswer
 write-writes ws room = writes-table (tableOf ws) (textOf ws) room (table-checks ws)
+
+pub write-value : (ws out : List ℕ) (n : ℕ) → writeAnswer ws (length out) ≡ wrote.Accepted n → n ≤ 65536
+write-value ws out n q = let a = accepted-writes ws out n q in omega (arith, a .count, text-short ws (a .passed))
 
 pub write-place : (ws : List ℕ) (room : ℕ) (r : Refusal) → writeAnswer ws room ≡ wrote.Refused r → refusalPlace r ≤ 65536
 write-place ws room r q = rw q at (write-writes ws room)

@@ -5,6 +5,8 @@ use Rattle.table.specs.declared.Checked.{Checked}
 use Rattle.table.specs.declared.Checked.the-variants as checked
 use Rattle.compaction.specs.declared.CompactAnswer.{CompactAnswer}
 use Rattle.compaction.specs.declared.CompactAnswer.the-variants as compacted
+use Rattle.dependency.specs.declared.CycleAnswer.{CycleAnswer}
+use Rattle.dependency.specs.declared.CycleAnswer.the-variants as cycled
 use Rattle.stability.specs.declared.TestAnswer.{TestAnswer}
 use Rattle.stability.specs.declared.TestAnswer.the-variants as tested
 use Rattle.text.specs.declared.ReadAnswer.{ReadAnswer}
@@ -32,6 +34,11 @@ reducedCode (compacted.Refused r) = refusalCode r
 abbrev pub testCode : TestAnswer → ℕ
 testCode (tested.Accepted b) = bit b
 testCode (tested.Refused r) = refusalCode r
+
+-- the cycle answer carries 1 for yes and 0 for no
+abbrev pub cycleCode : CycleAnswer → ℕ
+cycleCode (cycled.Accepted b) = bit b
+cycleCode (cycled.Refused r) = refusalCode r
 
 -- reading text carries the words written
 abbrev pub readCode : ReadAnswer → ℕ

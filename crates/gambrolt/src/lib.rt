@@ -6,11 +6,13 @@ ghost use Rattle.semantics.specs.Lists.{bit};
 ghost use Rattle.table.specs.Refusals.{refusalPlace};
 ghost use Rattle.table.specs.Questions.{tableOf};
 ghost use Rattle.compaction.specs.Reduced.{reducedAnswer, reducedOut};
+ghost use Rattle.dependency.specs.Answer.{cycleOf};
 ghost use Rattle.stability.specs.Answer.{testOf};
 ghost use Rattle.text.specs.Reader.{readAnswer, tableAfter};
 ghost use Rattle.text.specs.Writer.{writeAnswer, outAfter};
-ghost use Rattle.gambrolt.specs.Codes.{refusalCode, tableCode, reducedCode, testCode, readCode, writeCode};
+ghost use Rattle.gambrolt.specs.Codes.{refusalCode, tableCode, reducedCode, testCode, cycleCode, readCode, writeCode};
 use compaction::CompactAnswer;
+use dependency::CycleAnswer;
 use stability::TestAnswer;
 use table::Checked;
 use table::Refusal;
@@ -62,6 +64,17 @@ pub extern "C" fn gambrolt_test(words: &[u16], set: &[u16]) -> u64
     match stability::test_set(words, set) {
         TestAnswer::Accepted(yes) => one_if(yes),
         TestAnswer::Refused(r) => refusal_code(r),
+    }
+}
+
+// Questions 1 to 8, then whether some atom leads back to itself.
+#[no_mangle]
+pub extern "C" fn gambrolt_cycle(words: &[u16]) -> u64
+    ensures { λ r. ⌜ r ≡ cycleCode (cycleOf (now (words .entry))) ⌝ }
+{
+    match dependency::has_cycle(words) {
+        CycleAnswer::Accepted(yes) => one_if(yes),
+        CycleAnswer::Refused(r) => refusal_code(r),
     }
 }
 
