@@ -1,3 +1,4 @@
+pub mod Numbers
 pub mod Tests
 pub mod Texts
 pub mod Reductions

@@ -14,12 +14,14 @@ use Rattle.semantics.specs.Programs.{Clause, Atoms, Stable}
 use Rattle.rewriting.specs.Marked.{left}
 use Rattle.rewriting.proofs.Left.{left-each}
 use Rattle.table.specs.declared.CallQuestion.the-variants.{TableRoom}
+use Rattle.table.specs.declared.WordQuestion.the-variants.{MarkAllowed}
 use Rattle.table.specs.declared.Refusal.{Refusal}
-use Rattle.table.specs.declared.Refusal.the-variants.{Call}
+use Rattle.table.specs.declared.Refusal.the-variants.{Call, Word}
 use Rattle.table.specs.declared.Walk.{Walk}
 use Rattle.table.specs.declared.Walk.the-variants.{To, Stop}
 use Rattle.table.specs.declared.Checked.{Checked}
 use Rattle.table.specs.declared.Checked.the-variants.{Valid, Refused as NoTable}
+use Rattle.table.specs.Refusals.{refusalNumber}
 use Rattle.table.specs.Questions.{ask, tableOf, Passed}
 use Rattle.table.specs.Encoding.{encode, OrderedClause, Within}
 use Rattle.table.specs.Places.{programOf}
@@ -29,32 +31,11 @@ use Rattle.table.proofs.Parts.{Straight, view-straight}
 use Rattle.compaction.specs.declared.CompactAnswer.{CompactAnswer}
 use Rattle.compaction.specs.declared.CompactAnswer.the-variants.{Accepted, Refused}
 use Rattle.compaction.specs.Reduced.{allowed, marksFrom, leftProgram, reduced, askCall, onMarks, onTable, roomAnswer, markedAnswer, reducedAnswer, written, reducedOut}
-use Rattle.compaction.proofs.Tables.{reduced-le, count-le}
-use Rattle.compaction.proofs.Answers.{answer-valid, answer-room, answer-accepted}
+use Rattle.compaction.proofs.Limits.{left-within, reduced-passes}
+use Rattle.compaction.proofs.Answers.{answer-few, answer-mark, answer-table, answer-valid, answer-room, answer-accepted}
+use Rattle.claims.proofs.Numbers.{table-number}
 
--- ---- the program as left
-
-ordered : (n : ℕ) (c : Clause) → Straight n c → OrderedClause n c
-ordered n c s = record {
-  head = record { below = s .headBelow; ascends = s .head };
-  pos = record { below = s .posBelow; ascends = s .pos };
-  neg = record { below = s .negBelow; ascends = s .neg };
-}
-
--- What the marks leave of a program within the limits is within the limits.
-pub left-within : (ws ms : List ℕ) → Passed ws → Within (leftProgram ws ms)
-left-within ws ms p =
-    let l = passed-limits ws p in
-    record {
-      fewAtoms = l .fewAtoms;
-      fewClauses = omega (arith, count-le ws ms, l .fewClauses);
-      fewWords = omega (arith, reduced-le ws ms p, l .short);
-      ordered = left-each (OrderedClause (getD ws 0 0)) (view ws ms) .1 (λ i k. ordered (getD ws 0 0) _ (view-straight ws ms p i));
-    }
-
--- The reduced table passes questions 1 to 8.
-pub reduced-passes : (ws ms : List ℕ) → Passed ws → Passed (reduced ws ms)
-reduced-passes ws ms p = encode-passes (leftProgram ws ms) (left-within ws ms p)
+-- ---- the reduced table is the table of the program as left, and passes questions 1 to 8: `left-within`, `reduced-passes`
 
 -- Its program is exactly the program as left,
 pub reduced-program : (ws ms : List ℕ) → programOf (reduced ws ms) ≡ leftProgram ws ms
@@ -120,9 +101,9 @@ pub reduced-refused : (ws ms out : List ℕ) (r : Refusal) → reducedAnswer ws 
 unfolding reducedOut written
 reduced-refused ws ms out r h = rw h
 
--- ---- "18 Does the result fit?"
+-- ---- questions 10 and 18
 
--- the questions before it are answered yes
+-- the questions before 18 are answered yes
 pub record Asked (ws ms : List ℕ) : Type 0 where
   pub passed : Passed ws
   pub marked : length ws ≤ length ms
@@ -133,21 +114,78 @@ unfolding marksFrom ask
 marks-all f at zero h = ap To (let q : at ≡ at + zero = omega arith in q)
 marks-all f at (suc k) h = rw (h at (omega arith) (omega arith)) (marks-all f (at + 1) k (λ i a b. h i (omega arith) (omega arith)) ∙ ap To (let q : at + 1 + k ≡ at + suc k = omega arith in q))
 
-module _ (ws ms out : List ℕ) (y : Asked ws ms) where
-  pass : marksFrom (allowed ws ms) 0 (length ws) ≡ To (0 + length ws)
-  pass = marks-all (allowed ws ms) 0 (length ws) (λ i a b. y .marks i (omega arith))
+-- i is the first place, of k from `at`, of which the test does not hold
+pub record First (f : ℕ → Bool) (at k i : ℕ) : Type 0 where
+  pub from : at ≤ i
+  pub within : i < at + k
+  pub fails : f i ≡ false
+  pub before : (j : ℕ) → at ≤ j → j < i → So (f j)
 
-  -- A slice as long as the words is long enough.
-  pub reduced-fits : length (reduced ws ms) ≤ length out → reducedAnswer ws ms out ≡ Accepted (length (reduced ws ms))
-  reduced-fits l = answer-valid ws ms out _ (y .passed .valid) ∙ answer-accepted ws ms out (y .marked) _ pass l
+marks-at : (f : ℕ → Bool) (at k i : ℕ) → First f at k i → marksFrom f at k ≡ Stop (Word MarkAllowed i)
+unfolding marksFrom ask
+marks-at f at zero i h = absurd (omega (arith, h .from, h .within))
+marks-at f at (suc k) i h = by-cases (decLt at i)
+    (λ l. rw (h .before at (omega arith) l) (marks-at f (at + 1) k i (record { from = omega arith; within = omega (arith, h .within); fails = h .fails; before = λ j a b. h .before j (omega arith) b })))
+    (λ l. let q : at ≡ i = omega (arith, h .from) in let e : f at ≡ false = ap f q ∙ h .fails in rw e (ap (λ x. Stop (Word MarkAllowed x)) q))
 
-  reduced-short : length out < length (reduced ws ms) → reducedAnswer ws ms out ≡ Refused (Call TableRoom)
-  reduced-short l = answer-valid ws ms out _ (y .passed .valid) ∙ answer-room ws ms out (y .marked) _ pass l
+-- what a walk over the marks has found: each allowed, or the first that isn't
+abbrev Found : (ℕ → Bool) → ℕ → ℕ → Walk → Type 0
+Found f at k (To e) = (i : ℕ) → at ≤ i → i < at + k → So (f i)
+Found f at k (Stop r) = (i : ℕ) × First f at k i × (r ≡ Word MarkAllowed i)
 
-  -- "Does not fit" is said exactly when the slice is shorter than the words.
-  pub reduced-room : (reducedAnswer ws ms out ≡ Refused (Call TableRoom)) ↔ (length out < length (reduced ws ms))
-  reduced-room = (
-    λ h. by-cases (decLt (length out) (length (reduced ws ms))) (λ l. l)
-        (λ l. let e = reduced-fits (omega arith) in let z : _≡_ {A = ℕ} 0 1 = cc in absurd (omega arith)),
-    reduced-short,
-  )
+marks-found : (f : ℕ → Bool) (at k : ℕ) → Found f at k (marksFrom f at k)
+unfolding marksFrom ask
+marks-found f at zero = λ i a b. absurd (omega arith)
+marks-found f at (suc k) = go (f at) refl (marksFrom f (at + 1) k) (marks-found f (at + 1) k)
+  where
+    here : (b : Bool) → f at ≡ b → So b → (i : ℕ) → i ≡ at → So (f i)
+    here b q h i e = ap f e ∙ q ∙ h
+
+    more : So (f at) → (w : Walk) → Found f (at + 1) k w → Found f at (suc k) w
+    more h (To e) r = λ i a b. by-cases (decLt at i) (λ l. r i (omega arith) (omega arith)) (λ l. here true h refl i (omega arith))
+    more h (Stop x) (i, r, q) = (
+      i,
+      record { from = omega (arith, r .from); within = omega (arith, r .within); fails = r .fails; before = λ j a b. by-cases (decLt at j) (λ l. r .before j (omega arith) b) (λ l. here true h refl j (omega arith)) },
+      q,
+    )
+
+    go : (t : Bool) → f at ≡ t → (w : Walk) → Found f (at + 1) k w → Found f at (suc k) (ask t (Word MarkAllowed at) w)
+    go true q w r = more q w r
+    go false q w r = (at, record { from = omega arith; within = omega arith; fails = q; before = λ j a b. absurd (omega arith) }, refl)
+
+module _ (ws ms out : List ℕ) where
+  -- "(place of the first that isn't)"
+  pub reduced-mark : Passed ws → length ws ≤ length ms → (i : ℕ) → First (allowed ws ms) 0 (length ws) i → reducedAnswer ws ms out ≡ Refused (Word MarkAllowed i)
+  reduced-mark p l i h = answer-valid ws ms out _ (p .valid) ∙ answer-mark ws ms out l _ (marks-at (allowed ws ms) 0 (length ws) i h)
+
+  module _ (y : Asked ws ms) where
+    pass : marksFrom (allowed ws ms) 0 (length ws) ≡ To (0 + length ws)
+    pass = marks-all (allowed ws ms) 0 (length ws) (λ i a b. y .marks i (omega arith))
+
+    -- A slice as long as the words is long enough.
+    pub reduced-fits : length (reduced ws ms) ≤ length out → reducedAnswer ws ms out ≡ Accepted (length (reduced ws ms))
+    reduced-fits l = answer-valid ws ms out _ (y .passed .valid) ∙ answer-accepted ws ms out (y .marked) _ pass l
+
+    reduced-short : length out < length (reduced ws ms) → reducedAnswer ws ms out ≡ Refused (Call TableRoom)
+    reduced-short l = answer-valid ws ms out _ (y .passed .valid) ∙ answer-room ws ms out (y .marked) _ pass l
+
+  no-room-marked : Passed ws → length ws ≤ length ms → (w : Walk) → marksFrom (allowed ws ms) 0 (length ws) ≡ w → Found (allowed ws ms) 0 (length ws) w
+      → markedAnswer ws ms out ≡ Refused (Call TableRoom) → Asked ws ms × (length out < length (reduced ws ms))
+  no-room-marked p l (To e) q f h = by-cases (decLt (length out) (length (reduced ws ms)))
+      (λ s. (record { passed = p; marked = l; marks = λ i b. f i (omega arith) (omega arith) }, s))
+      (λ s. let a = answer-accepted ws ms out l e q (omega arith) in let z : _≡_ {A = ℕ} 0 1 = cc in absurd (omega arith))
+  no-room-marked p l (Stop r) q (i, f, e) h = let a = answer-mark ws ms out l r q in let z : _≡_ {A = ℕ} 0 1 = cc in absurd (omega arith)
+
+  no-room : (c : Checked) → tableOf ws ≡ c → reducedAnswer ws ms out ≡ Refused (Call TableRoom) → Asked ws ms × (length out < length (reduced ws ms))
+  no-room (Valid t) q h = by-cases (decLt (length ms) (length ws))
+      (λ s. let a = answer-few ws ms out s in let b = answer-valid ws ms out t q in let z : _≡_ {A = ℕ} 0 1 = cc in absurd (omega arith))
+      (λ s. no-room-marked (valid-passed ws t q .0) (omega arith) (marksFrom (allowed ws ms) 0 (length ws)) refl (marks-found (allowed ws ms) 0 (length ws)) (sym (answer-valid ws ms out t q) ∙ h))
+  no-room (NoTable r) q h =
+      let a = answer-table ws ms out r q in
+      let e : r ≡ Call TableRoom = cc in
+      let n : refusalNumber r ≡ 18 = ap refusalNumber e in
+      absurd (omega (arith, table-number ws r q))
+
+  -- "Does not fit" is said exactly when all before it is answered yes and the slice is shorter than the words.
+  pub reduced-room : (reducedAnswer ws ms out ≡ Refused (Call TableRoom)) ↔ (Asked ws ms × (length out < length (reduced ws ms)))
+  reduced-room = (no-room (tableOf ws) refl, λ h. reduced-short (h .0) (h .1))

@@ -1,4 +1,4 @@
--- The examples of document 01 on stable sets, computed from the definitions: a table's words, a set, and the answer.
+-- The examples of document 01 on stable sets and the cycle, computed from the definitions: a table's words, a set, and the answer.
 use Prim.Native.Nat.{ℕ, _+_}
 use mathlib.Core.Path.{_≡_, refl}
 use mathlib.Core.Bool.{Bool, true, false}
@@ -10,6 +10,9 @@ use Rattle.table.specs.Places.{clausesOf, programOf}
 use Rattle.stability.specs.declared.TestAnswer.{TestAnswer}
 use Rattle.stability.specs.declared.TestAnswer.the-variants.{Accepted}
 use Rattle.stability.specs.Answer.{entriesFrom, setOf, onSet, onTable, testOf}
+use Rattle.dependency.specs.declared.CycleAnswer.the-variants as cycle
+use Rattle.dependency.specs.Chains.{ahead, onward, leads, anyBelow, cyclic}
+use Rattle.dependency.specs.Answer as dependency
 
 pub record Row : Type 0 where
   pub words : List ℕ
@@ -36,3 +39,10 @@ rows =
 pub examples : map (λ (r : Row). testOf (r .words) (r .set)) rows ≡ map (λ (r : Row). Accepted (r .stable)) rows
 unfolding testOf tableOf askTable allUsed clausesFrom clauseFrom partsFrom partFrom ask andThen onTo setOf entriesFrom onSet onTable stableTest sublists models satisfies reduct programOf clausesOf
 examples = refl
+
+-- 0 <- ~1. 1 <- ~0.: "cycle yes"; without the second clause there is none
+pub cycle-examples :
+    (dependency.cycleOf (2 ∷ 2 ∷ 1 ∷ 0 ∷ 1 ∷ 0 ∷ 1 ∷ 1 ∷ 0 ∷ 1 ∷ 1 ∷ 0 ∷ []) ≡ cycle.Accepted true)
+    × (dependency.cycleOf (2 ∷ 1 ∷ 1 ∷ 0 ∷ 1 ∷ 0 ∷ 1 ∷ []) ≡ cycle.Accepted false)
+unfolding dependency.cycleOf dependency.onTable tableOf askTable allUsed clausesFrom clauseFrom partsFrom partFrom ask andThen onTo programOf clausesOf cyclic anyBelow leads onward ahead
+cycle-examples = (refl, refl)

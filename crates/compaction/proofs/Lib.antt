@@ -2,3 +2,4 @@ pub mod Marks
 pub mod Words
 pub mod Tables
 pub mod Answers
+pub mod Limits

@@ -120,7 +120,7 @@ fn entry_size(words: &[u16], marks: &[u8], at: usize) -> usize
 }
 
 // The number of words of the reduced table.
-fn left_size(words: &[u16], marks: &[u8]) -> usize
+pub fn left_size(words: &[u16], marks: &[u8]) -> usize
     requires { ⌜ Ready (now words) (now marks) ⌝ }
     ensures { λ r. ⌜ r ≡ length (reduced (now (words .entry)) (now (marks .entry))) ⌝ }
 {
@@ -163,7 +163,8 @@ fn copy_part(
 {
     let mut n = to;
     for i in at..end {
-        if marks[i] != 1 {
+        let mark = marks[i];
+        if mark != 1 {
             continue;
         }
         out[n] = words[i];
@@ -200,7 +201,8 @@ fn copy_entry(words: &[u16], marks: &[u8], at: usize, out: &mut [u16], to: usize
     requires { ⌜ Room (now words) (now marks) (now out) at to ⌝ }
     ensures { λ r. ⌜ (r ≡ to + length (entryWords (entryAt (now (words .entry)) (now (marks .entry)) at))) × (now (out .exit) ≡ sets (now (out .entry)) to (entryWords (entryAt (now (words .entry)) (now (marks .entry)) at))) ⌝ }
 {
-    if marks[at] != 1 {
+    let first = marks[at];
+    if first != 1 {
         return to;
     }
     copy_clause(words, marks, at, out, to)
@@ -221,7 +223,7 @@ fn copy_clauses(words: &[u16], marks: &[u8], out: &mut [u16])
 }
 
 // The words of the reduced table.
-fn write_reduced(words: &[u16], marks: &[u8], out: &mut [u16])
+pub fn write_reduced(words: &[u16], marks: &[u8], out: &mut [u16])
     requires { ⌜ Fits (now words) (now marks) (now out) ⌝ }
     ensures { λ _. ⌜ now (out .exit) ≡ sets (now (out .entry)) 0 (reduced (now (words .entry)) (now (marks .entry))) ⌝ }
 {

@@ -49,6 +49,17 @@ asksReach failure = false
 asksReach loop = true
 asksReach subsumed = false
 
+-- kinds 3 and 4 drop a literal, and the others delete
+abbrev pub drops : Kind → Bool
+drops tautology = false
+drops contradiction = false
+drops success = true
+drops noHead = true
+drops blocked = false
+drops failure = false
+drops loop = false
+drops subsumed = false
+
 -- What a kind asks of the whole program is known.
 pub record Known (k : Kind) (ws ms hs rs : List ℕ) : Type 0 where
   pub heads : So (asksHeads k) → Heads ws ms hs

@@ -16,9 +16,9 @@ use Rattle.rewriting.proofs.Measure.{Tidy}
 use Rattle.rewriting.proofs.Search.{partner-lt, atom-lt, number-bounds}
 use Rattle.rewriting.proofs.Greedy.{reduce-greedy, greedy-accepted, accepted-measure}
 use Rattle.table.specs.Encoding.{clauseWords, clausesWords, encode, OrderedClause, Within}
-use Rattle.text.specs.Digits.{width, digits, commas, joined}
-use Rattle.text.specs.Render.{lineText}
+use Rattle.text.specs.Digits.{width, digits, others, commas}
 use Rattle.text.proofs.Numbers.{digits-length, width-four}
+use Rattle.writer.proofs.Laws.{line-length}
 use Rattle.filter.specs.Output.{stepKey, stepText, stepsText, stepsOf}
 
 -- ---- the words of a step
@@ -53,17 +53,18 @@ applies-small n P s h =
 
 -- ---- a step's line
 
-line-length : (key value : List ℕ) → length (lineText key value) ≡ length key + length value + 1
-unfolding lineText
-line-length key value = omega (arith, length-append key (value ++ 10 ∷ []), length-append value (10 ∷ []))
+pub pair-length : (a b : ℕ) → length (commas (a ∷ b ∷ [])) ≡ width a + (1 + width b)
+unfolding commas others
+pair-length a b = omega (arith, length-append (digits a) (44 ∷ digits b ++ []), length-append (digits b) [], digits-length a, digits-length b)
 
 four : (a b c d : ℕ) → length (commas (a ∷ b ∷ c ∷ d ∷ [])) ≡ width a + width b + width c + width d + 3
-unfolding commas joined
+unfolding commas others
 four a b c d = omega (
   arith,
-  length-append (digits a) (44 ∷ joined b (c ∷ d ∷ [])),
-  length-append (digits b) (44 ∷ joined c (d ∷ [])),
-  length-append (digits c) (44 ∷ joined d []),
+  length-append (digits a) (44 ∷ digits b ++ (44 ∷ digits c ++ (44 ∷ digits d ++ []))),
+  length-append (digits b) (44 ∷ digits c ++ (44 ∷ digits d ++ [])),
+  length-append (digits c) (44 ∷ digits d ++ []),
+  length-append (digits d) [],
   digits-length a,
   digits-length b,
   digits-length c,

@@ -1,1 +1,4 @@
 pub mod Bounds
+pub mod Laws
+pub mod Left
+pub mod Steps

@@ -6,7 +6,6 @@ use Rattle.semantics.specs.Programs.{Program, program}
 use Rattle.rewriting.specs.Marked.{Marked, left, whole}
 use Rattle.rewriting.specs.Steps.{Step, number, leaves}
 use Rattle.rewriting.specs.Reducer.{reduce, measure}
-use Rattle.table.specs.declared.Refusal.{Refusal}
 use Rattle.table.specs.Refusals.{refusalNumber, refusalPlace}
 use Rattle.text.specs.Digits.{digits, commas}
 use Rattle.text.specs.Render.{lineText, render}
@@ -45,12 +44,12 @@ unfoldable pub reducedText : Program → List ℕ
 reducedText P = render (reducedOf P) ++ (lineText stepsKey (digits (length (stepsOf P))) ++ stepsText (stepsOf P))
 
 -- "A refusal prints only refused= with number and place, joined by a comma"
-unfoldable pub refusedText : Refusal → List ℕ
-refusedText r = lineText refusedKey (commas (refusalNumber r ∷ refusalPlace r ∷ []))
+unfoldable pub refusedText : ℕ → ℕ → List ℕ
+refusedText number place = lineText refusedKey (commas (number ∷ place ∷ []))
 
 abbrev pub printed : Read Program → List ℕ
 printed (done P e) = reducedText P
-printed (stop r) = refusedText r
+printed (stop r) = refusedText (refusalNumber r) (refusalPlace r)
 
 -- the whole output for an input
 unfoldable pub outputOf : List ℕ → List ℕ

@@ -1,1 +1,83 @@
-// The program's whole work as one function on slices. The output as a definition is in specs/Output.antt.
+// The program's whole work as one function on slices: text in, the reduced program and its steps out.
+ghost use mathlib.Core.Path.{_≡_};
+ghost use mathlib.Core.List.{[], _∷_};
+ghost use Prim.Native.Nat.{ℕ, _+_, _*_, _≤_, _<_};
+ghost use lib.ListN.{length};
+ghost use Rattle.table.specs.declared.Refusal.{Refusal};
+ghost use Rattle.table.specs.Places.{cut};
+ghost use Rattle.text.specs.Digits.{commas};
+ghost use Rattle.text.specs.Writer.{Puts};
+ghost use Rattle.text.specs.Render.{lineText, render};
+ghost use Rattle.compaction.specs.Reduced.{leftProgram};
+ghost use Rattle.compaction.specs.Parts.{Ready};
+ghost use Rattle.filter.specs.Output.{stepKey, refusedText};
+ghost use Rattle.filter.specs.Lines.{stepLines, listLines};
+use table::Refusal;
+use writer::put_bytes;
+use writer::put_line;
+use writer::put_next;
+use writer::put_number;
+use writer::put_number_line;
+use writer::put_text;
+
+// Two numbers joined by a comma; the place past them.
+fn put_pair(out: &mut [u8], at: usize, a: usize, b: usize) -> usize
+    requires { ⌜ at + length (commas (a ∷ b ∷ [])) ≤ length (now out) ⌝ }
+    ensures { λ r. ⌜ Puts (now (out .entry)) (now (out .exit)) at r (commas (a ∷ b ∷ [])) ⌝ }
+{
+    let n = put_number(out, at, a);
+    put_next(out, n, b)
+}
+
+// The line of a refusal, which is the whole output; the number of its bytes.
+fn put_refused(out: &mut [u8], number: usize, place: usize) -> usize
+    requires { ⌜ length (refusedText number place) ≤ length (now out) ⌝ }
+    ensures { λ r. ⌜ Puts (now (out .entry)) (now (out .exit)) 0 r (refusedText number place) ⌝ }
+{
+    let a = put_bytes(out, 0, b"refused=");
+    let b = put_pair(out, a, number, place);
+    put_bytes(out, b, b"\n")
+}
+
+// The line of the step whose first word is at `from`; the place past it.
+fn put_step(out: &mut [u8], at: usize, list: &[u16], from: usize) -> usize
+    requires { ⌜ (from + 4 ≤ length (now list)) × (at + length (lineText stepKey (commas (cut (now list) from 4))) ≤ length (now out)) ⌝ }
+    ensures { λ r. ⌜ Puts (now (out .entry)) (now (out .exit)) at r (lineText stepKey (commas (cut (now (list .entry)) from 4))) ⌝ }
+{
+    let end = from + 4;
+    put_line(out, at, b"step=", &list[from..end])
+}
+
+// A line for each of the first s steps of the list; the place past them.
+fn put_steps(out: &mut [u8], at: usize, list: &[u16], s: usize) -> usize
+    requires { ⌜ (4 * s ≤ length (now list)) × (at + length (stepLines (now list) 0 s) ≤ length (now out)) ⌝ }
+    ensures { λ r. ⌜ Puts (now (out .entry)) (now (out .exit)) at r (stepLines (now (list .entry)) 0 s) ⌝ }
+{
+    let mut n = at;
+    let mut from: usize = 0;
+    for k in 0..s {
+        n = put_step(out, n, list, from);
+        from += 4;
+    }
+    n
+}
+
+// The count of steps, and a line for each; the place past them.
+fn put_list(out: &mut [u8], at: usize, list: &[u16], s: usize) -> usize
+    requires { ⌜ (4 * s ≤ length (now list)) × (at + length (listLines (now list) s) ≤ length (now out)) ⌝ }
+    ensures { λ r. ⌜ Puts (now (out .entry)) (now (out .exit)) at r (listLines (now (list .entry)) s) ⌝ }
+{
+    let n = put_number_line(out, at, b"steps=", s);
+    put_steps(out, n, list, s)
+}
+
+// The text of the program that the marks leave; the number of its bytes.
+fn put_left(out: &mut [u8], words: &[u16], marks: &[u8]) -> usize
+    requires { ⌜ (Ready (now words) (now marks)) × (43022 ≤ length (now out)) ⌝ }
+    ensures { λ r. ⌜ Puts (now (out .entry)) (now (out .exit)) 0 r (render (leftProgram (now (words .entry)) (now (marks .entry)))) ⌝ }
+{
+    let mut reduced = [0u16; 8192];
+    let k = compaction::left_size(words, marks);
+    compaction::write_reduced(words, marks, &mut reduced);
+    put_text(out, &reduced[0..k])
+}

@@ -68,7 +68,7 @@ clauses-near ws n zero at h = h
 clauses-near ws n (suc m) at h = near-on _ _ _ (clause-near ws n at h) (λ e l. clauses-near ws n m e l)
 
 -- an answer of the table check that refuses has a place of at most 65,536
-abbrev Checks : Checked → Type 0
+abbrev pub Checks : Checked → Type 0
 Checks (checked.Valid t) = Unit {0}
 Checks (checked.Refused r) = refusalPlace r ≤ 65536
 
@@ -82,7 +82,7 @@ unfolding allUsed
 used-checks ws (To e) l h = checks-ask _ _ _ (omega arith) (λ _. tt)
 used-checks ws (Stop r) l h = omega arith
 
-table-checks : (ws : List ℕ) → Checks (tableOf ws)
+pub table-checks : (ws : List ℕ) → Checks (tableOf ws)
 unfolding tableOf
 table-checks ws =
     checks-ask _ _ _ (omega arith) (λ t. let (a, b) = and-iff (leb 2 (length ws)) (leb (length ws) 8192) .0 t in

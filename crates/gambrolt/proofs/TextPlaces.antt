@@ -1,8 +1,8 @@
--- The place of a refused text is at most its length, so at most 65,536.
+-- The place of a refused text is at most its length, so at most 65,536; a table that isn't written has a place of its words.
 use Prim.Native.Nat.{ℕ, zero, suc, _≤_, _<_, _-_, _+_}
 use mathlib.Core.Path.{_≡_, refl}
 use mathlib.Core.List.{List}
-use mathlib.Core.Bool.{Bool, true, false, _&&_}
+use mathlib.Core.Bool.{Bool, true, false, cond}
 use borrow.Author.Tests.{leb-true}
 use native.Mathlib.Omega.{arith}
 use lib.Dec.{leb, eqb}
@@ -10,8 +10,13 @@ use lib.ListN.{length}
 use Rattle.semantics.specs.Programs.{Clause, Program}
 use Rattle.table.specs.declared.ByteQuestion.{ByteQuestion}
 use Rattle.table.specs.declared.ByteQuestion.the-variants.{TextAtomLimit, TextClauseLimit}
+use Rattle.table.specs.declared.CallQuestion.the-variants.{TextRoom}
 use Rattle.table.specs.declared.Refusal.{Refusal}
+use Rattle.table.specs.declared.Refusal.the-variants.{Call}
+use Rattle.table.specs.declared.Checked.{Checked}
+use Rattle.table.specs.declared.Checked.the-variants as checked
 use Rattle.table.specs.Refusals.{refusalPlace}
+use Rattle.table.specs.Questions.{tableOf}
 use Rattle.table.specs.Encoding.{clauseWords}
 use Rattle.text.specs.declared.Span.{Span}
 use Rattle.text.specs.declared.Span.the-variants.{Value, Missing}
@@ -21,7 +26,12 @@ use Rattle.text.specs.declared.ReadAnswer.{ReadAnswer}
 use Rattle.text.specs.declared.ReadAnswer.the-variants.{Accepted, Refused}
 use Rattle.text.specs.Render.{headKey, posKey, negKey, atomsKey, clausesKey}
 use Rattle.text.specs.Reader.{Read, done, stop, ask, then, spanAt, onSpan, valueOf, valueAt, numberAt, countAt, order, onOrder, listOf, listAt, clauseAt, clausesAt, restAt, programAt, readText, answerOf, readAnswer}
+use Rattle.text.specs.Writer.{textOf, writeAnswer}
+use Rattle.text.specs.Writer as writer
+use Rattle.text.specs.declared.WriteAnswer.{WriteAnswer}
+use Rattle.text.specs.declared.WriteAnswer.the-variants as wrote
 use Rattle.text.proofs.Lines.{line-inv}
+use Rattle.gambrolt.proofs.Places.{Checks, table-checks}
 
 module _ {A : Type 0} where
   -- what is read ends at a place of at most b, or is refused at one
@@ -105,3 +115,22 @@ read-place ts room r q = go (readText ts room) (text-near ts room) q
     go : (x : Read Program) → Near 65536 x → answerOf x ≡ Refused r → refusalPlace r ≤ 65536
     go (done P e) h q = let z : _≡_ {A = ℕ} 0 1 = cc in absurd (omega arith)
     go (stop s) h q = let k : s ≡ r = cc in rw k at h
+
+abbrev Writes : WriteAnswer → Type 0
+Writes (wrote.Accepted n) = Unit {0}
+Writes (wrote.Refused r) = refusalPlace r ≤ 65536
+
+writes-room : (t : Bool) (n : ℕ) → Writes (cond t (wrote.Accepted n) (wrote.Refused (Call TextRoom)))
+writes-room true n = tt
+writes-room false n = omega arith
+
+writes-table : (c : Checked) (text : List ℕ) (room : ℕ) → Checks c → Writes (writer.answerOf c text room)
+writes-table (checked.Valid t) text room h = writes-room (leb (length text) room) (length text)
+writes-table (checked.Refused r) text room h = h
+
+write-writes : (ws : List ℕ) (room : ℕ) → Writes (writeAnswer ws room)
+unfolding writeAnswer
+write-writes ws room = writes-table (tableOf ws) (textOf ws) room (table-checks ws)
+
+pub write-place : (ws : List ℕ) (room : ℕ) (r : Refusal) → writeAnswer ws room ≡ wrote.Refused r → refusalPlace r ≤ 65536
+write-place ws room r q = rw q at (write-writes ws room)

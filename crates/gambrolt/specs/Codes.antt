@@ -9,6 +9,8 @@ use Rattle.stability.specs.declared.TestAnswer.{TestAnswer}
 use Rattle.stability.specs.declared.TestAnswer.the-variants as tested
 use Rattle.text.specs.declared.ReadAnswer.{ReadAnswer}
 use Rattle.text.specs.declared.ReadAnswer.the-variants as read
+use Rattle.text.specs.declared.WriteAnswer.{WriteAnswer}
+use Rattle.text.specs.declared.WriteAnswer.the-variants as wrote
 use Rattle.semantics.specs.Lists.{bit}
 use Rattle.table.specs.Refusals.{refusalNumber, refusalPlace}
 
@@ -35,3 +37,8 @@ testCode (tested.Refused r) = refusalCode r
 abbrev pub readCode : ReadAnswer → ℕ
 readCode (read.Accepted n) = n
 readCode (read.Refused r) = refusalCode r
+
+-- writing text carries the bytes written
+abbrev pub writeCode : WriteAnswer → ℕ
+writeCode (wrote.Accepted n) = n
+writeCode (wrote.Refused r) = refusalCode r

@@ -2,17 +2,35 @@
 ghost use mathlib.Core.Path.{_≡_};
 ghost use Prim.Native.Nat.{ℕ, _+_, _*_, _≤_, _<_};
 ghost use lib.ListN.{length};
+ghost use Rattle.semantics.specs.Lists.{bit};
+ghost use Rattle.table.specs.Refusals.{refusalPlace};
 ghost use Rattle.table.specs.Questions.{tableOf};
 ghost use Rattle.compaction.specs.Reduced.{reducedAnswer, reducedOut};
 ghost use Rattle.stability.specs.Answer.{testOf};
 ghost use Rattle.text.specs.Reader.{readAnswer, tableAfter};
-ghost use Rattle.gambrolt.specs.Codes.{tableCode, reducedCode, testCode, readCode};
+ghost use Rattle.text.specs.Writer.{writeAnswer, outAfter};
+ghost use Rattle.gambrolt.specs.Codes.{refusalCode, tableCode, reducedCode, testCode, readCode, writeCode};
 use compaction::CompactAnswer;
 use stability::TestAnswer;
 use table::Checked;
+use table::Refusal;
 use text::ReadAnswer;
+use text::WriteAnswer;
 
-mod codes;
+// Number times 2^48 plus place. Every call's places are at most 65,536.
+fn refusal_code(r: Refusal) -> u64
+    requires { ⌜ refusalPlace r ≤ 65536 ⌝ }
+    ensures { λ n. ⌜ n ≡ refusalCode r ⌝ }
+{
+    table::refusal_number(r) * 281474976710656 + table::refusal_place(r) as u64
+}
+
+// 1 for yes and 0 for no.
+fn one_if(yes: bool) -> u64
+    ensures { λ n. ⌜ n ≡ bit yes ⌝ }
+{
+    if yes { 1 } else { 0 }
+}
 
 // Questions 1 to 8.
 #[no_mangle]
@@ -21,7 +39,7 @@ pub extern "C" fn gambrolt_check_table(words: &[u16]) -> u64
 {
     match table::check_table(words) {
         Checked::Valid(_) => 0,
-        Checked::Refused(r) => codes::refusal_code(r),
+        Checked::Refused(r) => refusal_code(r),
     }
 }
 
@@ -32,7 +50,7 @@ pub extern "C" fn gambrolt_reduced_table(words: &[u16], marks: &[u8], out: &mut 
 {
     match compaction::reduced_table(words, marks, out) {
         CompactAnswer::Accepted(n) => n as u64,
-        CompactAnswer::Refused(r) => codes::refusal_code(r),
+        CompactAnswer::Refused(r) => refusal_code(r),
     }
 }
 
@@ -42,8 +60,8 @@ pub extern "C" fn gambrolt_test(words: &[u16], set: &[u16]) -> u64
     ensures { λ r. ⌜ r ≡ testCode (testOf (now (words .entry)) (now (set .entry))) ⌝ }
 {
     match stability::test_set(words, set) {
-        TestAnswer::Accepted(yes) => codes::one_if(yes),
-        TestAnswer::Refused(r) => codes::refusal_code(r),
+        TestAnswer::Accepted(yes) => one_if(yes),
+        TestAnswer::Refused(r) => refusal_code(r),
     }
 }
 
@@ -54,6 +72,17 @@ pub extern "C" fn gambrolt_read_text(text: &[u8], words: &mut [u16]) -> u64
 {
     match reader::read_text(text, words) {
         ReadAnswer::Accepted(n) => n as u64,
-        ReadAnswer::Refused(r) => codes::refusal_code(r),
+        ReadAnswer::Refused(r) => refusal_code(r),
+    }
+}
+
+// Questions 1 to 8 and 28, then the text of a table.
+#[no_mangle]
+pub extern "C" fn gambrolt_write_text(words: &[u16], out: &mut [u8]) -> u64
+    ensures { λ r. ⌜ (r ≡ writeCode (writeAnswer (now (words .entry)) (length (now (out .entry))))) × (now (out .exit) ≡ outAfter (now (words .entry)) (now (out .entry))) ⌝ }
+{
+    match writer::write_text(words, out) {
+        WriteAnswer::Accepted(n) => n as u64,
+        WriteAnswer::Refused(r) => refusal_code(r),
     }
 }

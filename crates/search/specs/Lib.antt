@@ -1,2 +1,4 @@
 pub mod Stamps
 pub mod Flags
+pub mod Kinds
+pub mod State

@@ -1,11 +1,11 @@
 -- Stamps: an array of bytes that holds one clause's atoms, so that a test of membership is one look.
 use mathlib.Core.Path.{_≡_}
-use mathlib.Core.Bool.{Bool}
+use mathlib.Core.Bool.{Bool, _&&_}
 use mathlib.Core.List.{List, [], _∷_}
 use Prim.Native.Nat.{ℕ, _+_, _<_}
 use lib.Dec.{eqb}
 use lib.ListN.{length, getD, set}
-use Rattle.semantics.specs.Lists.{mem}
+use Rattle.semantics.specs.Lists.{all, mem}
 use Rattle.semantics.specs.Programs.{Clause}
 
 -- every word is below n
@@ -25,3 +25,7 @@ pub record Stamps (c : Clause) (st : List ℕ) : Type 0 where
   pub head : (a : ℕ) → a < 1024 → isStamped st 0 a ≡ mem a (c .head)
   pub pos : (a : ℕ) → a < 1024 → isStamped st 1024 a ≡ mem a (c .pos)
   pub neg : (a : ℕ) → a < 1024 → isStamped st 2048 a ≡ mem a (c .neg)
+
+-- every part of a clause is stamped in its own range
+abbrev pub allStamped : List ℕ → Clause → Bool
+allStamped st d = all (isStamped st 0) (d .head) && (all (isStamped st 1024) (d .pos) && all (isStamped st 2048) (d .neg))

@@ -1,11 +1,24 @@
 // The search for the smallest applicable step: only flagged targets are looked at.
 ghost use mathlib.Core.Path.{_≡_};
+ghost use mathlib.Core.Bool.{So, _&&_};
 ghost use Prim.Native.Nat.{ℕ, _+_, _-_, _*_, _≤_, _<_};
-ghost use lib.ListN.{length, getD};
+ghost use lib.Dec.{eqb};
+ghost use lib.ListN.{length, getD, replicate};
 ghost use Rattle.semantics.specs.Lists.{all};
+ghost use Rattle.rewriting.specs.Marked.{entry, left};
+ghost use Rattle.rewriting.specs.Steps.{fact, single, step, kindOf, condition, applies};
+ghost use Rattle.table.specs.View.{view};
 ghost use Rattle.table.proofs.Parts.{kept-of};
-ghost use Rattle.search.specs.Stamps.{stamped, isStamped, Below};
+ghost use Rattle.parts.specs.Parts.{partOf, Ready};
+ghost use Rattle.search.specs.Stamps.{stamped, isStamped, allStamped, Stamps, Below};
 ghost use Rattle.search.specs.Flags.{Grown, AllFlagged};
+ghost use Rattle.rewriting.specs.Reducer.{firstTarget};
+ghost use Rattle.rewriting.proofs.Order.{asked, walked};
+ghost use Rattle.search.specs.Kinds.{PartnerKind, AtomKind, walkedPart};
+ghost use Rattle.search.specs.State.{Arrays, Walk, Partners, Calm, Swept, foundOf};
+use parts::Bounds;
+use parts::Part;
+use parts::Single;
 
 // A step, or a row of a list: its kind's number, its target, its partner and its atom.
 pub struct Step {
@@ -73,15 +86,315 @@ fn all_stamped(part: &[u16], marks: &[u8], stamps: &[u8], offset: usize) -> bool
     true
 }
 
+// Stamps a part of clause t.
+fn stamp(
+    words: &[u16],
+    marks: &[u8],
+    start: &[u16],
+    t: usize,
+    part: Part,
+    stamps: &mut [u8],
+    offset: usize,
+)
+    requires { ⌜ (Ready (now words) (now marks) (now start)) × ((t < getD (now words) 1 0) × ((offset ≤ 2048) × (length (now stamps) ≡ 3072))) ⌝ }
+    ensures { λ _. ⌜ now (stamps .exit) ≡ stamped (now (stamps .entry)) offset (partOf part (entry (view (now (words .entry)) (now (marks .entry))) t .clause)) ⌝ }
+{
+    let s = parts::span(words, start, t, part);
+    let a = s.from;
+    let b = s.end;
+    stamp_part(&words[a..b], &marks[a..b], stamps, offset);
+}
+
+// Stamps the three parts of clause t.
+fn stamp_clause(words: &[u16], marks: &[u8], start: &[u16], t: usize, stamps: &mut [u8])
+    requires { ⌜ (Ready (now words) (now marks) (now start)) × ((t < getD (now words) 1 0) × (now stamps ≡ replicate 3072 0)) ⌝ }
+    ensures { λ _. ⌜ (Stamps (entry (view (now (words .entry)) (now (marks .entry))) t .clause) (now (stamps .exit))) × (length (now (stamps .exit)) ≡ 3072) ⌝ }
+{
+    stamp(words, marks, start, t, Part::Head, stamps, 0);
+    stamp(words, marks, start, t, Part::Pos, stamps, 1024);
+    stamp(words, marks, start, t, Part::Neg, stamps, 2048);
+}
+
+// Whether every atom of a part of clause p is stamped.
+fn part_stamped(
+    words: &[u16],
+    marks: &[u8],
+    start: &[u16],
+    p: usize,
+    part: Part,
+    stamps: &[u8],
+    offset: usize,
+) -> bool
+    requires { ⌜ (Ready (now words) (now marks) (now start)) × ((p < getD (now words) 1 0) × ((offset ≤ 2048) × (length (now stamps) ≡ 3072))) ⌝ }
+    ensures { λ r. ⌜ r ≡ all (isStamped (now (stamps .entry)) offset) (partOf part (entry (view (now (words .entry)) (now (marks .entry))) p .clause)) ⌝ }
+{
+    let s = parts::span(words, start, p, part);
+    let a = s.from;
+    let b = s.end;
+    all_stamped(&words[a..b], &marks[a..b], stamps, offset)
+}
+
+// Whether all three parts of clause p are stamped.
+fn clause_stamped(words: &[u16], marks: &[u8], start: &[u16], p: usize, stamps: &[u8]) -> bool
+    requires { ⌜ (Ready (now words) (now marks) (now start)) × ((p < getD (now words) 1 0) × (length (now stamps) ≡ 3072)) ⌝ }
+    ensures { λ r. ⌜ r ≡ allStamped (now (stamps .entry)) (entry (view (now (words .entry)) (now (marks .entry))) p .clause) ⌝ }
+{
+    if !part_stamped(words, marks, start, p, Part::Head, stamps, 0) {
+        return false;
+    }
+    if !part_stamped(words, marks, start, p, Part::Pos, stamps, 1024) {
+        return false;
+    }
+    part_stamped(words, marks, start, p, Part::Neg, stamps, 2048)
+}
+
+// Whether clause p has exactly one head atom, which is stamped as a positive one.
+fn single_stamped(words: &[u16], marks: &[u8], start: &[u16], p: usize, stamps: &[u8]) -> bool
+    requires { ⌜ (Ready (now words) (now marks) (now start)) × ((p < getD (now words) 1 0) × (length (now stamps) ≡ 3072)) ⌝ }
+    ensures { λ r. ⌜ r ≡ single (isStamped (now (stamps .entry)) 1024) (entry (view (now (words .entry)) (now (marks .entry))) p .clause .head) ⌝ }
+{
+    let only = parts::only(words, marks, start, p, Part::Head);
+    let Single::One(atom) = only else {
+        return false;
+    };
+    let at = 1024 + table::wide(atom);
+    stamps[at] == 1
+}
+
+// Whether clause p is a fact.
+pub fn is_fact(words: &[u16], marks: &[u8], start: &[u16], p: usize) -> bool
+    requires { ⌜ (Ready (now words) (now marks) (now start)) × (p < getD (now words) 1 0) ⌝ }
+    ensures { λ r. ⌜ r ≡ fact (entry (view (now (words .entry)) (now (marks .entry))) p .clause) ⌝ }
+{
+    if !parts::empty(words, marks, start, p, Part::Pos) {
+        return false;
+    }
+    parts::empty(words, marks, start, p, Part::Neg)
+}
+
+// Whether the fact p serves kind 3 or 5 at the target that is stamped.
+fn fact_fits(
+    words: &[u16],
+    marks: &[u8],
+    start: &[u16],
+    stamps: &[u8],
+    kind: u16,
+    t: usize,
+    p: usize,
+) -> bool
+    requires { ⌜ (Ready (now words) (now marks) (now start)) × ((p < getD (now words) 1 0) × ((length (now stamps) ≡ 3072) × ((Stamps (entry (view (now words) (now marks)) t .clause) (now stamps)) × ((PartnerKind kind) × ((kind ≡ 8 → ⊥) × So (fact (entry (view (now words) (now marks)) p .clause))))))) ⌝ }
+    ensures { λ r. ⌜ r ≡ condition (kindOf kind) (left (view (now (words .entry)) (now (marks .entry)))) (entry (view (now (words .entry)) (now (marks .entry))) t .clause) (entry (view (now (words .entry)) (now (marks .entry))) p .clause) 0 ⌝ }
+{
+    if kind == 3 {
+        single_stamped(words, marks, start, p, stamps)
+    } else {
+        part_stamped(words, marks, start, p, Part::Head, stamps, 2048)
+    }
+}
+
+// Whether the condition of kind 3, 5 or 8 holds of the target that is stamped and the partner p.
+fn partner_fits(
+    words: &[u16],
+    marks: &[u8],
+    start: &[u16],
+    stamps: &[u8],
+    kind: u16,
+    t: usize,
+    p: usize,
+) -> bool
+    requires { ⌜ (Ready (now words) (now marks) (now start)) × ((p < getD (now words) 1 0) × ((length (now stamps) ≡ 3072) × ((Stamps (entry (view (now words) (now marks)) t .clause) (now stamps)) × PartnerKind kind))) ⌝ }
+    ensures { λ r. ⌜ r ≡ condition (kindOf kind) (left (view (now (words .entry)) (now (marks .entry)))) (entry (view (now (words .entry)) (now (marks .entry))) t .clause) (entry (view (now (words .entry)) (now (marks .entry))) p .clause) 0 ⌝ }
+{
+    if kind == 8 {
+        return clause_stamped(words, marks, start, p, stamps);
+    }
+    if !is_fact(words, marks, start, p) {
+        return false;
+    }
+    fact_fits(words, marks, start, stamps, kind, t, p)
+}
+
+// Whether the step of kind 3, 5 or 8 with the kept target that is stamped and the partner p applies.
+fn partner_applies(
+    words: &[u16],
+    marks: &[u8],
+    start: &[u16],
+    stamps: &[u8],
+    kind: u16,
+    t: usize,
+    p: usize,
+) -> bool
+    requires { ⌜ (Ready (now words) (now marks) (now start)) × ((p < getD (now words) 1 0) × ((length (now stamps) ≡ 3072) × ((Stamps (entry (view (now words) (now marks)) t .clause) (now stamps)) × ((PartnerKind kind) × So (entry (view (now words) (now marks)) t .kept))))) ⌝ }
+    ensures { λ r. ⌜ r ≡ applies (getD (now (words .entry)) 0 0) (view (now (words .entry)) (now (marks .entry))) (step (kindOf kind) t p 0) ⌝ }
+{
+    if p == t {
+        return false;
+    }
+    if !parts::kept(words, marks, start, p) {
+        return false;
+    }
+    partner_fits(words, marks, start, stamps, kind, t, p)
+}
+
 // ---- flags: one byte a kind and target
 
 // Flags every target of a kind.
 pub fn flag_all(may: &mut [u8], kind: usize, m: usize)
-    requires { ⌜ (kind ≤ 8) × ((m ≤ 2048) × (length (now may) ≡ 18432)) ⌝ }
+    requires { ⌜ (kind ≤ 9) × ((m ≤ 2048) × (length (now may) ≡ 20480)) ⌝ }
     ensures { λ _. ⌜ Grown (now (may .entry)) (now (may .exit)) × AllFlagged (now (may .exit)) kind m ⌝ }
 {
     let base = kind * 2048;
     for t in 0..m {
         may[base + t] = 1;
     }
+}
+
+// ---- the search of a kind with an atom
+
+// The part that the search of a kind walks.
+fn walked_part(kind: u16) -> Part
+    ensures { λ r. ⌜ r ≡ walkedPart kind ⌝ }
+{
+    if kind == 1 {
+        return Part::Head;
+    }
+    if kind == 4 {
+        return Part::Neg;
+    }
+    Part::Pos
+}
+
+// The words that the search walks in clause t: none where the clause is gone.
+fn walk(words: &[u16], marks: &[u8], start: &[u16], kind: u16, t: usize) -> Bounds
+    requires { ⌜ (Ready (now words) (now marks) (now start)) × ((t < getD (now words) 1 0) × (AtomKind kind)) ⌝ }
+    ensures { λ r. ⌜ Walk (now (words .entry)) (now (marks .entry)) kind t (r .from) (r .end) ⌝ }
+{
+    if !parts::kept(words, marks, start, t) {
+        return Bounds { from: 0, end: 0 };
+    }
+    parts::span(words, start, t, walked_part(kind))
+}
+
+// Whether an atom of the walked part makes the kind's condition hold.
+fn passes(
+    words: &[u16],
+    marks: &[u8],
+    start: &[u16],
+    heads: &[u16],
+    reach: &[u8],
+    kind: u16,
+    t: usize,
+    atom: u16,
+) -> bool
+    requires { ⌜ (Arrays (now words) (now marks) (now start) (now heads) (now reach) kind) × ((t < getD (now words) 1 0) × ((atom < getD (now words) 0 0) × (AtomKind kind))) ⌝ }
+    ensures { λ r. ⌜ r ≡ asked (kindOf kind) (left (view (now (words .entry)) (now (marks .entry)))) (entry (view (now (words .entry)) (now (marks .entry))) t .clause) atom ⌝ }
+{
+    if kind == 1 {
+        return parts::has(words, marks, start, t, Part::Pos, atom);
+    }
+    if kind == 2 {
+        return parts::has(words, marks, start, t, Part::Neg, atom);
+    }
+    if kind == 7 {
+        return !reach::is_in(reach, atom);
+    }
+    let a = table::wide(atom);
+    heads[a] == 0
+}
+
+// Whether the word at a place of the walked part is kept and makes the condition hold.
+fn passes_at(
+    words: &[u16],
+    marks: &[u8],
+    start: &[u16],
+    heads: &[u16],
+    reach: &[u8],
+    kind: u16,
+    t: usize,
+    i: usize,
+) -> bool
+    requires { ⌜ (Arrays (now words) (now marks) (now start) (now heads) (now reach) kind) × ((t < getD (now words) 1 0) × ((i < length (now words)) × ((getD (now words) i 0 < getD (now words) 0 0) × (AtomKind kind)))) ⌝ }
+    ensures { λ r. ⌜ r ≡ (eqb (getD (now (marks .entry)) i 0) 1 && asked (kindOf kind) (left (view (now (words .entry)) (now (marks .entry)))) (entry (view (now (words .entry)) (now (marks .entry))) t .clause) (getD (now (words .entry)) i 0)) ⌝ }
+{
+    if marks[i] != 1 {
+        return false;
+    }
+    passes(words, marks, start, heads, reach, kind, t, words[i])
+}
+
+// The smallest step of a kind with an atom: only flagged targets are looked at, and the flag of one that has none is cleared.
+pub fn first_by_atom(
+    words: &[u16],
+    marks: &[u8],
+    start: &[u16],
+    heads: &[u16],
+    reach: &[u8],
+    may: &mut [u8],
+    kind: u16,
+    m: usize,
+) -> Found
+    requires { ⌜ (Arrays (now words) (now marks) (now start) (now heads) (now reach) kind) × ((m ≡ getD (now words) 1 0) × ((AtomKind kind) × (Calm (now words) (now marks) (now may) kind))) ⌝ }
+    ensures { λ r. ⌜ (r ≡ foundOf (firstTarget (getD (now (words .entry)) 0 0) (view (now (words .entry)) (now (marks .entry))) (kindOf kind))) × Swept (now (words .entry)) (now (marks .entry)) (now (may .entry)) (now (may .exit)) kind ⌝ }
+{
+    let base = table::wide(kind) * 2048;
+    let mut found = Found::Nothing;
+    'search: for t in 0..m {
+        if may[base + t] != 0 {
+            let w = walk(words, marks, start, kind, t);
+            let e = w.end;
+            for i in w.from..e {
+                if passes_at(words, marks, start, heads, reach, kind, t, i) {
+                    found = Found::One(Step::new(kind, narrow(t), 0, words[i]));
+                    break 'search;
+                }
+            }
+            may[base + t] = 0;
+        }
+    }
+    found
+}
+
+// ---- the search of a kind with a partner
+
+// How many partners the search tries for the target t: none where it is gone.
+fn partners(words: &[u16], marks: &[u8], start: &[u16], t: usize, m: usize) -> usize
+    requires { ⌜ (Ready (now words) (now marks) (now start)) × ((t < getD (now words) 1 0) × (m ≡ getD (now words) 1 0)) ⌝ }
+    ensures { λ r. ⌜ Partners (now (words .entry)) (now (marks .entry)) t r ⌝ }
+{
+    if parts::kept(words, marks, start, t) {
+        m
+    } else {
+        0
+    }
+}
+
+// The smallest step of a kind with a partner, in the same way; the target's atoms are stamped for the tests.
+pub fn first_by_partner(
+    words: &[u16],
+    marks: &[u8],
+    start: &[u16],
+    may: &mut [u8],
+    kind: u16,
+    m: usize,
+) -> Found
+    requires { ⌜ (Ready (now words) (now marks) (now start)) × ((m ≡ getD (now words) 1 0) × ((PartnerKind kind) × (Calm (now words) (now marks) (now may) kind))) ⌝ }
+    ensures { λ r. ⌜ (r ≡ foundOf (firstTarget (getD (now (words .entry)) 0 0) (view (now (words .entry)) (now (marks .entry))) (kindOf kind))) × Swept (now (words .entry)) (now (marks .entry)) (now (may .entry)) (now (may .exit)) kind ⌝ }
+{
+    let base = table::wide(kind) * 2048;
+    let mut found = Found::Nothing;
+    'search: for t in 0..m {
+        if may[base + t] != 0 {
+            let mut stamps = [0u8; 3072];
+            stamp_clause(words, marks, start, t, &mut stamps);
+            let e = partners(words, marks, start, t, m);
+            for p in 0..e {
+                if partner_applies(words, marks, start, &stamps, kind, t, p) {
+                    found = Found::One(Step::new(kind, narrow(t), narrow(p), 0));
+                    break 'search;
+                }
+            }
+            may[base + t] = 0;
+        }
+    }
+    found
 }

@@ -14,9 +14,6 @@ use Rattle.search.proofs.Stamps.{part-done, not-stamped, is-stamped}
 use borrow.Author.Needs.{needs}
 use Rattle.search.proofs.all_stamped.Statement.{statement}
 use Rattle.search.proofs.all_stamped.Tie as tie
-use Rattle.search.proofs.all_stamped.Reads as reads
-use Rattle.search.proofs.all_stamped.Lts as lts
-use Rattle.table.proofs.wide.Reads as wide-reads
 
 abbrev Inv-loop : tie.InvT-loop
 Inv-loop part marks stamps offset i₀ i-end i = (i ≤ i-end) × ((i-end ≡ length part) × (all (isStamped stamps offset) (kept-of (drop i part) (drop i marks)) ≡ all (isStamped stamps offset) (kept-of part marks)))
@@ -24,88 +21,32 @@ Inv-loop part marks stamps offset i₀ i-end i = (i ≤ i-end) × ((i-end ≡ le
 abbrev μ-loop : tie.MeasureT-loop
 μ-loop part marks stamps offset i₀ i-end i = i-end - i
 
--- src/lib.rt:65:5
 loop-holds : tie.Need-loop-holds Inv-loop μ-loop
 loop-holds c = (search needs, (search needs, refl))
 
--- src/lib.rt:66:12
 shared-slice-read-if1 : tie.Need-shared-slice-read-if1 Inv-loop μ-loop
 shared-slice-read-if1 c = omega (arith, c .before .before .before .before .before .before .pre .0, c .before .before .loop .inv)
 
--- src/lib.rt:67:13
-add-i : tie.Need-add-i Inv-loop μ-loop
-add-i c = search needs
-
--- src/lib.rt:65:5
-loop-less : tie.Need-loop-less Inv-loop μ-loop
-loop-less c = search needs
-
--- src/lib.rt:65:5
 loop-again : tie.Need-loop-again Inv-loop μ-loop
 loop-again c = (search needs, (search needs, ap (all (isStamped (c .before .before .before .before .before .before .before .args .stamps .now) (c .before .before .before .before .before .before .before .args .offset))) (sym (kept-on (c .before .before .before .before .before .before .before .args .part .now) (c .before .before .before .before .before .before .before .args .marks .now) (c .before .before .before .loop .i) (omega (arith, c .before .before .loop-test .taken, c .before .before .before .loop .inv .1 .0)) (c .before .before .before .before .before .before .before .pre .0) (c .if1 .taken))) ∙ c .before .before .before .loop .inv .1 .1))
 
--- src/lib.rt:69:40
-mul-wide : tie.Need-mul-wide Inv-loop μ-loop
-mul-wide c = search needs
-
--- src/lib.rt:69:40
-shared-slice-read-wide : tie.Need-shared-slice-read-wide Inv-loop μ-loop
-shared-slice-read-wide c = search needs
-
--- src/lib.rt:69:28
-wide-requires : tie.Need-wide-requires Inv-loop μ-loop
-wide-requires c κs = search needs
-
--- src/lib.rt:69:19
-add-if2 : tie.Need-add-if2 Inv-loop μ-loop
-add-if2 c = search needs
-
--- src/lib.rt:69:12
 shared-slice-read-if2 : tie.Need-shared-slice-read-if2 Inv-loop μ-loop
 shared-slice-read-if2 c = let b = c .before .before .before .before .before .before .before .before .before .before .pre .1 .1 .1 (c .before .before .before .before .before .before .loop .i) (omega (arith, c .before .before .before .before .before .loop-test .taken, c .before .before .before .before .before .before .loop .inv .1 .0)) in omega (arith, c .before .wide .ensures, c .before .before .before .before .before .before .before .before .before .before .pre .1)
 
--- src/lib.rt:70:13
 returns : tie.Need-returns Inv-loop μ-loop
 returns c =
     let e = kept-some (c .before .before .before .before .before .before .before .before .before .before .before .args .part .now) (c .before .before .before .before .before .before .before .before .before .before .before .args .marks .now) (c .before .before .before .before .before .before .before .loop .i) (omega (arith, c .before .before .before .before .before .before .loop-test .taken, c .before .before .before .before .before .before .before .loop .inv .1 .0)) (c .before .before .before .before .before .before .before .before .before .before .before .pre .0) (c .before .before .before .before .if1 .left) in
     sym (ap (all (isStamped (c .before .before .before .before .before .before .before .before .before .before .before .args .stamps .now) (c .before .before .before .before .before .before .before .before .before .before .before .args .offset))) e ∙ not-stamped (c .before .before .before .before .before .before .before .before .before .before .before .args .stamps .now) (c .before .before .before .before .before .before .before .before .before .before .before .args .offset) _ _ (all (isStamped (c .before .before .before .before .before .before .before .before .before .before .before .args .stamps .now) (c .before .before .before .before .before .before .before .before .before .before .before .args .offset)) (kept-of (drop (c .before .before .before .before .before .before .before .loop .i + 1) (c .before .before .before .before .before .before .before .before .before .before .before .args .part .now)) (drop (c .before .before .before .before .before .before .before .loop .i + 1) (c .before .before .before .before .before .before .before .before .before .before .before .args .marks .now)))) (c .before .before .wide .ensures .0) (c .if2 .taken)) ∙ c .before .before .before .before .before .before .before .loop .inv .1 .1
 
--- src/lib.rt:65:9
-add-i-2 : tie.Need-add-i-2 Inv-loop μ-loop
-add-i-2 c = search needs
-
--- src/lib.rt:65:5
-loop-less-2 : tie.Need-loop-less-2 Inv-loop μ-loop
-loop-less-2 c = search needs
-
--- src/lib.rt:65:5
 loop-again-2 : tie.Need-loop-again-2 Inv-loop μ-loop
 loop-again-2 c =
     let e = kept-some (c .before .before .before .before .before .before .before .before .before .before .before .args .part .now) (c .before .before .before .before .before .before .before .before .before .before .before .args .marks .now) (c .before .before .before .before .before .before .before .loop .i) (omega (arith, c .before .before .before .before .before .before .loop-test .taken, c .before .before .before .before .before .before .before .loop .inv .1 .0)) (c .before .before .before .before .before .before .before .before .before .before .before .pre .0) (c .before .before .before .before .if1 .left) in
     (search needs, (search needs, sym (ap (all (isStamped (c .before .before .before .before .before .before .before .before .before .before .before .args .stamps .now) (c .before .before .before .before .before .before .before .before .before .before .before .args .offset))) e ∙ is-stamped (c .before .before .before .before .before .before .before .before .before .before .before .args .stamps .now) (c .before .before .before .before .before .before .before .before .before .before .before .args .offset) _ _ (all (isStamped (c .before .before .before .before .before .before .before .before .before .before .before .args .stamps .now) (c .before .before .before .before .before .before .before .before .before .before .before .args .offset)) (kept-of (drop (c .before .before .before .before .before .before .before .loop .i + 1) (c .before .before .before .before .before .before .before .before .before .before .before .args .part .now)) (drop (c .before .before .before .before .before .before .before .loop .i + 1) (c .before .before .before .before .before .before .before .before .before .before .before .args .marks .now)))) (c .before .before .wide .ensures .0) (c .if2 .left)) ∙ c .before .before .before .before .before .before .before .loop .inv .1 .1))
 
--- src/lib.rt:61:1
 returns-2 : tie.Need-returns-2 Inv-loop μ-loop
 returns-2 c = (ap (all (isStamped (c .before .before .before .before .before .args .stamps .now) (c .before .before .before .before .before .args .offset))) (sym (part-done (c .before .before .before .before .before .args .part .now) (c .before .before .before .before .before .args .marks .now) (c .before .loop .i) (omega (arith, c .loop-test .left, c .before .loop .inv .1 .0)))) ∙ c .before .loop .inv .1 .1)
 
 pub all-stamped-spec : {M : Type 1} → statement M
 all-stamped-spec =
     tie.close
-    (tie.spec
-    Inv-loop
-    μ-loop
-    loop-holds
-    shared-slice-read-if1
-    add-i
-    loop-less
-    loop-again
-    mul-wide
-    shared-slice-read-wide
-    wide-requires
-    add-if2
-    shared-slice-read-if2
-    returns
-    add-i-2
-    loop-less-2
-    loop-again-2
-    returns-2)
+    (tie.spec Inv-loop μ-loop loop-holds shared-slice-read-if1 (λ c. search needs) (λ c. search needs) loop-again (λ c. search needs) (λ c. search needs) (λ c κs. search needs) (λ c. search needs) shared-slice-read-if2 returns (λ c. search needs) (λ c. search needs) loop-again-2 returns-2)

@@ -10,8 +10,6 @@ use Rattle.search.proofs.Flags.{set-flag, grown-set, flagged-set}
 use borrow.Author.Needs.{needs}
 use Rattle.search.proofs.flag_all.Statement.{statement}
 use Rattle.search.proofs.flag_all.Tie as tie
-use Rattle.search.proofs.flag_all.Reads as reads
-use Rattle.search.proofs.flag_all.Lts as lts
 
 abbrev Inv-loop : tie.InvT-loop
 Inv-loop may₀ kind m base t₀ may t = (t ≤ m) × ((length may ≡ length may₀) × (Grown may₀ may × AllFlagged may kind t))
@@ -19,31 +17,12 @@ Inv-loop may₀ kind m base t₀ may t = (t ≤ m) × ((length may ≡ length ma
 abbrev μ-loop : tie.MeasureT-loop
 μ-loop may₀ kind m base t₀ may t = m - t
 
--- src/lib.rt:83:16
-mul-base : tie.Need-mul-base Inv-loop μ-loop
-mul-base c = search needs
-
--- src/lib.rt:84:5
 loop-holds : tie.Need-loop-holds Inv-loop μ-loop
 loop-holds c = (search needs, (refl, ((λ i e. e), λ t l. absurd (omega arith))))
 
--- src/lib.rt:85:13
-add-may : tie.Need-add-may Inv-loop μ-loop
-add-may c = search needs
-
--- src/lib.rt:85:9
 slice-write-may : tie.Need-slice-write-may Inv-loop μ-loop
 slice-write-may c = omega (arith, c .before .before .pre, c .before .loop .inv)
 
--- src/lib.rt:84:9
-add-t : tie.Need-add-t Inv-loop μ-loop
-add-t c = search needs
-
--- src/lib.rt:84:5
-loop-less : tie.Need-loop-less Inv-loop μ-loop
-loop-less c = search needs
-
--- src/lib.rt:84:5
 loop-again : tie.Need-loop-again Inv-loop μ-loop
 loop-again c =
     let inv = c .before .loop .inv in
@@ -59,26 +38,10 @@ loop-again c =
       ),
     )
 
--- src/lib.rt:79:1
-same-length : tie.Need-same-length Inv-loop μ-loop
-same-length c = search needs
-
--- src/lib.rt:79:1
 returns : tie.Need-returns Inv-loop μ-loop
 returns c = let inv = c .before .loop .inv in (inv .1 .1 .0, λ t l. inv .1 .1 .1 t (omega arith))
 
 pub flag-all-spec : {M : Type 1} → statement M
 flag-all-spec =
     tie.close
-    (tie.spec
-    Inv-loop
-    μ-loop
-    mul-base
-    loop-holds
-    add-may
-    slice-write-may
-    add-t
-    loop-less
-    loop-again
-    same-length
-    returns)
+    (tie.spec Inv-loop μ-loop (λ c. search needs) loop-holds (λ c. search needs) slice-write-may (λ c. search needs) (λ c. search needs) loop-again (λ c. search needs) returns)

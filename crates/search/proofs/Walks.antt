@@ -1,0 +1,191 @@
+-- The two searches: a walk of a part or of the partners, one target after the other.
+use mathlib.Core.Path.{_≡_, refl, sym, ap, subst, _∙_}
+use mathlib.Core.Logic.{_≢_, _⊎_, inl, inr, by-cases, ⊎-elim}
+use mathlib.Core.Bool.{Bool, true, false, not, cond, _&&_, So, false≢true}
+use mathlib.Core.List.{List, [], _∷_}
+use mathlib.Core.Option.{Option, none, some}
+use Prim.Native.Nat.{ℕ, zero, suc, _+_, _-_, _*_, _≤_, _<_}
+use native.Mathlib.Omega.{arith}
+use native.Mathlib.Decide.{ℕ-discrete, decLt}
+use native.Mathlib.Numerals.{add-one}
+use lib.Dec.{eqb}
+use lib.ListN.{length, getD, set, length-set}
+use lib.Seq.{getD-set-same, getD-set-other}
+use borrow.Author.Tests.{eq-eqb, ne-eqb}
+use Rattle.semantics.specs.Lists.{_∈_, mem, ascending}
+use Rattle.semantics.specs.Programs.{Clause}
+use Rattle.semantics.proofs.Tests.{so-dec, so-false, not-so, and-iff}
+use Rattle.rewriting.specs.Marked.{Entry, Marked, entry, left}
+use Rattle.rewriting.specs.Steps.{Kind, tautology, contradiction, success, noHead, blocked, failure, loop, subsumed, number, kindOf, Step, step, usesPartner, usesAtom, inNoHead, applies}
+use Rattle.rewriting.specs.Reach.{reach}
+use Rattle.rewriting.specs.Reducer.{firstPartner, firstTarget}
+use Rattle.rewriting.proofs.Counts.{heads, heads-none}
+use Rattle.rewriting.proofs.Order.{firstIn, asked, walked, atom-first, target-gone, partner-end, partner-hit, Before, search-end, search-hit}
+use Rattle.rewriting.proofs.Quiet.{Quiet, stale, quiet-clear, quiet-target}
+use Rattle.table.specs.Questions.{Passed}
+use Rattle.table.specs.Places.{startOf}
+use Rattle.table.specs.View.{part, view}
+use Rattle.table.proofs.Encoding.{passed-limits}
+use Rattle.table.proofs.View.{entry-view, length-view}
+use Rattle.table.proofs.Parts.{Straight, view-straight, part-slice}
+use Rattle.parts.specs.declared.Part.{Part}
+use Rattle.parts.specs.declared.Part.the-variants.{Head, Pos, Neg}
+use Rattle.parts.specs.declared.Bounds.{Bounds}
+use Rattle.parts.specs.Parts.{partOf, Ready, Spanned}
+use Rattle.parts.proofs.Laws.{part-is}
+use Rattle.reach.specs.Bytes.{inBytes}
+use Rattle.search.specs.declared.Found.{Found}
+use Rattle.search.specs.declared.Found.the-variants.{One, Nothing}
+use Rattle.search.specs.Flags.{flags}
+use Rattle.search.specs.Kinds.{PartnerKind, AtomKind, walkedPart}
+use Rattle.search.specs.State.{foundOf, Arrays, Calm, Swept, Walk, Partners}
+use Rattle.search.proofs.Fits.{kind-number, words-below}
+
+-- ---- kinds with an atom, by their numbers
+
+pub walked-is : (kind : ℕ) (c : Clause) → AtomKind kind → partOf (walkedPart kind) c ≡ walked (kindOf kind) c
+walked-is zero c k = absurd (let z = k .low in omega arith)
+walked-is (suc zero) c k = refl
+walked-is (suc (suc zero)) c k = refl
+walked-is (suc (suc (suc zero))) c k = absurd (false≢true (k .uses))
+walked-is (suc (suc (suc (suc zero)))) c k = refl
+walked-is (suc (suc (suc (suc (suc zero))))) c k = absurd (false≢true (k .uses))
+walked-is (suc (suc (suc (suc (suc (suc zero)))))) c k = refl
+walked-is (suc (suc (suc (suc (suc (suc (suc zero))))))) c k = refl
+walked-is (suc (suc (suc (suc (suc (suc (suc (suc n)))))))) c k = absurd (false≢true (k .uses))
+
+-- kinds 4 and 6
+pub asked-heads : (kind : ℕ) (cs : List Clause) (c : Clause) (a : ℕ) → AtomKind kind → kind ≢ 1 → kind ≢ 2 → kind ≢ 7 → asked (kindOf kind) cs c a ≡ inNoHead cs a
+asked-heads zero cs c a k x y z = absurd (let z = k .low in omega arith)
+asked-heads (suc zero) cs c a k x y z = absurd (x refl)
+asked-heads (suc (suc zero)) cs c a k x y z = absurd (y refl)
+asked-heads (suc (suc (suc zero))) cs c a k x y z = absurd (false≢true (k .uses))
+asked-heads (suc (suc (suc (suc zero)))) cs c a k x y z = refl
+asked-heads (suc (suc (suc (suc (suc zero))))) cs c a k x y z = absurd (false≢true (k .uses))
+asked-heads (suc (suc (suc (suc (suc (suc zero)))))) cs c a k x y z = refl
+asked-heads (suc (suc (suc (suc (suc (suc (suc zero))))))) cs c a k x y z = absurd (z refl)
+asked-heads (suc (suc (suc (suc (suc (suc (suc (suc n)))))))) cs c a k x y z = absurd (false≢true (k .uses))
+
+-- "in the head of no kept clause" by the count
+pub bare-test : (P : Marked) (h a : ℕ) → h ≡ heads P a → eqb h 0 ≡ inNoHead (left P) a
+bare-test P h a e = by-cases (so-dec (inNoHead (left P) a))
+    (λ q. eq-eqb h 0 (e ∙ heads-none P a .0 q) ∙ sym q)
+    (λ q. ne-eqb h 0 (λ z. q (heads-none P a .1 (sym e ∙ z))) ∙ sym (so-false _ q))
+
+-- ---- the walk of a part
+
+straight-part : (n : ℕ) (c : Clause) → Straight n c → (x : Part) → So (ascending (partOf x c)) × ((a : ℕ) → a ∈ partOf x c → a < n)
+straight-part n c s Head = (s .head, s .headBelow)
+straight-part n c s Pos = (s .pos, s .posBelow)
+straight-part n c s Neg = (s .neg, s .negBelow)
+
+module _ (ws ms start : List ℕ) (r : Ready ws ms start) (t kind : ℕ) (h : t < getD ws 1 0) (k : AtomKind kind) where
+  pub walk-kept : entry (view ws ms) t .kept ≡ true → (s : Bounds) → Spanned ws t (walkedPart kind) s → Walk ws ms kind t (s .from) (s .end)
+  walk-kept e s q =
+      let c = entry (view ws ms) t .clause in
+      let w = straight-part (getD ws 0 0) c (view-straight ws ms (r .placed .passed) t) (walkedPart kind) in
+      let g = walked-is kind c k in
+      let p : walked (kindOf kind) c ≡ part ws ms (s .from) (s .end - s .from) = sym g ∙ part-is ws ms start r t h (walkedPart kind) s q
+      ∙ sym (part-slice ws ms (s .from) (s .end - s .from) (omega (arith, q .order, q .fits)) (omega (arith, q .order, q .fits, r .marks))) in
+      record {
+        order = q .order;
+        fits = q .fits;
+        below = words-below ws (r .placed .passed) t h (walkedPart kind) s q;
+        finds = ap (firstIn (λ a. step (kindOf kind) t 0 a) (asked (kindOf kind) (left (view ws ms)) c)) (sym p)
+            ∙ sym (atom-first (getD ws 0 0) (view ws ms) (kindOf kind) t (k .uses) e (subst (λ l. So (ascending l)) g (w .0)) (subst (λ l. (a : ℕ) → a ∈ l → a < getD ws 0 0) g (w .1)));
+      }
+
+  pub walk-gone : entry (view ws ms) t .kept ≡ false → Walk ws ms kind t 0 0
+  unfolding firstIn part
+  walk-gone e = record { order = omega arith; fits = omega arith; below = λ j a b. absurd (omega arith); finds = sym (target-gone (getD ws 0 0) (view ws ms) (kindOf kind) t (not-so e)) }
+
+module _ (ws ms : List ℕ) (kind t i e : ℕ) (w : Walk ws ms kind t i e) where
+  abbrev asks : ℕ → Bool
+  asks a = asked (kindOf kind) (left (view ws ms)) (entry (view ws ms) t .clause) a
+
+  abbrev found : ℕ → Step
+  found a = step (kindOf kind) t 0 a
+
+  abbrev test : Bool
+  test = eqb (getD ms i 0) 1 && asks (getD ws i 0)
+
+  part-step : i < e → part ws ms i (e - i) ≡ cond (eqb (getD ms i 0) 1) (getD ws i 0 ∷ part ws ms (i + 1) (e - (i + 1))) (part ws ms (i + 1) (e - (i + 1)))
+  unfolding part
+  part-step l = let z : e - i ≡ suc (e - (i + 1)) = omega arith in rw (z, add-one)
+
+  pub walk-on : i < e → test ≡ false → Walk ws ms kind t (i + 1) e
+  unfolding firstIn
+  walk-on l q = record {
+    order = omega arith;
+    fits = w .fits;
+    below = λ j a b. w .below j (omega arith) b;
+    finds = sym (ap (firstIn found asks) (part-step l) ∙ go (eqb (getD ms i 0) 1) q) ∙ w .finds;
+  }
+    where
+      go : (b : Bool) → (b && asks (getD ws i 0)) ≡ false
+          → firstIn found asks (cond b (getD ws i 0 ∷ part ws ms (i + 1) (e - (i + 1))) (part ws ms (i + 1) (e - (i + 1)))) ≡ firstIn found asks (part ws ms (i + 1) (e - (i + 1)))
+      go true q = rw q
+      go false q = refl
+
+  pub walk-hit : i < e → test ≡ true → firstPartner (getD ws 0 0) (view ws ms) (kindOf kind) t ≡ some (found (getD ws i 0))
+  unfolding firstIn
+  walk-hit l q = let v = and-iff (eqb (getD ms i 0) 1) (asks (getD ws i 0)) .0 q in sym (w .finds) ∙ ap (firstIn found asks) (part-step l) ∙ rw (v .0, v .1)
+
+  pub walk-end : e ≤ i → firstPartner (getD ws 0 0) (view ws ms) (kindOf kind) t ≡ none
+  unfolding firstIn part
+  walk-end l = let z : e - i ≡ 0 = omega arith in sym (w .finds) ∙ rw z
+
+-- ---- the walk of the partners
+
+pub partners-kept : (ws ms : List ℕ) (t m : ℕ) → m ≡ getD ws 1 0 → entry (view ws ms) t .kept ≡ true → Partners ws ms t m
+partners-kept ws ms t m e k = record { most = omega arith; kept = λ _. k; all = λ _. e }
+
+pub partners-gone : (ws ms : List ℕ) (t : ℕ) → entry (view ws ms) t .kept ≡ false → Partners ws ms t 0
+partners-gone ws ms t k = record { most = omega arith; kept = λ z. absurd (omega arith); all = λ q. absurd (not-so k q) }
+
+module _ (ws ms : List ℕ) (kind t e : ℕ) (q : Partners ws ms t e) (k : PartnerKind kind) where
+  abbrev applies-at : ℕ → Bool
+  applies-at p = applies (getD ws 0 0) (view ws ms) (step (kindOf kind) t p 0)
+
+  pub partners-none : ((p : ℕ) → p < e → applies-at p ≡ false) → firstPartner (getD ws 0 0) (view ws ms) (kindOf kind) t ≡ none
+  partners-none h = by-cases (so-dec (entry (view ws ms) t .kept))
+      (λ y. partner-end (getD ws 0 0) (view ws ms) (kindOf kind) t (k .uses) (λ p l. h p (omega (arith, q .all y, length-view ws ms))))
+      (λ y. target-gone (getD ws 0 0) (view ws ms) (kindOf kind) t y)
+
+  pub partners-hit : (p : ℕ) → p < e → ((i : ℕ) → i < p → applies-at i ≡ false) → applies-at p ≡ true
+      → firstPartner (getD ws 0 0) (view ws ms) (kindOf kind) t ≡ some (step (kindOf kind) t p 0)
+  partners-hit p l h a = partner-hit (getD ws 0 0) (view ws ms) (kindOf kind) t p (k .uses) (omega (arith, q .most, length-view ws ms)) h a
+
+-- ---- targets
+
+pub swept-none : (ws ms may : List ℕ) (kind : ℕ) → Calm ws ms may kind → Swept ws ms may may kind
+swept-none ws ms may kind c = record { calm = c; frame = λ j _. refl }
+
+module _ (ws ms may may' : List ℕ) (kind : ℕ) (s : Swept ws ms may may' kind) (t : ℕ) (l : t < 2048) where
+  -- a target without a flag has no step
+  pub swept-over : getD may' (kind * 2048 + t) 0 ≡ 0 → firstPartner (getD ws 0 0) (view ws ms) (kindOf kind) t ≡ none
+  swept-over e = quiet-target (getD ws 0 0) (view ws ms) (kindOf kind) (flags may' kind) stale (s .calm .quiet) (λ x. refl) t e
+
+  -- a target that has no step loses its flag
+  pub swept-clear : firstPartner (getD ws 0 0) (view ws ms) (kindOf kind) t ≡ none → Swept ws ms may (set may' (kind * 2048 + t) 0) kind
+  swept-clear e = record {
+    calm = record {
+      long = simp length-set (s .calm .long);
+      quiet = quiet-clear (getD ws 0 0) (view ws ms) (kindOf kind) (flags may' kind) stale (s .calm .quiet) (flags (set may' (kind * 2048 + t) 0) kind) t
+          (λ i d z. sym (getD-set-other may' (kind * 2048 + t) (kind * 2048 + i) 0 0 (λ q. d (omega arith))) ∙ z) e;
+    };
+    frame = λ j o. getD-set-other may' (kind * 2048 + t) j 0 0 (λ z. ⊎-elim (λ x. omega arith) (λ x. omega arith) o) ∙ s .frame j o;
+  }
+
+module _ (ws ms : List ℕ) (kind m : ℕ) (e : m ≡ getD ws 1 0) where
+  pub targets-end : (t : ℕ) → m ≤ t → Before (getD ws 0 0) (view ws ms) (kindOf kind) t → Nothing ≡ foundOf (firstTarget (getD ws 0 0) (view ws ms) (kindOf kind))
+  unfolding foundOf
+  targets-end t l b = sym (ap foundOf (search-end (getD ws 0 0) (view ws ms) (kindOf kind) (λ j i. b j (omega (arith, length-view ws ms)))))
+
+  pub targets-hit : 1 ≤ kind → kind ≤ 8 → (t p a : ℕ) → t < m → Before (getD ws 0 0) (view ws ms) (kindOf kind) t
+      → firstPartner (getD ws 0 0) (view ws ms) (kindOf kind) t ≡ some (step (kindOf kind) t p a)
+      → One (record { kind = kind; target = t; partner = p; atom = a }) ≡ foundOf (firstTarget (getD ws 0 0) (view ws ms) (kindOf kind))
+  unfolding foundOf
+  targets-hit x y t p a l b f =
+      ap (λ z. One (record { kind = z; target = t; partner = p; atom = a })) (sym (kind-number kind x y))
+      ∙ sym (ap foundOf (search-hit (getD ws 0 0) (view ws ms) (kindOf kind) t (step (kindOf kind) t p a) (omega (arith, length-view ws ms)) f b))

@@ -1,0 +1,22 @@
+-- Kinds by their numbers.
+use mathlib.Core.Bool.{So, cond}
+use Prim.Native.Nat.{ℕ, _≤_}
+use lib.Dec.{eqb}
+use Rattle.parts.specs.declared.Part.{Part}
+use Rattle.parts.specs.declared.Part.the-variants.{Head, Pos, Neg}
+use Rattle.rewriting.specs.Steps.{kindOf, usesPartner, usesAtom}
+
+-- "Kinds 1, 2, 4, 6, 7 have no partner word, kinds 3, 5, 8 no atom word"
+pub record PartnerKind (kind : ℕ) : Type 0 where
+  pub low : 1 ≤ kind
+  pub high : kind ≤ 8
+  pub uses : So (usesPartner (kindOf kind))
+
+pub record AtomKind (kind : ℕ) : Type 0 where
+  pub low : 1 ≤ kind
+  pub high : kind ≤ 8
+  pub uses : So (usesAtom (kindOf kind))
+
+-- the part that the search of a kind with an atom walks
+abbrev pub walkedPart : ℕ → Part
+walkedPart kind = cond (eqb kind 1) Head (cond (eqb kind 4) Neg Pos)
