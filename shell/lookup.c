@@ -131,32 +131,45 @@ static int match(struct names *names, const struct named_rule *text, const struc
     return 1;
 }
 
-int names_learn(struct names *names, const struct buffer *text)
+/* Goes through the text's rules and finds each in the order, behind the one before. Returns 0 where all are found. */
+static int align(struct names *names, const struct buffer *text)
 {
     const struct order *o = names->order;
     struct named_rule named = {0};
     struct numbered_rule numbered = {0};
-    struct names before = *names;
     size_t next = 0; /* the next statement of the order */
     int all = 1;
 
     for (const char *line = bytes_of(text), *end = line + text->len; all && line < end;) {
         const char *stop = memchr(line, '\n', (size_t)(end - line));
         stop = stop ? stop : end;
-        if (read_named(&named, line, stop) == 0) {
+        if (read_named(&named, line, stop) == 0)
             for (all = 0; !all && next < o->statements; next++)
                 if (o->statement[next].kind == RULE) {
                     read_numbered(&numbered, o, &o->statement[next]);
                     all = match(names, &named, &numbered);
                 }
-        }
         line = stop + 1;
     }
-    if (!all)
-        *names = before;
     for (int part = 0; part < 3; part++) {
         free(named.piece[part]);
         free(numbered.atom[part]);
     }
     return all ? 0 : -1;
+}
+
+int names_learn(struct names *names, const struct buffer *text)
+{
+    struct names shown = *names;
+    if (align(names, text) == 0)
+        return 0;
+    memset(names->name, 0, sizeof names->name); /* an order may show an atom under another name than its own */
+    if (align(names, text) == 0) {
+        for (size_t a = 0; a < names->order->program.atoms; a++)
+            if (!names->name[a].at && shown.name[a].at)
+                give(names, names->order->program.atom[a], (struct piece){shown.name[a].at, shown.name[a].len});
+        return 0;
+    }
+    *names = shown;
+    return -1;
 }

@@ -1,4 +1,35 @@
 # examples.sh - every example through grounder, reducer and solver: the same stable models by name, however it is written.
+
+# fit GIVEN LEFT SENTENCES: the first sentence about a clause quotes that rule of GIVEN, none is about a clause that is
+# deleted already, and LEFT has exactly the rules that no sentence deletes, shorter where one drops a condition.
+fit() {
+    awk '
+        FNR == 1 { file++; rules = 1 }
+        rules && /^#show\.$/ { rules = 0 }
+        file == 1 && rules { rule[n++] = $0 }
+        file == 2 && rules { left[kept++] = $0 }
+        file == 3 {
+            number = $2 + 0
+            quoted = $0; sub(/^[^`]*`/, "", quoted); sub(/`.*/, "", quoted)
+            if (!(number in met) && quoted != rule[number] && quoted !~ / \.\. and [0-9]+ more\.$/) { print "not the rule: " $0; bad = 1 }
+            if (number in deleted) { print "deleted already: " $0; bad = 1 }
+            met[number] = 1
+            if (/`: deleted, since /) deleted[number] = 1
+            else if (/`: dropped `/) dropped[number] = 1
+            else { print "neither: " $0; bad = 1 }
+        }
+        END {
+            for (i = k = 0; i < n; i++) {
+                if (i in deleted) continue
+                same = rule[i] == left[k]
+                shorter = length(left[k]) < length(rule[i])
+                if ((i in dropped) ? !shorter : !same) { print "left: " left[k] " of: " rule[i]; bad = 1 }
+                k++
+            }
+            if (k != kept) { print "rules left: " kept " not " k; bad = 1 }
+            exit bad
+        }' "$1" "$2" "$3" >&2
+}
 : >"$tmp/kinds"
 wide=0
 named=0
@@ -25,6 +56,9 @@ for example in examples/*.lp; do
     steps=$(sed -n 's/.*"all": \([0-9]*\),.*/\1/p' "$tmp/stats")
     expect "$name: a sentence for each step" [ "$(wc -l <"$tmp/sentences")" -eq "$steps" ]
     grep '"steps"' "$tmp/stats" >>"$tmp/kinds"
+    build/gambrolt --to-lp --no-reduce <"$tmp/in" >"$tmp/given"
+    build/gambrolt --to-lp <"$tmp/in" >"$tmp/left"
+    expect "$name: sentences fit the rules" fit "$tmp/given" "$tmp/left" "$tmp/sentences"
     for carried in 2 3 4 6 7 8 10; do
         grep "^$carried " "$tmp/in" >"$tmp/before"
         grep "^$carried " "$tmp/out" >"$tmp/after"

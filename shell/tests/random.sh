@@ -54,6 +54,7 @@ compare() {
     expect "$1: status 0: $(cat "$tmp/err")" [ -s "$tmp/out" ]
     models "$tmp/in" --opt-mode=ignore >"$tmp/models"
     models "$tmp/out" --opt-mode=ignore >"$tmp/reduced"
+    expect "$1: an answer" grep -q SATISFIABLE "$tmp/models"
     expect "$1: the same stable models" same "$tmp/models" "$tmp/reduced"
     grep -c model <"$tmp/models" >>"$tmp/counts"
     cmp -s "$tmp/in" "$tmp/out" || echo changed >>"$tmp/counts"
