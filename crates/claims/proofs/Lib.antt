@@ -6,3 +6,5 @@ pub mod Reduced
 pub mod StableExamples
 pub mod Lists
 pub mod ListExamples
+pub mod Agree
+pub mod Whole

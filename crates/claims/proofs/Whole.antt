@@ -1,0 +1,230 @@
+-- Demand 3 whole, for the reducer and the checker together: the checker takes the reducer's list, with any marks that pass 9, and leaves
+-- the marks that the reducer left; with any four words behind it, it is refused at step s.
+use mathlib.Core.Path.{_≡_, refl, sym, ap, subst, _∙_}
+use mathlib.Core.Logic.{_↔_}
+use mathlib.Core.Bool.{Bool, true, false, _&&_, So}
+use mathlib.Core.List.{List, [], _∷_, _++_, append-nil}
+use Prim.Native.Nat.{ℕ, zero, suc, _+_, _-_, _*_, _/_, _%_, _≤_, _<_}
+use native.Mathlib.Omega.{arith}
+use native.Mathlib.Nat.{add-zero, mul-div-right, mul-mod-right}
+use lib.Dec.{eqb, leb}
+use lib.ListN.{length, getD, take, drop, length-append}
+use lib.Seq.{getD-drop}
+use borrow.Author.Tests.{eq-eqb, le-leb}
+use Rattle.semantics.specs.Programs.{Clause, Program}
+use Rattle.semantics.proofs.Tests.{and-iff}
+use Rattle.rewriting.specs.Marked.{Marked, whole, left}
+use Rattle.rewriting.specs.Steps.{Step, step, number, kindOf, targetKept, partnerKept, atomKnown, conditionHolds, applies, accepted, leaves}
+use Rattle.rewriting.specs.Reducer.{weight, measure}
+use Rattle.rewriting.proofs.Search.{kindOf-number, number-bounds}
+use Rattle.rewriting.proofs.Greedy.{greedy-end, accepted-measure}
+use Rattle.table.specs.declared.StepQuestion.{StepQuestion}
+use Rattle.table.specs.declared.Refusal.the-variants as refusal
+use Rattle.table.specs.Questions.{Passed}
+use Rattle.table.specs.Encoding.{clauseWords, clausesWords, encode, Within}
+use Rattle.table.specs.Places.{programOf}
+use Rattle.table.specs.View.{view, allKept, marksAfter, marksAfterAll}
+use Rattle.table.proofs.Encoding.{past, passed-within}
+use Rattle.table.proofs.View.{view-after, view-afterAll, length-after}
+use Rattle.table.proofs.Parts.{allKept-one, view-allKept, length-allKept}
+use Rattle.conditions.specs.declared.Step as words
+use Rattle.conditions.specs.Known.{stepOf}
+use Rattle.reducer.specs.declared.ReduceAnswer.the-variants as answer
+use Rattle.reducer.specs.Reductions.{wordsOf, room, stepsOf, reduction}
+use Rattle.reducer.proofs.Taken.{taken, whole-tidy, steps-greedy, steps-accepted, steps-room}
+use Rattle.checker.specs.declared.CheckAnswer.the-variants.{Accepted, Refused}
+use Rattle.checker.specs.declared.Verdict.{Verdict}
+use Rattle.checker.specs.declared.Verdict.the-variants.{Fine, No}
+use Rattle.checker.specs.Lists.{stepAt, kindKnown, ask, shapeQuestions, stepQuestions, Outcome, refused, onward, stepsFrom, listFits, checkList}
+use Rattle.checker.proofs.Laws.{known-kind, fine-applies, check-made}
+use Rattle.text.proofs.Slices.{sets-written, take-written}
+use Rattle.claims.proofs.Agree.{afterAll-agree}
+
+-- ---- a step as four words
+
+abbrev wordsStep : Step → words.Step
+wordsStep s = record { kind = number (s .kind); target = s .target; partner = s .partner; atom = s .atom }
+
+step-words : (s : Step) → stepOf (wordsStep s) ≡ s
+step-words s = ap (λ k. step k (s .target) (s .partner) (s .atom)) (kindOf-number (s .kind))
+
+word-at : (ls : List ℕ) (at i x : ℕ) (l : List ℕ) → drop at ls ≡ l → getD l i 0 ≡ x → getD ls (at + i) 0 ≡ x
+word-at ls at i x l e h = sym (getD-drop at ls i 0) ∙ ap (λ y. getD y i 0) e ∙ h
+
+step-at : (ls r : List ℕ) (k : ℕ) (s : Step) (l : List Step) → drop (4 * k) ls ≡ wordsOf (s ∷ l) ++ r → stepAt ls k ≡ wordsStep s
+unfolding wordsOf
+step-at ls r k s l e = rw (
+  ap (λ i. getD ls i 0) (sym (add-zero (4 * k))) ∙ word-at ls (4 * k) 0 (number (s .kind)) _ e refl,
+  word-at ls (4 * k) 1 (s .target) _ e refl,
+  word-at ls (4 * k) 2 (s .partner) _ e refl,
+  word-at ls (4 * k) 3 (s .atom) _ e refl,
+)
+
+-- the words of the next step
+next-words : (ls r : List ℕ) (k : ℕ) (s : Step) (l : List Step) → drop (4 * k) ls ≡ wordsOf (s ∷ l) ++ r → drop (4 * (k + 1)) ls ≡ wordsOf l ++ r
+unfolding wordsOf
+next-words ls r k s l e =
+    let f : 4 * (k + 1) ≡ 4 * k + 4 = omega arith in
+    ap (λ i. drop i ls) f ∙ past ls (number (s .kind) ∷ s .target ∷ s .partner ∷ s .atom ∷ []) (wordsOf l ++ r) (4 * k) e
+
+applies-fine : (n : ℕ) (P : Marked) (s : Step) → So (applies n P s) → stepQuestions n P (wordsStep s) ≡ Fine
+unfolding stepQuestions shapeQuestions ask applies
+applies-fine n P s h =
+    let b = number-bounds (s .kind) in
+    let w = simp and-iff at (subst (λ u. So (applies n P u)) (sym (step-words s)) h) in
+    rw (known-kind (number (s .kind)) (b .0) (b .1), w .0, w .1 .0, w .1 .1 .0, w .1 .1 .1)
+
+-- ---- the steps of a list, one after the other
+
+-- an applicable step is taken
+step-made : (ws ms ls : List ℕ) (k x : ℕ) (s : Step) → stepAt ls k ≡ wordsStep s → So (applies (getD ws 0 0) (view ws ms) s)
+    → stepsFrom ws ms ls k (suc x) ≡ stepsFrom ws (marksAfter ws ms s) ls (k + 1) x
+unfolding stepsFrom onward
+step-made ws ms ls k x s q h =
+    let n = getD ws 0 0 in
+    ap (λ (u : words.Step). onward (stepQuestions n (view ws ms) u) k ms (stepsFrom ws (marksAfter ws ms (stepOf u)) ls (k + 1) x)) q
+    ∙ ap (λ v. onward v k ms (stepsFrom ws (marksAfter ws ms (stepOf (wordsStep s))) ls (k + 1) x)) (applies-fine n (view ws ms) s h)
+    ∙ ap (λ u. stepsFrom ws (marksAfter ws ms u) ls (k + 1) x) (step-words s)
+
+-- a step that is refused
+step-refused : (ws ms ls : List ℕ) (k : ℕ) (q : StepQuestion) → stepQuestions (getD ws 0 0) (view ws ms) (stepAt ls k) ≡ No q
+    → stepsFrom ws ms ls k 1 ≡ record { answer = Refused (refusal.Step q k); marks = ms }
+unfolding stepsFrom onward
+step-refused ws ms ls k q e = ap (λ v. onward v k ms (stepsFrom ws (marksAfter ws ms (stepOf (stepAt ls k))) ls (k + 1) 0)) e
+
+-- an accepted list of steps is taken whole, whatever words stand behind it
+follow : (ws : List ℕ) → Passed ws → (l : List Step) (ls r : List ℕ) (k x : ℕ) (ms : List ℕ) → length ws ≤ length ms → drop (4 * k) ls ≡ wordsOf l ++ r
+    → So (accepted (getD ws 0 0) (view ws ms) l) → stepsFrom ws ms ls k (length l + x) ≡ stepsFrom ws (marksAfterAll ws ms l) ls (k + length l) x
+unfolding accepted marksAfterAll
+follow ws p [] ls r k x ms b e h =
+    let z : 0 + x ≡ x = omega arith in let y : k ≡ k + 0 = omega arith in
+    ap (stepsFrom ws ms ls k) z ∙ ap (λ i. stepsFrom ws ms ls i x) y
+follow ws p (s ∷ l) ls r k x ms b e h =
+    let n = getD ws 0 0 in
+    let w = and-iff (applies n (view ws ms) s) _ .0 h in
+    let v = view-after ws ms p b n s (w .0) in
+    let z : length (s ∷ l) + x ≡ suc (length l + x) = omega arith in
+    let y : k + 1 + length l ≡ k + length (s ∷ l) = omega arith in
+    ap (stepsFrom ws ms ls k) z
+    ∙ step-made ws ms ls k (length l + x) s (step-at ls r k s l e) (w .0)
+    ∙ follow ws p l ls r (k + 1) x (marksAfter ws ms s) (omega (arith, length-after ws ms s)) (next-words ls r k s l e) (subst (λ P. So (accepted n P l)) (sym v) (w .1))
+    ∙ ap (λ i. stepsFrom ws (marksAfterAll ws (marksAfter ws ms s) l) ls i x) y
+
+-- ---- lists that pass question 11
+
+length-words : (l : List Step) → length (wordsOf l) ≡ 4 * length l
+unfolding wordsOf
+length-words [] = refl
+length-words (s ∷ l) = omega (arith, length-words l)
+
+fits-of : (ls : List ℕ) (k : ℕ) → length ls ≡ 4 * k → k ≤ 8190 → (listFits ls ≡ true) × (length ls / 4 ≡ k)
+fits-of ls k e h = (
+  rw (e, eq-eqb (4 * k % 4) 0 (mul-mod-right 4 k), le-leb (4 * k) 32760 (omega arith)),
+  rw (e, mul-div-right k (let z : 0 < 4 = omega arith in z)),
+)
+
+-- ---- the reducer's list
+
+measure-few : (cs : List Clause) → measure (whole cs) + 2 * length cs ≤ length (clausesWords cs)
+unfolding measure weight clausesWords
+measure-few [] = omega arith
+measure-few (c ∷ cs) = omega (arith, length-append (clauseWords c) (clausesWords cs), length-append (c .head) (c .pos ++ c .neg), length-append (c .pos) (c .neg), measure-few cs)
+
+few : (cs : List Clause) (s : ℕ) → s ≤ measure (whole cs) → measure (whole cs) + 2 * length cs ≤ 8190 → s ≤ 8188
+unfolding measure
+few [] s a b = omega arith
+few (c ∷ cs) s a b = omega arith
+
+words-few : (P : Program) → Within P → length (clausesWords (P .clauses)) ≤ 8190
+unfolding encode
+words-few P w = omega (arith, w .fewWords)
+
+-- It has at most 8,188 steps, so that the list with one step more never meets question 11.
+pub steps-few : (ws : List ℕ) → Passed ws → length (stepsOf ws) ≤ 8188
+steps-few ws p =
+    let cs = programOf ws .clauses in
+    few cs (length (stepsOf ws)) (omega (arith, accepted-measure (getD ws 0 0) (whole cs) (stepsOf ws) (whole-tidy ws p) (steps-accepted ws p)))
+        (omega (arith, measure-few cs, words-few (programOf ws) (passed-within ws p)))
+
+module _ (ws ms : List ℕ) (p : Passed ws) (l : length ws ≤ length ms) where
+  -- the marks that the reducer's list leaves, from all marks 1
+  abbrev pub marksLeft : List ℕ
+  marksLeft = marksAfterAll ws (allKept ws ms) (stepsOf ws)
+
+  -- the checker on the reducer's list, with x steps more in the words behind it
+  behind : (r : List ℕ) (x : ℕ) → length r ≡ 4 * x → x ≤ 1
+      → checkList ws ms (wordsOf (stepsOf ws) ++ r) ≡ stepsFrom ws marksLeft (wordsOf (stepsOf ws) ++ r) (length (stepsOf ws)) x
+  behind r x e h =
+      let n = getD ws 0 0 in
+      let s = stepsOf ws in
+      let ls = wordsOf s ++ r in
+      let c : length ls ≡ 4 * (length s + x) = omega (arith, length-append (wordsOf s) r, length-words s) in
+      let f = fits-of ls (length s + x) c (omega (arith, steps-few ws p)) in
+      let z : 0 + length s ≡ length s = omega arith in
+      check-made ws ms ls _ (p .valid) l (f .0)
+      ∙ ap (stepsFrom ws (allKept ws ms) ls 0) (f .1)
+      ∙ follow ws p s ls r 0 x (allKept ws ms) (omega (arith, length-allKept ws ms l)) refl (subst (λ P. So (accepted n P s)) (sym (view-allKept ws ms p)) (steps-accepted ws p))
+      ∙ ap (λ i. stepsFrom ws marksLeft ls i x) z
+
+  -- "Checked with marks that pass 9, it is accepted", with the number of its steps, and leaves the reducer's marks
+  pub list-accepted : checkList ws ms (wordsOf (stepsOf ws)) ≡ record { answer = Accepted (length (stepsOf ws)); marks = marksLeft }
+  unfolding stepsFrom
+  list-accepted = ap (checkList ws ms) (sym (append-nil (wordsOf (stepsOf ws)))) ∙ behind [] 0 refl (omega arith)
+
+  -- "and with any four words behind it, it is refused at step s", and leaves the same marks
+  pub further-refused : (a b c d : ℕ)
+      → (q : StepQuestion) × (checkList ws ms (wordsOf (stepsOf ws) ++ a ∷ b ∷ c ∷ d ∷ []) ≡ record { answer = Refused (refusal.Step q (length (stepsOf ws))); marks = marksLeft })
+  further-refused a b c d =
+      let ls = wordsOf (stepsOf ws) ++ a ∷ b ∷ c ∷ d ∷ [] in
+      let k = length (stepsOf ws) in
+      let r = no (stepQuestions (getD ws 0 0) (view ws marksLeft) (stepAt ls k)) refl in
+      (r .0, behind (a ∷ b ∷ c ∷ d ∷ []) 1 refl (omega arith) ∙ step-refused ws marksLeft ls k (r .0) (r .1))
+    where
+      left-is : view ws marksLeft ≡ leaves (getD ws 0 0) (whole (programOf ws .clauses)) (stepsOf ws)
+      left-is =
+          let e = view-allKept ws ms p in
+          view-afterAll (getD ws 0 0) ws (allKept ws ms) (stepsOf ws) p (omega (arith, length-allKept ws ms l)) (subst (λ P. So (accepted (getD ws 0 0) P (stepsOf ws))) (sym e) (steps-accepted ws p)) .0
+          ∙ ap (λ P. leaves (getD ws 0 0) P (stepsOf ws)) e
+
+      none-open : (u : Step) → ¬ So (applies (getD ws 0 0) (view ws marksLeft) u)
+      none-open u h = greedy-end (steps-greedy ws p) u (subst (λ P. So (applies (getD ws 0 0) P u)) left-is h)
+
+      ls : List ℕ
+      ls = wordsOf (stepsOf ws) ++ a ∷ b ∷ c ∷ d ∷ []
+
+      no : (v : Verdict) → stepQuestions (getD ws 0 0) (view ws marksLeft) (stepAt ls (length (stepsOf ws))) ≡ v → (q : StepQuestion) × (stepQuestions (getD ws 0 0) (view ws marksLeft) (stepAt ls (length (stepsOf ws))) ≡ No q)
+      no Fine e = absurd (none-open (stepOf (stepAt ls (length (stepsOf ws)))) (fine-applies (getD ws 0 0) (view ws marksLeft) (stepAt ls (length (stepsOf ws))) (sym e)))
+      no (No q) e = (q, e)
+
+-- ---- the reducer's call, and the checker's on its list
+
+-- the reducer's list: "the 4s words of a call that passes 9 and 17"
+pub list-words : (ws ms ls : List ℕ) (s : ℕ) → reduction ws ms ls .answer ≡ answer.Accepted s → take (4 * s) (reduction ws ms ls .list) ≡ wordsOf (stepsOf ws)
+list-words ws ms ls s h =
+    let t = taken ws ms ls s h in
+    let e : length (wordsOf (stepsOf ws)) ≤ length ls = omega (arith, length-words (stepsOf ws), t .roomy, steps-room ws (t .passed)) in
+    rw (t .list, sets-written (wordsOf (stepsOf ws)) ls e) (take-written (wordsOf (stepsOf ws)) ls (4 * s) (omega (arith, length-words (stepsOf ws), t .count)))
+
+module _ (ws ms ls ks : List ℕ) (s : ℕ) (h : reduction ws ms ls .answer ≡ answer.Accepted s) (l : length ws ≤ length ks) where
+  -- The reducer's list is accepted with any marks that pass 9, with its number of steps,
+  pub reducer-accepted : checkList ws ks (take (4 * s) (reduction ws ms ls .list)) .answer ≡ Accepted s
+  reducer-accepted =
+      let t = taken ws ms ls s h in
+      ap (λ x. checkList ws ks x .answer) (list-words ws ms ls s h) ∙ ap (λ o. o .answer) (list-accepted ws ks (t .passed) l) ∙ ap Accepted (sym (t .count))
+
+  -- and leaves the marks of the table's words as the reducer did.
+  pub same-marks : (i : ℕ) → i < length ws → getD (checkList ws ks (take (4 * s) (reduction ws ms ls .list)) .marks) i 0 ≡ getD (reduction ws ms ls .marks) i 0
+  same-marks i b =
+      let t = taken ws ms ls s h in
+      ap (λ x. getD (checkList ws ks x .marks) i 0) (list-words ws ms ls s h)
+      ∙ ap (λ o. getD (o .marks) i 0) (list-accepted ws ks (t .passed) l)
+      ∙ afterAll-agree ws (t .passed) (stepsOf ws) (allKept ws ks) (allKept ws ms) (omega (arith, length-allKept ws ks l)) (omega (arith, length-allKept ws ms (t .marked), t .marked))
+          (λ j x y. allKept-one ws ks j y ∙ sym (allKept-one ws ms j y)) i (omega arith) b
+      ∙ ap (λ m. getD m i 0) (sym (t .marks))
+
+  -- With any four words behind it, it is refused at step s.
+  pub reducer-further : (a b c d : ℕ) → (q : StepQuestion) × (checkList ws ks (take (4 * s) (reduction ws ms ls .list) ++ a ∷ b ∷ c ∷ d ∷ []) .answer ≡ Refused (refusal.Step q s))
+  reducer-further a b c d =
+      let t = taken ws ms ls s h in
+      let r = further-refused ws ks (t .passed) l a b c d in
+      (r .0, ap (λ x. checkList ws ks (x ++ a ∷ b ∷ c ∷ d ∷ []) .answer) (list-words ws ms ls s h) ∙ ap (λ o. o .answer) (r .1) ∙ ap (λ k. Refused (refusal.Step (r .0) k)) (sym (t .count)))
