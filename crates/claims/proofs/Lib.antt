@@ -3,8 +3,7 @@ pub mod Tests
 pub mod Texts
 pub mod Reductions
 pub mod Reduced
-pub mod StableExamples
 pub mod Lists
-pub mod ListExamples
 pub mod Agree
 pub mod Whole
+pub mod Examples

@@ -144,7 +144,7 @@ pub steps-few : (ws : List ℕ) → Passed ws → length (stepsOf ws) ≤ 8188
 steps-few ws p =
     let cs = programOf ws .clauses in
     few cs (length (stepsOf ws)) (omega (arith, accepted-measure (getD ws 0 0) (whole cs) (stepsOf ws) (whole-tidy ws p) (steps-accepted ws p)))
-        (omega (arith, measure-few cs, words-few (programOf ws) (passed-within ws p)))
+    (omega (arith, measure-few cs, words-few (programOf ws) (passed-within ws p)))
 
 module _ (ws ms : List ℕ) (p : Passed ws) (l : length ws ≤ length ms) where
   -- the marks that the reducer's list leaves, from all marks 1
@@ -219,7 +219,7 @@ module _ (ws ms ls ks : List ℕ) (s : ℕ) (h : reduction ws ms ls .answer ≡ 
       ap (λ x. getD (checkList ws ks x .marks) i 0) (list-words ws ms ls s h)
       ∙ ap (λ o. getD (o .marks) i 0) (list-accepted ws ks (t .passed) l)
       ∙ afterAll-agree ws (t .passed) (stepsOf ws) (allKept ws ks) (allKept ws ms) (omega (arith, length-allKept ws ks l)) (omega (arith, length-allKept ws ms (t .marked), t .marked))
-          (λ j x y. allKept-one ws ks j y ∙ sym (allKept-one ws ms j y)) i (omega arith) b
+      (λ j x y. allKept-one ws ks j y ∙ sym (allKept-one ws ms j y)) i (omega arith) b
       ∙ ap (λ m. getD m i 0) (sym (t .marks))
 
   -- With any four words behind it, it is refused at step s.
