@@ -1,5 +1,5 @@
 -- The examples of document 01 on stable sets and the cycle, computed from the definitions: a table's words, a set, and the answer.
-use Prim.Native.Nat.{ℕ, _+_}
+use Prim.Native.Nat.{ℕ}
 use mathlib.Core.Path.{_≡_, refl}
 use mathlib.Core.Bool.{Bool, true, false}
 use mathlib.Core.List.{List, [], _∷_, map}
@@ -7,7 +7,6 @@ use Rattle.semantics.specs.Programs.{satisfies, reduct, models}
 use Rattle.semantics.specs.Decide.{sublists, stableTest}
 use Rattle.table.specs.Questions.{ask, andThen, onTo, partFrom, partsFrom, clauseFrom, clausesFrom, askTable, allUsed, tableOf}
 use Rattle.table.specs.Places.{clausesOf, programOf}
-use Rattle.stability.specs.declared.TestAnswer.{TestAnswer}
 use Rattle.stability.specs.declared.TestAnswer.the-variants.{Accepted}
 use Rattle.stability.specs.Answer.{entriesFrom, setOf, onSet, onTable, testOf}
 use Rattle.dependency.specs.declared.CycleAnswer.the-variants as cycle
