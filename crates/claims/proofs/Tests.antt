@@ -1,10 +1,10 @@
 -- The answers of the stability test and of the cycle answer, in the words of document 01.
 use Prim.Native.Nat.{ℕ, _≤_}
-use mathlib.Core.Path.{_≡_, refl}
+use mathlib.Core.Path.{_≡_}
 use mathlib.Core.Logic.{_↔_}
-use mathlib.Core.Bool.{Bool, true, false}
+use mathlib.Core.Bool.{true, false}
 use mathlib.Core.List.{List}
-use lib.ListN.{length, getD}
+use lib.ListN.{length}
 use Rattle.semantics.specs.Programs.{Stable}
 use Rattle.semantics.specs.Decide.{among}
 use Rattle.semantics.proofs.Tests.{so-false, not-so}

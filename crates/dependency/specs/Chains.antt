@@ -1,6 +1,6 @@
 -- The cycle answer of document 01: "Atom a leads to b when a clause has a in its head and b in its body, positive or negative, and so
 -- on along chains." Which parts of a body count is a parameter, `next`.
-use mathlib.Core.Bool.{Bool, true, false, cond, _||_}
+use mathlib.Core.Bool.{Bool, false, cond, _||_}
 use mathlib.Core.List.{List, [], _∷_, _++_}
 use Prim.Native.Nat.{ℕ, zero, suc}
 use lib.ListN.{length}

@@ -4,10 +4,10 @@ use mathlib.Core.Path.{_≡_}
 use mathlib.Core.Logic.{_≢_, _⊎_}
 use mathlib.Core.Bool.{Bool, true, false}
 use mathlib.Core.List.{List, [], _∷_}
-use Prim.Native.Nat.{ℕ, zero, suc, _+_, _-_, _≤_, _<_}
+use Prim.Native.Nat.{ℕ, _+_, _-_, _≤_, _<_}
 use lib.ListN.{length, getD, take, drop, set}
 use Rattle.semantics.specs.Lists.{_∈_}
-use Rattle.semantics.specs.Programs.{Clause, Program}
+use Rattle.semantics.specs.Programs.{Clause}
 use Rattle.table.specs.Questions.{Passed}
 use Rattle.table.specs.Encoding.{OrderedClause}
 use Rattle.table.specs.Places.{nextAt, clauseOf, clausesOf, programOf}

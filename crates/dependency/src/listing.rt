@@ -1,8 +1,8 @@
 // For each atom the chain of the head words at which it stands: `first` has the last of them, `nexts` the one before a head
 // word, `owner` the first word of its clause. Place 0 ends a chain.
-ghost use Prim.Native.Nat.{ℕ, _+_, _≤_, _<_};
+ghost use Prim.Native.Nat.{_+_, _<_};
 ghost use mathlib.Core.Path.{_≡_};
-ghost use lib.ListN.{length, getD, set};
+ghost use lib.ListN.{getD, set};
 ghost use Rattle.table.specs.Places.{posAt};
 ghost use Rattle.dependency.specs.Search.{Long, Listable, Headed, Blank, Listed};
 

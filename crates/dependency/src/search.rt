@@ -1,6 +1,6 @@
 // The search for a cycle: one chain is followed as far as it goes, then back. An atom's state is 2 where it was not met, 1 where it is
 // on the chain that is followed, 0 where every chain from it ends. Each head word and each body word is passed once.
-ghost use Prim.Native.Nat.{ℕ, _+_, _-_, _≤_, _<_};
+ghost use Prim.Native.Nat.{_≤_, _<_};
 ghost use mathlib.Core.Path.{_≡_};
 ghost use mathlib.Core.Logic.{_≢_};
 ghost use lib.ListN.{length, getD};

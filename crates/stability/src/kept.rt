@@ -1,10 +1,8 @@
 // The clauses that the reduct by a set keeps, as masks over the set.
 ghost use mathlib.Core.Path.{_≡_};
-ghost use Prim.Native.Nat.{ℕ, _+_, _≤_, _<_};
+ghost use Prim.Native.Nat.{_≤_};
 ghost use lib.ListN.{length};
 ghost use Rattle.semantics.specs.Decide.{stableTest};
-ghost use Rattle.table.specs.Questions.{Passed};
-ghost use Rattle.table.specs.Encoding.{Ordered};
 ghost use Rattle.table.specs.Places.{nextAt, clauseOf, programOf};
 ghost use Rattle.stability.specs.Masks.{enters};
 ghost use Rattle.stability.specs.Kept.{Room, Added, Ready, Filled, Testable};

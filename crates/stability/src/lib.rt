@@ -1,7 +1,5 @@
 // The test of a set: is it a stable model of the table's program?
 ghost use mathlib.Core.Path.{_≡_};
-ghost use Prim.Native.Nat.{ℕ, _+_, _-_, _≤_, _<_};
-ghost use lib.ListN.{length};
 ghost use Rattle.stability.specs.Answer.{setOf, testOf};
 use table::CallQuestion;
 use table::Checked;

@@ -1,8 +1,8 @@
 // A set of at most 16 atoms as a mask, and clauses as two masks: whether a set satisfies the clauses, and whether no subset does.
 ghost use mathlib.Core.Path.{_≡_};
 ghost use mathlib.Core.Bool.{_&&_};
-ghost use Prim.Native.Nat.{ℕ, _+_, _≤_, _<_};
-ghost use lib.ListN.{length, getD};
+ghost use Prim.Native.Nat.{_≤_};
+ghost use lib.ListN.{length};
 ghost use Rattle.semantics.specs.Lists.{bit};
 ghost use Rattle.semantics.specs.Decide.{among};
 ghost use Rattle.stability.specs.Masks as masks;
