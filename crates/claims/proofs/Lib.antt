@@ -7,3 +7,5 @@ pub mod Lists
 pub mod Agree
 pub mod Whole
 pub mod Examples
+pub mod ListExamples
+pub mod StepLists
