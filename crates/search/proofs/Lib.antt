@@ -2,3 +2,5 @@ pub mod Stamps
 pub mod Flags
 pub mod Fits
 pub mod Walks
+pub mod States
+pub mod Spreads

@@ -34,6 +34,7 @@ use Rattle.parts.specs.declared.Bounds.{Bounds}
 use Rattle.parts.specs.Parts.{partOf, Ready, Spanned}
 use Rattle.parts.proofs.Laws.{part-is}
 use Rattle.reach.specs.Bytes.{inBytes}
+use Rattle.conditions.specs.Known.{headCount}
 use Rattle.search.specs.declared.Found.{Found}
 use Rattle.search.specs.declared.Found.the-variants.{One, Nothing}
 use Rattle.search.specs.Flags.{flags}
@@ -67,7 +68,8 @@ asked-heads (suc (suc (suc (suc (suc (suc (suc zero))))))) cs c a k x y z = absu
 asked-heads (suc (suc (suc (suc (suc (suc (suc (suc n)))))))) cs c a k x y z = absurd (false≢true (k .uses))
 
 -- "in the head of no kept clause" by the count
-pub bare-test : (P : Marked) (h a : ℕ) → h ≡ heads P a → eqb h 0 ≡ inNoHead (left P) a
+pub bare-test : (P : Marked) (h a : ℕ) → h ≡ headCount (left P) a → eqb h 0 ≡ inNoHead (left P) a
+unfolding heads
 bare-test P h a e = by-cases (so-dec (inNoHead (left P) a))
     (λ q. eq-eqb h 0 (e ∙ heads-none P a .0 q) ∙ sym q)
     (λ q. ne-eqb h 0 (λ z. q (heads-none P a .1 (sym e ∙ z))) ∙ sym (so-false _ q))

@@ -6,7 +6,7 @@ ghost use lib.Dec.{eqb};
 ghost use lib.ListN.{length, getD, replicate};
 ghost use Rattle.semantics.specs.Lists.{all};
 ghost use Rattle.rewriting.specs.Marked.{entry, left};
-ghost use Rattle.rewriting.specs.Steps.{fact, single, step, kindOf, condition, applies};
+ghost use Rattle.rewriting.specs.Steps.{usesPartner, fact, single, step, kindOf, condition, applies};
 ghost use Rattle.table.specs.View.{view};
 ghost use Rattle.table.proofs.Parts.{kept-of};
 ghost use Rattle.parts.specs.Parts.{partOf, Ready};
@@ -15,31 +15,13 @@ ghost use Rattle.search.specs.Flags.{Grown, AllFlagged};
 ghost use Rattle.rewriting.specs.Reducer.{firstTarget};
 ghost use Rattle.rewriting.proofs.Order.{asked, walked};
 ghost use Rattle.search.specs.Kinds.{PartnerKind, AtomKind, walkedPart};
-ghost use Rattle.search.specs.State.{Arrays, Walk, Partners, Calm, Swept, foundOf};
+ghost use Rattle.rewriting.specs.Reducer.{firstStep};
+ghost use Rattle.conditions.specs.Known.{Known};
+ghost use Rattle.search.specs.State.{Arrays, Walk, Partners, Calm, Swept, Spread, State, Settled, Prepared, foundOf};
+use conditions::Step;
 use parts::Bounds;
 use parts::Part;
 use parts::Single;
-
-// A step, or a row of a list: its kind's number, its target, its partner and its atom.
-pub struct Step {
-    pub kind: u16,
-    pub target: u16,
-    pub partner: u16,
-    pub atom: u16,
-}
-
-impl Step {
-    pub fn new(kind: u16, target: u16, partner: u16, atom: u16) -> Step
-        ensures { λ r. ⌜ r ≡ record { kind = kind; target = target; partner = partner; atom = atom } ⌝ }
-    {
-        Step {
-            kind,
-            target,
-            partner,
-            atom,
-        }
-    }
-}
 
 // What a search finds.
 pub enum Found {
@@ -161,17 +143,6 @@ fn single_stamped(words: &[u16], marks: &[u8], start: &[u16], p: usize, stamps: 
     stamps[at] == 1
 }
 
-// Whether clause p is a fact.
-pub fn is_fact(words: &[u16], marks: &[u8], start: &[u16], p: usize) -> bool
-    requires { ⌜ (Ready (now words) (now marks) (now start)) × (p < getD (now words) 1 0) ⌝ }
-    ensures { λ r. ⌜ r ≡ fact (entry (view (now (words .entry)) (now (marks .entry))) p .clause) ⌝ }
-{
-    if !parts::empty(words, marks, start, p, Part::Pos) {
-        return false;
-    }
-    parts::empty(words, marks, start, p, Part::Neg)
-}
-
 // Whether the fact p serves kind 3 or 5 at the target that is stamped.
 fn fact_fits(
     words: &[u16],
@@ -208,7 +179,7 @@ fn partner_fits(
     if kind == 8 {
         return clause_stamped(words, marks, start, p, stamps);
     }
-    if !is_fact(words, marks, start, p) {
+    if !conditions::is_fact(words, marks, start, p) {
         return false;
     }
     fact_fits(words, marks, start, stamps, kind, t, p)
@@ -298,8 +269,7 @@ fn passes(
     if kind == 7 {
         return !reach::is_in(reach, atom);
     }
-    let a = table::wide(atom);
-    heads[a] == 0
+    conditions::no_head(heads, atom)
 }
 
 // Whether the word at a place of the walked part is kept and makes the condition hold.
@@ -397,4 +367,105 @@ pub fn first_by_partner(
         }
     }
     found
+}
+
+// ---- what was opened
+
+// Flags every target of the kind whose condition holds with the partner p and the atom.
+pub fn spread(words: &[u16], marks: &[u8], start: &[u16], heads: &[u16], reach: &[u8], may: &mut [u8], kind: u16, p: usize, atom: u16, m: usize)
+    requires { ⌜ (Ready (now words) (now marks) (now start)) × ((m ≡ getD (now words) 1 0) × ((p < getD (now words) 1 0) × (((1 ≤ kind) × (kind ≤ 8)) × ((Known (kindOf kind) (now words) (now marks) (now heads) (now reach)) × (length (now may) ≡ 20480))))) ⌝ }
+    ensures { λ _. ⌜ Spread (now (words .entry)) (now (marks .entry)) (now (may .entry)) (now (may .exit)) kind p atom ⌝ }
+{
+    let base = table::wide(kind) * 2048;
+    for t in 0..m {
+        if !conditions::holds(words, marks, start, heads, reach, kind, t, p, atom) {
+            continue;
+        }
+        may[base + t] = 1;
+    }
+}
+
+// Kind 7: the reach, where it is to be found anew; then every target is flagged.
+fn refresh(words: &[u16], marks: &[u8], start: &[u16], heads: &[u16], reach: &mut [u8], may: &mut [u8], m: usize)
+    requires { ⌜ (State (now words) (now marks) (now start) (now heads) (now reach) (now may)) × (m ≡ getD (now words) 1 0) ⌝ }
+    ensures { λ _. ⌜ (State (now (words .entry)) (now (marks .entry)) (now (start .entry)) (now (heads .entry)) (now (reach .exit)) (now (may .exit))) × (getD (now (may .exit)) 0 0 ≡ 0) ⌝ }
+{
+    if may[0] == 0 {
+        return;
+    }
+    reach::find_reach(words, marks, start, reach);
+    flag_all(may, 7, m);
+    may[0] = 0;
+}
+
+// Kind 8: the clauses that lost a literal are tried as partners of every target.
+fn settle(words: &[u16], marks: &[u8], start: &[u16], heads: &[u16], reach: &[u8], may: &mut [u8], m: usize)
+    requires { ⌜ (State (now words) (now marks) (now start) (now heads) (now reach) (now may)) × (m ≡ getD (now words) 1 0) ⌝ }
+    ensures { λ _. ⌜ (State (now (words .entry)) (now (marks .entry)) (now (start .entry)) (now (heads .entry)) (now (reach .entry)) (now (may .exit))) × (Settled (now (may .exit)) m) ⌝ }
+{
+    for p in 0..m {
+        if may[18432 + p] == 0 {
+            continue;
+        }
+        spread(words, marks, start, heads, reach, may, 8, p, 0, m);
+        may[18432 + p] = 0;
+    }
+}
+
+// ---- the smallest step
+
+// Whether a kind has a partner.
+fn uses_partner(kind: u16) -> bool
+    requires { ⌜ (1 ≤ kind) × (kind ≤ 8) ⌝ }
+    ensures { λ r. ⌜ r ≡ usesPartner (kindOf kind) ⌝ }
+{
+    if kind == 3 {
+        return true;
+    }
+    if kind == 5 {
+        return true;
+    }
+    kind == 8
+}
+
+// What the search of kind 7 or 8 asks for first.
+fn prepare(words: &[u16], marks: &[u8], start: &[u16], heads: &[u16], reach: &mut [u8], may: &mut [u8], kind: u16, m: usize)
+    requires { ⌜ (State (now words) (now marks) (now start) (now heads) (now reach) (now may)) × (m ≡ getD (now words) 1 0) ⌝ }
+    ensures { λ _. ⌜ Prepared (now (words .entry)) (now (marks .entry)) (now (start .entry)) (now (heads .entry)) (now (reach .exit)) (now (may .exit)) kind ⌝ }
+{
+    if kind == 7 {
+        refresh(words, marks, start, heads, reach, may, m);
+        return;
+    }
+    if kind == 8 {
+        settle(words, marks, start, heads, reach, may, m);
+        return;
+    }
+}
+
+// The smallest step of a kind.
+fn first_of_kind(words: &[u16], marks: &[u8], start: &[u16], heads: &[u16], reach: &mut [u8], may: &mut [u8], kind: u16, m: usize) -> Found
+    requires { ⌜ (State (now words) (now marks) (now start) (now heads) (now reach) (now may)) × ((m ≡ getD (now words) 1 0) × ((1 ≤ kind) × (kind ≤ 8))) ⌝ }
+    ensures { λ r. ⌜ (r ≡ foundOf (firstTarget (getD (now (words .entry)) 0 0) (view (now (words .entry)) (now (marks .entry))) (kindOf kind))) × State (now (words .entry)) (now (marks .entry)) (now (start .entry)) (now (heads .entry)) (now (reach .exit)) (now (may .exit)) ⌝ }
+{
+    prepare(words, marks, start, heads, reach, may, kind, m);
+    if uses_partner(kind) {
+        return first_by_partner(words, marks, start, may, kind, m);
+    }
+    first_by_atom(words, marks, start, heads, reach, may, kind, m)
+}
+
+// The smallest step: kind after kind.
+pub fn first_step(words: &[u16], marks: &[u8], start: &[u16], heads: &[u16], reach: &mut [u8], may: &mut [u8], m: usize) -> Found
+    requires { ⌜ (State (now words) (now marks) (now start) (now heads) (now reach) (now may)) × (m ≡ getD (now words) 1 0) ⌝ }
+    ensures { λ r. ⌜ (r ≡ foundOf (firstStep (getD (now (words .entry)) 0 0) (view (now (words .entry)) (now (marks .entry))))) × State (now (words .entry)) (now (marks .entry)) (now (start .entry)) (now (heads .entry)) (now (reach .exit)) (now (may .exit)) ⌝ }
+{
+    for kind in 1u16..9 {
+        let found = first_of_kind(words, marks, start, heads, reach, may, kind, m);
+        let Found::One(_) = found else {
+            continue;
+        };
+        return found;
+    }
+    Found::Nothing
 }
