@@ -6,7 +6,7 @@ use mathlib.Core.Bool.{Bool, true, false, _&&_, cond}
 use native.Mathlib.Omega.{arith}
 use lib.ListN.{length, length-append, length-drop, getD, take, drop}
 use lib.Seq.{drop-drop, take-append-seam}
-use lib.Dec.{ltb, leb, eqb}
+use lib.Dec.{ltb, eqb}
 use borrow.Author.Tests.{lt-ltb, le-leb, eq-eqb, ne-eqb, leb-true, ltb-true, eqb-true}
 use Rattle.table.specs.declared.ByteQuestion.{ByteQuestion}
 use Rattle.table.specs.declared.Refusal.{Refusal}
@@ -20,6 +20,7 @@ use Rattle.text.specs.declared.Order.the-variants.{Ascends, NotBelow, No
 use Rattle.text.specs.Digits.{width, places, digits, others, commas}
 use Rattle.text.specs.Render.{lineText}
 use Rattle.text.specs.Reader.{Read, done, stop, ask, then, starts, run, ended, spanAt, numbers, order, onSpan, onOrder, valueOf, valueAt, numberAt, countAt, listOf, listAt}
+use Rattle.text.proofs.Orders.{order-of, order-inv}
 use Rattle.text.proofs.Numbers.{Small, numbers-of, numbers-inv}
 
 -- no line feed
@@ -141,21 +142,6 @@ line-inv ts key at from end h = go (starts key (drop at ts)) refl (ltb (f + run 
     go false s l k h = let z : _≡_ {A = ℕ} 0 1 = cc in absurd (omega arith)
 
 -- ---- numbers in order
-
-order-of : (n low : ℕ) (xs : List ℕ) → Rising n low xs → order n low xs ≡ Ascends
-unfolding order
-order-of n low [] r = refl
-order-of n low (x ∷ xs) r = rw (lt-ltb x n (r .0), le-leb low x (r .1)) (order-of n (x + 1) xs (r .2))
-
-order-inv : (n low : ℕ) (xs : List ℕ) → order n low xs ≡ Ascends → Rising n low xs
-unfolding order
-order-inv n low [] h = tt
-order-inv n low (x ∷ xs) h = go (ltb x n) refl (leb low x) refl h (λ h. order-inv n (x + 1) xs h)
-  where
-    go : (s : Bool) → ltb x n ≡ s → (t : Bool) → leb low x ≡ t → cond s (cond t (order n (x + 1) xs) NotAbove) NotBelow ≡ Ascends → (order n (x + 1) xs ≡ Ascends → Rising n (x + 1) xs) → Rising n low (x ∷ xs)
-    go true a true b h f = (ltb-true x n a, leb-true low x b, f h)
-    go true a false b h f = let z : _≡_ {A = ℕ} 0 1 = cc in absurd (omega arith)
-    go false a t b h f = let z : _≡_ {A = ℕ} 0 1 = cc in absurd (omega arith)
 
 rising-small : (n low : ℕ) (xs : List ℕ) → n ≤ 1024 → Rising n low xs → Small xs
 rising-small n low [] l r = tt
