@@ -3,6 +3,8 @@ use Prim.Native.Nat.{ℕ, _+_, _*_}
 use Rattle.table.specs.declared.Refusal.{Refusal}
 use Rattle.table.specs.declared.Checked.{Checked}
 use Rattle.table.specs.declared.Checked.the-variants as checked
+use Rattle.checker.specs.declared.CheckAnswer.{CheckAnswer}
+use Rattle.checker.specs.declared.CheckAnswer.the-variants as listed
 use Rattle.compaction.specs.declared.CompactAnswer.{CompactAnswer}
 use Rattle.compaction.specs.declared.CompactAnswer.the-variants as compacted
 use Rattle.dependency.specs.declared.CycleAnswer.{CycleAnswer}
@@ -24,6 +26,11 @@ refusalCode r = refusalNumber r * 281474976710656 + refusalPlace r
 abbrev pub tableCode : Checked → ℕ
 tableCode (checked.Valid t) = 0
 tableCode (checked.Refused r) = refusalCode r
+
+-- checking a list carries the number of its steps
+abbrev pub checkCode : CheckAnswer → ℕ
+checkCode (listed.Accepted k) = k
+checkCode (listed.Refused r) = refusalCode r
 
 -- the reduced table carries the words written
 abbrev pub reducedCode : CompactAnswer → ℕ

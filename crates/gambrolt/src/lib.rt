@@ -5,12 +5,14 @@ ghost use lib.ListN.{length};
 ghost use Rattle.semantics.specs.Lists.{bit};
 ghost use Rattle.table.specs.Refusals.{refusalPlace};
 ghost use Rattle.table.specs.Questions.{tableOf};
+ghost use Rattle.checker.specs.Lists.{checkList};
 ghost use Rattle.compaction.specs.Reduced.{reducedAnswer, reducedOut};
 ghost use Rattle.dependency.specs.Answer.{cycleOf};
 ghost use Rattle.stability.specs.Answer.{testOf};
 ghost use Rattle.text.specs.Reader.{readAnswer, tableAfter};
 ghost use Rattle.text.specs.Writer.{writeAnswer, outAfter};
-ghost use Rattle.gambrolt.specs.Codes.{refusalCode, tableCode, reducedCode, testCode, cycleCode, readCode, writeCode};
+ghost use Rattle.gambrolt.specs.Codes.{refusalCode, tableCode, checkCode, reducedCode, testCode, cycleCode, readCode, writeCode};
+use checker::CheckAnswer;
 use compaction::CompactAnswer;
 use dependency::CycleAnswer;
 use stability::TestAnswer;
@@ -42,6 +44,17 @@ pub extern "C" fn gambrolt_check_table(words: &[u16]) -> u64
     match table::check_table(words) {
         Checked::Valid(_) => 0,
         Checked::Refused(r) => refusal_code(r),
+    }
+}
+
+// Questions 1 to 9 and 11 to 16, and the marks of the steps that are taken.
+#[no_mangle]
+pub extern "C" fn gambrolt_check(words: &[u16], marks: &mut [u8], list: &[u16]) -> u64
+    ensures { λ r. ⌜ (r ≡ checkCode (checkList (now (words .entry)) (now (marks .entry)) (now (list .entry)) .answer)) × (now (marks .exit) ≡ checkList (now (words .entry)) (now (marks .entry)) (now (list .entry)) .marks) ⌝ }
+{
+    match checker::check_list(words, marks, list) {
+        CheckAnswer::Accepted(k) => k as u64,
+        CheckAnswer::Refused(r) => refusal_code(r),
     }
 }
 
