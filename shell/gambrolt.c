@@ -177,7 +177,8 @@ static int read_input(const char *file, struct buffer *input)
 {
     int standard = !file || strcmp(file, "-") == 0;
     FILE *stream = standard ? stdin : fopen(file, "rb");
-    int answer = !stream || slurp(input, stream, MOST_BYTES) ? failed("read", standard ? "standard input" : file) : DONE;
+    int bad = !stream || slurp(input, stream, MOST_BYTES);
+    int answer = bad ? failed("read", standard ? "standard input" : file) : DONE;
     if (stream && !standard)
         fclose(stream);
     return answer;

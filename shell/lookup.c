@@ -1,7 +1,7 @@
 /*
- * lookup.c - names from the order's ground rules, as `gringo --text` writes them. aspif names only what may or may not be
- * true; the same rules as text name every atom. They come in the same order, but for rules that only aspif has. Names are
- * taken only where all rules of the text are found, one after the other, and no atom gets two names, no name two atoms.
+ * lookup.c - names from the order's ground rules, as `gringo --text` writes them. aspif names only what may or may not
+ * be true; the same rules as text name every atom. They come in the same order, but for rules that only aspif has. Names
+ * are taken only where the text's rules are found, one after the other, and no atom gets two names, no name two atoms.
  */
 #include "output.h"
 

@@ -74,14 +74,43 @@ static int64_t number(struct reader *r)
     return n;
 }
 
+static void put_minimize(struct buffer *b, const struct names *names, struct reader *r, size_t *term)
+{
+    int64_t priority = number(r);
+    for (int64_t count = number(r); count > 0; count--) {
+        putf(b, ":~ ");
+        put_literal(b, names, number(r));
+        putf(b, ". [%lld@%lld,%zu]\n", (long long)number(r), (long long)priority, (*term)++);
+    }
+}
+
+static void put_heuristic(struct buffer *b, const struct names *names, struct reader *r)
+{
+    static const char *const modifier[] = {"level", "sign", "factor", "init", "true", "false"};
+    int64_t which = number(r);
+    putf(b, "#heuristic ");
+    put_aspif_name(b, names, (uint32_t)number(r));
+    int64_t bias = number(r), priority = number(r);
+    put_condition(b, names, r);
+    putf(b, ". [%lld@%lld,%s]\n", (long long)bias, (long long)priority, modifier[which]);
+}
+
+/* Each of a list of literals as a statement of its own; `sign` -1 turns them round. */
+static void put_each(struct buffer *b, const struct names *names, struct reader *r, const char *before, int sign)
+{
+    for (int64_t count = number(r); count > 0; count--) {
+        putf(b, "%s", before);
+        put_literal(b, names, sign * number(r));
+        putf(b, ".\n");
+    }
+}
+
 /* A statement other than a rule in gringo's syntax; `term` makes the terms of minimize statements differ. */
 static void put_lp_statement(struct buffer *b, const struct names *names, const struct statement *s, size_t *term)
 {
-    static const char *const modifier[] = {"level", "sign", "factor", "init", "true", "false"};
     struct reader r = reader_at(names->order, s);
     const char *name = "";
     size_t len = 0;
-    int64_t n, m;
     switch (s->kind) {
     case OUTPUT:
         read_name(&r, &name, &len);
@@ -93,36 +122,20 @@ static void put_lp_statement(struct buffer *b, const struct names *names, const 
         putf(b, ".\n");
         break;
     case MINIMIZE:
-        n = number(&r);
-        for (int64_t count = number(&r); count > 0; count--) {
-            m = number(&r);
-            putf(b, ":~ ");
-            put_literal(b, names, m);
-            putf(b, ". [%lld@%lld,%zu]\n", (long long)number(&r), (long long)n, (*term)++);
-        }
+        put_minimize(b, names, &r, term);
         break;
     case PROJECT:
+        put_each(b, names, &r, "#project ", 1);
+        break;
     case ASSUME: /* what is assumed must hold: a constraint against its opposite */
-        for (int64_t count = number(&r); count > 0; count--) {
-            n = number(&r);
-            putf(b, s->kind == PROJECT ? "#project " : ":- ");
-            put_literal(b, names, s->kind == PROJECT ? n : -n);
-            putf(b, ".\n");
-        }
+        put_each(b, names, &r, ":- ", -1);
         break;
     case HEURISTIC:
-        m = number(&r);
-        putf(b, "#heuristic ");
-        put_aspif_name(b, names, (uint32_t)number(&r));
-        n = number(&r);
-        int64_t priority = number(&r);
-        put_condition(b, names, &r);
-        putf(b, ". [%lld@%lld,%s]\n", (long long)n, (long long)priority, modifier[m]);
+        put_heuristic(b, names, &r);
         break;
     case EDGE:
-        n = number(&r);
-        m = number(&r);
-        putf(b, "#edge (%lld,%lld)", (long long)n, (long long)m);
+        putf(b, "#edge (%lld,", (long long)number(&r));
+        putf(b, "%lld)", (long long)number(&r));
         put_condition(b, names, &r);
         putf(b, ".\n");
         break;

@@ -12,7 +12,7 @@ static inline size_t clause_end(const uint16_t *table, size_t i)
 
 /* ---- Names ---- */
 
-/* What each atom of the table is called: by the one output statement that shows exactly it, else x_ and its number. */
+/* What an atom of the table is called: by the one output statement that shows exactly it, else x_ and its number. */
 struct names {
     const struct order *order;
     struct { const char *at; size_t len; } name[GAMBROLT_MAX_ATOMS];
@@ -27,7 +27,7 @@ void names_make(struct names *names, const struct order *o);
  */
 int names_learn(struct names *names, const struct buffer *text);
 
-/* Whether a name reads as an atom: `ok`, `-ok`, `ok(..)` with the last bracket closing the first, not a number or a text. */
+/* Whether a name reads as an atom: `ok`, `-ok`, `ok(..)` with the last bracket closing the first, no number or text. */
 int reads_as_atom(const char *name, size_t len);
 
 /* The name of an atom, by its number in the table or in aspif. */

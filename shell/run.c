@@ -47,7 +47,8 @@ static int run_order(const struct options *options, const struct order *o, doubl
     if (!answer) {
         names_make(&work->names, o);
         if (options->names && names_learn(&work->names, options->names))
-            putf(&result->notes, "gambrolt: names: its rules do not fit the input's one by one, so none is taken; ground both alike\n");
+            putf(&result->notes, "gambrolt: names: its rules do not fit the input's one by one, so none is taken; "
+                 "ground both alike\n");
         answer = write_program(options, o, &work->names, &work->reduction, result, f);
     }
     if (!answer && options->explain)
