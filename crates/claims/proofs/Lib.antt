@@ -7,5 +7,3 @@ pub mod Lists
 pub mod Agree
 pub mod Whole
 pub mod Examples
-pub mod ListExamples
-pub mod StepLists
