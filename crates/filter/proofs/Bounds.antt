@@ -106,7 +106,7 @@ length-whole : (cs : List Clause) → length (whole cs) ≡ length cs
 length-whole [] = refl
 length-whole (c ∷ cs) = ap suc (length-whole cs)
 
-measure-words : (cs : List Clause) → measure (whole cs) ≤ length (clausesWords cs)
+pub measure-words : (cs : List Clause) → measure (whole cs) ≤ length (clausesWords cs)
 unfolding measure weight clausesWords
 measure-words [] = omega arith
 measure-words (c ∷ cs) = omega (arith, length-append (clauseWords c) (clausesWords cs), length-append (c .head) (c .pos ++ c .neg), length-append (c .pos) (c .neg), measure-words cs)
