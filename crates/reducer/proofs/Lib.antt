@@ -1,2 +1,5 @@
 pub mod Room
-pub mod Writes
+pub mod Opens
+pub mod Keeps
+pub mod Runs
+pub mod Answers

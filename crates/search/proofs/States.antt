@@ -116,11 +116,11 @@ module _ (ws ms start hs rs may : List ℕ) (z : State ws ms start hs rs may) wh
     reached = λ e. z .reached (sym zero-same ∙ e);
     quiet = λ k h. by-cases (ℕ-discrete (number k) kind)
         (λ e. to-fresh (getD ws 0 0) (view ws ms) k (flags may' (number k)) (freshOf k may')
-            (subst (λ j. Quiet (getD ws 0 0) (view ws ms) j (flags may' (number k)) stale) (ap kindOf (sym e) ∙ kindOf-number k)
-            (subst (λ j. Quiet (getD ws 0 0) (view ws ms) (kindOf kind) (flags may' j) stale) (sym e) (s .calm .quiet))))
+        (subst (λ j. Quiet (getD ws 0 0) (view ws ms) j (flags may' (number k)) stale) (ap kindOf (sym e) ∙ kindOf-number k)
+        (subst (λ j. Quiet (getD ws 0 0) (view ws ms) (kindOf kind) (flags may' j) stale) (sym e) (s .calm .quiet))))
         (λ d. quiet-same ws ms few-clauses k (flags may (number k)) (freshOf k may) (flags may' (number k)) (freshOf k may') (z .quiet k (λ e. sym zero-same ∙ h e))
-            (λ i l e. sym (s .frame (number k * 2048 + i) (apart k i l d)) ∙ e)
-            (fresh-grown k may may' (λ i e. sym (s .frame (9 * 2048 + i) (inr (omega arith))) ∙ e)));
+        (λ i l e. sym (s .frame (number k * 2048 + i) (apart k i l d)) ∙ e)
+        (fresh-grown k may may' (λ i e. sym (s .frame (9 * 2048 + i) (inr (omega arith))) ∙ e)));
   }
     where
       zero-same : getD may' 0 0 ≡ getD may 0 0

@@ -372,7 +372,18 @@ pub fn first_by_partner(
 // ---- what was opened
 
 // Flags every target of the kind whose condition holds with the partner p and the atom.
-pub fn spread(words: &[u16], marks: &[u8], start: &[u16], heads: &[u16], reach: &[u8], may: &mut [u8], kind: u16, p: usize, atom: u16, m: usize)
+pub fn spread(
+    words: &[u16],
+    marks: &[u8],
+    start: &[u16],
+    heads: &[u16],
+    reach: &[u8],
+    may: &mut [u8],
+    kind: u16,
+    p: usize,
+    atom: u16,
+    m: usize,
+)
     requires { ⌜ (Ready (now words) (now marks) (now start)) × ((m ≡ getD (now words) 1 0) × ((p < getD (now words) 1 0) × (((1 ≤ kind) × (kind ≤ 8)) × ((Known (kindOf kind) (now words) (now marks) (now heads) (now reach)) × (length (now may) ≡ 20480))))) ⌝ }
     ensures { λ _. ⌜ Spread (now (words .entry)) (now (marks .entry)) (now (may .entry)) (now (may .exit)) kind p atom ⌝ }
 {
@@ -386,7 +397,15 @@ pub fn spread(words: &[u16], marks: &[u8], start: &[u16], heads: &[u16], reach: 
 }
 
 // Kind 7: the reach, where it is to be found anew; then every target is flagged.
-fn refresh(words: &[u16], marks: &[u8], start: &[u16], heads: &[u16], reach: &mut [u8], may: &mut [u8], m: usize)
+fn refresh(
+    words: &[u16],
+    marks: &[u8],
+    start: &[u16],
+    heads: &[u16],
+    reach: &mut [u8],
+    may: &mut [u8],
+    m: usize,
+)
     requires { ⌜ (State (now words) (now marks) (now start) (now heads) (now reach) (now may)) × (m ≡ getD (now words) 1 0) ⌝ }
     ensures { λ _. ⌜ (State (now (words .entry)) (now (marks .entry)) (now (start .entry)) (now (heads .entry)) (now (reach .exit)) (now (may .exit))) × (getD (now (may .exit)) 0 0 ≡ 0) ⌝ }
 {
@@ -399,7 +418,15 @@ fn refresh(words: &[u16], marks: &[u8], start: &[u16], heads: &[u16], reach: &mu
 }
 
 // Kind 8: the clauses that lost a literal are tried as partners of every target.
-fn settle(words: &[u16], marks: &[u8], start: &[u16], heads: &[u16], reach: &[u8], may: &mut [u8], m: usize)
+fn settle(
+    words: &[u16],
+    marks: &[u8],
+    start: &[u16],
+    heads: &[u16],
+    reach: &[u8],
+    may: &mut [u8],
+    m: usize,
+)
     requires { ⌜ (State (now words) (now marks) (now start) (now heads) (now reach) (now may)) × (m ≡ getD (now words) 1 0) ⌝ }
     ensures { λ _. ⌜ (State (now (words .entry)) (now (marks .entry)) (now (start .entry)) (now (heads .entry)) (now (reach .entry)) (now (may .exit))) × (Settled (now (may .exit)) m) ⌝ }
 {
@@ -429,7 +456,16 @@ fn uses_partner(kind: u16) -> bool
 }
 
 // What the search of kind 7 or 8 asks for first.
-fn prepare(words: &[u16], marks: &[u8], start: &[u16], heads: &[u16], reach: &mut [u8], may: &mut [u8], kind: u16, m: usize)
+fn prepare(
+    words: &[u16],
+    marks: &[u8],
+    start: &[u16],
+    heads: &[u16],
+    reach: &mut [u8],
+    may: &mut [u8],
+    kind: u16,
+    m: usize,
+)
     requires { ⌜ (State (now words) (now marks) (now start) (now heads) (now reach) (now may)) × (m ≡ getD (now words) 1 0) ⌝ }
     ensures { λ _. ⌜ Prepared (now (words .entry)) (now (marks .entry)) (now (start .entry)) (now (heads .entry)) (now (reach .exit)) (now (may .exit)) kind ⌝ }
 {
@@ -444,7 +480,16 @@ fn prepare(words: &[u16], marks: &[u8], start: &[u16], heads: &[u16], reach: &mu
 }
 
 // The smallest step of a kind.
-fn first_of_kind(words: &[u16], marks: &[u8], start: &[u16], heads: &[u16], reach: &mut [u8], may: &mut [u8], kind: u16, m: usize) -> Found
+fn first_of_kind(
+    words: &[u16],
+    marks: &[u8],
+    start: &[u16],
+    heads: &[u16],
+    reach: &mut [u8],
+    may: &mut [u8],
+    kind: u16,
+    m: usize,
+) -> Found
     requires { ⌜ (State (now words) (now marks) (now start) (now heads) (now reach) (now may)) × ((m ≡ getD (now words) 1 0) × ((1 ≤ kind) × (kind ≤ 8))) ⌝ }
     ensures { λ r. ⌜ (r ≡ foundOf (firstTarget (getD (now (words .entry)) 0 0) (view (now (words .entry)) (now (marks .entry))) (kindOf kind))) × State (now (words .entry)) (now (marks .entry)) (now (start .entry)) (now (heads .entry)) (now (reach .exit)) (now (may .exit)) ⌝ }
 {
@@ -456,7 +501,15 @@ fn first_of_kind(words: &[u16], marks: &[u8], start: &[u16], heads: &[u16], reac
 }
 
 // The smallest step: kind after kind.
-pub fn first_step(words: &[u16], marks: &[u8], start: &[u16], heads: &[u16], reach: &mut [u8], may: &mut [u8], m: usize) -> Found
+pub fn first_step(
+    words: &[u16],
+    marks: &[u8],
+    start: &[u16],
+    heads: &[u16],
+    reach: &mut [u8],
+    may: &mut [u8],
+    m: usize,
+) -> Found
     requires { ⌜ (State (now words) (now marks) (now start) (now heads) (now reach) (now may)) × (m ≡ getD (now words) 1 0) ⌝ }
     ensures { λ r. ⌜ (r ≡ foundOf (firstStep (getD (now (words .entry)) 0 0) (view (now (words .entry)) (now (marks .entry))))) × State (now (words .entry)) (now (marks .entry)) (now (start .entry)) (now (heads .entry)) (now (reach .exit)) (now (may .exit)) ⌝ }
 {
