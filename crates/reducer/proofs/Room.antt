@@ -63,3 +63,16 @@ measure-whole (c ∷ cs) = omega (arith, measure-whole cs)
 pub room-measure : (ws : List ℕ) → measure (whole (programOf ws .clauses)) ≡ room ws
 unfolding room programOf
 room-measure ws = measure-whole (clausesOf ws (getD ws 1 0) 2) ∙ ap (λ k. k + bodyLiterals (clausesOf ws (getD ws 1 0) 2)) (length-clausesOf ws (getD ws 1 0) 2)
+
+sum-to : (ws : List ℕ) → Passed ws → (t : ℕ) → t ≤ getD ws 1 0 → (at : ℕ) × (sum : ℕ) × Summed ws t at sum
+sum-to ws p zero l = (2, getD ws 1 0, summed-none ws p)
+sum-to ws p (suc t) l =
+    let (at, sum, s) = sum-to ws p t (omega arith) in
+    (nextAt ws at, sum + getD ws (at + 1) 0 + getD ws (at + 2) 0, subst (λ k. Summed ws k (nextAt ws at) (sum + getD ws (at + 1) 0 + getD ws (at + 2) 0)) (add-one t) (summed-on ws t at sum p s (omega arith)))
+
+-- it is small
+pub room-few : (ws : List ℕ) → Passed ws → room ws ≤ 8192
+room-few ws p =
+    let (at, sum, s) = sum-to ws p (getD ws 1 0) (omega arith) in
+    let (e, l) = summed-all ws (getD ws 1 0) at sum p s (omega arith) in
+    omega arith

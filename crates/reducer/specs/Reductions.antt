@@ -1,4 +1,5 @@
 -- What reducing a table comes to: its answer, and what the marks and the list hold afterwards.
+use mathlib.Core.Path.{_≡_}
 use mathlib.Core.Bool.{Bool, cond}
 use mathlib.Core.List.{List, [], _∷_}
 use Prim.Native.Nat.{ℕ, zero, suc, _+_, _*_}
@@ -63,3 +64,9 @@ reduction ws ms ls =
     (record { answer = answer.Accepted (length (stepsOf ws)); marks = marksAfterAll ws (allKept ws ms) (stepsOf ws); list = sets ls 0 (wordsOf (stepsOf ws)) })
     (refused ms ls (Call ListRoom)))
     (refused ms ls (Call MarksLength)))
+
+-- A call's answer, and what it leaves in the marks and the list.
+pub record Answered (ws ms ls ms' ls' : List ℕ) (r : ReduceAnswer) : Type 0 where
+  pub answer : r ≡ reduction ws ms ls .answer
+  pub marks : ms' ≡ reduction ws ms ls .marks
+  pub list : ls' ≡ reduction ws ms ls .list

@@ -3,9 +3,25 @@ ghost use mathlib.Core.Path.{_≡_};
 ghost use Prim.Native.Nat.{ℕ, _+_, _-_, _*_, _≤_, _<_};
 ghost use lib.ListN.{length, getD};
 ghost use lib.Seq.{sets};
+ghost use mathlib.Core.Bool.{So};
+ghost use mathlib.Core.List.{_∷_, [], _++_};
+ghost use lib.ListN.{replicate, drop};
+ghost use Rattle.rewriting.specs.Steps.{applies};
 ghost use Rattle.table.specs.Questions.{Passed};
-ghost use Rattle.table.specs.View.{allKept, find};
-ghost use Rattle.reducer.specs.Reductions.{room};
+ghost use Rattle.table.specs.View.{view, allKept, marksAfter, marksAfterAll};
+ghost use Rattle.parts.specs.Parts.{Ready};
+ghost use Rattle.conditions.specs.Known.{Heads, stepOf};
+ghost use Rattle.search.specs.State.{State};
+ghost use Rattle.reducer.specs.Reductions.{room, Answered};
+ghost use Rattle.rewriting.specs.Marked.{entry};
+ghost use Rattle.rewriting.specs.Steps.{kindOf};
+ghost use Rattle.rewriting.proofs.Reopen.{drops};
+ghost use Rattle.reducer.specs.Opened.{Dropped, Bared, Taken, Begun, Reduced};
+use conditions::Step;
+use parts::Part;
+use search::Found;
+use table::CallQuestion;
+use table::Checked;
 use table::Refusal;
 
 // The answer of a reduction: the number of steps made.
@@ -32,26 +48,252 @@ fn most_steps(words: &[u16]) -> usize
     sum
 }
 
-// The marks of the table's n words are set to 1, and those past them stay.
-fn keep_all(words: &[u16], marks: &mut [u8])
-    requires { ⌜ length (now words) ≤ length (now marks) ⌝ }
-    ensures { λ _. ⌜ now (marks .exit) ≡ allKept (now (words .entry)) (now (marks .entry)) ⌝ }
+// ---- what a step opens
+
+// A clause lost a literal: it may be a partner of kind 8 now and, as a fact, of kinds 3 and 5.
+fn open_partner(
+    words: &[u16],
+    marks: &[u8],
+    start: &[u16],
+    heads: &[u16],
+    reach: &[u8],
+    may: &mut [u8],
+    t: usize,
+    m: usize,
+)
+    requires { ⌜ (Ready (now words) (now marks) (now start)) × ((m ≡ getD (now words) 1 0) × ((t < getD (now words) 1 0) × (length (now may) ≡ 20480))) ⌝ }
+    ensures { λ _. ⌜ Dropped (now (words .entry)) (now (marks .entry)) (now (may .entry)) (now (may .exit)) t ⌝ }
 {
-    let n = words.len();
-    for i in 0..n {
-        marks[i] = 1;
+    may[18432 + t] = 1;
+    if !conditions::is_fact(words, marks, start, t) {
+        return;
+    }
+    search::spread(words, marks, start, heads, reach, may, 3, t, 0, m);
+    search::spread(words, marks, start, heads, reach, may, 5, t, 0, m);
+}
+
+// Steps of kinds 4 and 6 at an atom that is in no kept head.
+fn open_atom(
+    words: &[u16],
+    marks: &[u8],
+    start: &[u16],
+    heads: &[u16],
+    reach: &[u8],
+    may: &mut [u8],
+    atom: u16,
+    m: usize,
+)
+    requires { ⌜ (Ready (now words) (now marks) (now start)) × ((m ≡ getD (now words) 1 0) × ((0 < m) × ((Heads (now words) (now marks) (now heads)) × (length (now may) ≡ 20480)))) ⌝ }
+    ensures { λ _. ⌜ Bared (now (words .entry)) (now (marks .entry)) (now (may .entry)) (now (may .exit)) (atom ∷ []) ⌝ }
+{
+    if !conditions::no_head(heads, atom) {
+        return;
+    }
+    search::spread(words, marks, start, heads, reach, may, 4, 0, atom, m);
+    search::spread(words, marks, start, heads, reach, may, 6, 0, atom, m);
+}
+
+// The same at every head atom of a clause that was deleted.
+fn open_head(
+    words: &[u16],
+    marks: &[u8],
+    start: &[u16],
+    heads: &[u16],
+    reach: &[u8],
+    may: &mut [u8],
+    t: usize,
+    m: usize,
+)
+    requires { ⌜ (Ready (now words) (now marks) (now start)) × ((m ≡ getD (now words) 1 0) × ((t < getD (now words) 1 0) × ((Heads (now words) (now marks) (now heads)) × (length (now may) ≡ 20480)))) ⌝ }
+    ensures { λ _. ⌜ Bared (now (words .entry)) (now (marks .entry)) (now (may .entry)) (now (may .exit)) (entry (view (now (words .entry)) (now (marks .entry))) t .clause .head) ⌝ }
+{
+    let s = parts::span(words, start, t, Part::Head);
+    let e = s.end;
+    for i in s.from..e {
+        if marks[i] != 1 {
+            continue;
+        }
+        open_atom(words, marks, start, heads, reach, may, words[i], m);
     }
 }
 
-// The place of the atom among the words from `at` up to `end`.
-fn find_word(words: &[u16], at: usize, end: usize, atom: u16) -> usize
-    requires { ⌜ (at ≤ end) × (end ≤ length (now words)) ⌝ }
-    ensures { λ r. ⌜ r ≡ find (now (words .entry)) atom at (end - at) ⌝ }
+// ---- a step
+
+// Kinds 3 and 4: a literal is dropped.
+fn drop_literal(
+    words: &[u16],
+    marks: &mut [u8],
+    start: &[u16],
+    heads: &[u16],
+    reach: &[u8],
+    may: &mut [u8],
+    step: Step,
+    m: usize,
+)
+    requires { ⌜ (State (now words) (now marks) (now start) (now heads) (now reach) (now may)) × ((m ≡ getD (now words) 1 0) × ((Taken (now words) (now marks) step) × So (drops (kindOf (step .kind))))) ⌝ }
+    ensures { λ _. ⌜ (now (marks .exit) ≡ marksAfter (now (words .entry)) (now (marks .entry)) (stepOf step)) × State (now (words .entry)) (now (marks .exit)) (now (start .entry)) (now (heads .entry)) (now (reach .entry)) (now (may .exit)) ⌝ }
 {
-    for i in at..end {
-        if words[i] == atom {
-            return i;
-        }
+    conditions::make_step(words, marks, start, step);
+    open_partner(
+        words,
+        marks,
+        start,
+        heads,
+        reach,
+        may,
+        table::wide(step.target),
+        m,
+    );
+}
+
+// The other kinds: the clause is deleted.
+fn delete_clause(
+    words: &[u16],
+    marks: &mut [u8],
+    start: &[u16],
+    heads: &mut [u16],
+    reach: &[u8],
+    may: &mut [u8],
+    step: Step,
+    m: usize,
+)
+    requires { ⌜ (State (now words) (now marks) (now start) (now heads) (now reach) (now may)) × ((m ≡ getD (now words) 1 0) × ((Taken (now words) (now marks) step) × ¬ So (drops (kindOf (step .kind))))) ⌝ }
+    ensures { λ _. ⌜ (now (marks .exit) ≡ marksAfter (now (words .entry)) (now (marks .entry)) (stepOf step)) × State (now (words .entry)) (now (marks .exit)) (now (start .entry)) (now (heads .exit)) (now (reach .entry)) (now (may .exit)) ⌝ }
+{
+    conditions::make_step(words, marks, start, step);
+    conditions::count_heads(words, marks, start, heads);
+    may[0] = 1;
+    open_head(
+        words,
+        marks,
+        start,
+        heads,
+        reach,
+        may,
+        table::wide(step.target),
+        m,
+    );
+}
+
+// A step is made, and what it opens is flagged.
+fn apply_step(
+    words: &[u16],
+    marks: &mut [u8],
+    start: &[u16],
+    heads: &mut [u16],
+    reach: &[u8],
+    may: &mut [u8],
+    step: Step,
+    m: usize,
+)
+    requires { ⌜ (State (now words) (now marks) (now start) (now heads) (now reach) (now may)) × ((m ≡ getD (now words) 1 0) × Taken (now words) (now marks) step) ⌝ }
+    ensures { λ _. ⌜ (now (marks .exit) ≡ marksAfter (now (words .entry)) (now (marks .entry)) (stepOf step)) × State (now (words .entry)) (now (marks .exit)) (now (start .entry)) (now (heads .exit)) (now (reach .entry)) (now (may .exit)) ⌝ }
+{
+    let kind = step.kind;
+    if kind == 3 {
+        drop_literal(words, marks, start, heads, reach, may, step, m);
+        return;
     }
-    end
+    if kind == 4 {
+        drop_literal(words, marks, start, heads, reach, may, step, m);
+        return;
+    }
+    delete_clause(words, marks, start, heads, reach, may, step, m);
+}
+
+// The step number s is written to the list.
+fn write_step(list: &mut [u16], s: usize, step: Step)
+    requires { ⌜ 4 * s + 3 < length (now list) ⌝ }
+    ensures { λ _. ⌜ now (list .exit) ≡ sets (now (list .entry)) (4 * s) (step .kind ∷ step .target ∷ step .partner ∷ step .atom ∷ []) ⌝ }
+{
+    let at = 4 * s;
+    list[at] = step.kind;
+    list[at + 1] = step.target;
+    list[at + 2] = step.partner;
+    list[at + 3] = step.atom;
+}
+
+// ---- the reduction
+
+// Steps until none applies, and their number.
+fn run_steps(
+    words: &[u16],
+    marks: &mut [u8],
+    list: &mut [u16],
+    start: &[u16],
+    heads: &mut [u16],
+    reach: &mut [u8],
+    may: &mut [u8],
+    m: usize,
+) -> usize
+    requires { ⌜ (State (now words) (now marks) (now start) (now heads) (now reach) (now may)) × ((m ≡ getD (now words) 1 0) × Begun (now words) (now marks) (now list)) ⌝ }
+    ensures { λ r. ⌜ Reduced (now (words .entry)) (now (marks .entry)) (now (list .entry)) (now (marks .exit)) (now (list .exit)) r ⌝ }
+{
+    let mut s: usize = 0;
+    loop {
+        let found = search::first_step(words, marks, start, heads, reach, may, m);
+        let Found::One(step) = found else {
+            return s;
+        };
+        write_step(list, s, step);
+        apply_step(words, marks, start, heads, reach, may, step, m);
+        s += 1;
+    }
+}
+
+// Every target of every kind is flagged, and the reach is to be found.
+fn flag_kinds(may: &mut [u8])
+    requires { ⌜ 18432 ≤ length (now may) ⌝ }
+    ensures { λ _. ⌜ now (may .exit) ≡ replicate 18432 1 ++ drop 18432 (now (may .entry)) ⌝ }
+{
+    for i in 0usize..18432 {
+        may[i] = 1;
+    }
+}
+
+// The reduction of a table all of whose marks are 1.
+fn reduce_kept(words: &[u16], marks: &mut [u8], list: &mut [u16]) -> usize
+    requires { ⌜ (Passed (now words)) × ((length (now words) ≤ length (now marks)) × Begun (now words) (now marks) (now list)) ⌝ }
+    ensures { λ r. ⌜ Reduced (now (words .entry)) (now (marks .entry)) (now (list .entry)) (now (marks .exit)) (now (list .exit)) r ⌝ }
+{
+    let m = table::wide(words[1]);
+    let mut start = [0u16; 2049];
+    let mut heads = [0u16; 1024];
+    let mut reach = [0u8; 1024];
+    let mut may = [0u8; 20480];
+    parts::clause_starts(words, &mut start);
+    conditions::count_heads(words, marks, &start, &mut heads);
+    flag_kinds(&mut may);
+    run_steps(
+        words,
+        marks,
+        list,
+        &start,
+        &mut heads,
+        &mut reach,
+        &mut may,
+        m,
+    )
+}
+
+// Reduces a table: questions 1 to 9 and 17, then the smallest applicable step until none applies.
+pub fn reduce_table(words: &[u16], marks: &mut [u8], list: &mut [u16]) -> ReduceAnswer
+    ensures { λ r. ⌜ Answered (now (words .entry)) (now (marks .entry)) (now (list .entry)) (now (marks .exit)) (now (list .exit)) r ⌝ }
+{
+    let checked = table::check_table(words);
+    let Checked::Valid(_) = checked else {
+        let Checked::Refused(r) = checked else {
+            return ReduceAnswer::Accepted(0);
+        };
+        return ReduceAnswer::Refused(r);
+    };
+    if marks.len() < words.len() {
+        return ReduceAnswer::Refused(Refusal::Call(CallQuestion::MarksLength));
+    }
+    let steps = most_steps(words);
+    if list.len() < 4 * steps {
+        return ReduceAnswer::Refused(Refusal::Call(CallQuestion::ListRoom));
+    }
+    conditions::keep_all(words, marks);
+    ReduceAnswer::Accepted(reduce_kept(words, marks, list))
 }

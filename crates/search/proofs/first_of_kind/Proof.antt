@@ -4,70 +4,32 @@ use Rattle.search.proofs.States.{partner-kind, atom-kind, prepared-arra
 use borrow.Author.Needs.{needs}
 use Rattle.search.proofs.first_of_kind.Statement.{statement}
 use Rattle.search.proofs.first_of_kind.Tie as tie
-use Rattle.search.proofs.first_of_kind.Reads as reads
-use Rattle.search.proofs.first_of_kind.Lts as lts
-use Rattle.search.proofs.first_by_atom.Reads as first-by-atom-reads
-use Rattle.search.proofs.first_by_partner.Reads as first-by-partner-reads
-use Rattle.search.proofs.prepare.Reads as prepare-reads
-use Rattle.search.proofs.uses_partner.Reads as uses-partner-reads
 
--- src/lib.rt:451:5
 prepare-requires : tie.Need-prepare-requires
 prepare-requires c κs = (c .before .before .before .before .before .before .before .before .pre .0, c .before .before .before .before .before .before .before .before .pre .1 .0)
 
--- src/lib.rt:452:8
 uses-partner-requires : tie.Need-uses-partner-requires
 uses-partner-requires c κs = c .before .before .before .before .before .before .before .before .before .before .before .before .before .pre .1 .1
 
--- src/lib.rt:453:9
 first-by-partner-requires : tie.Need-first-by-partner-requires
 first-by-partner-requires c κs =
     let a = c .before .before .before .before .before .before .before .before .before .before .before .before .before .before .before .before .pre .1 .1 .0 in
     let b = c .before .before .before .before .before .before .before .before .before .before .before .before .before .before .before .before .pre .1 .1 .1 in
     (c .before .before .before .before .before .before .before .prepare .ensures .state .ready, (c .before .before .before .before .before .before .before .before .before .before .before .before .before .before .before .before .pre .1 .0, (partner-kind _ a b (sym (c .before .before .uses-partner .ensures) ∙ c .before .if1 .taken), prepared-calm _ _ _ _ _ _ _ (c .before .before .before .before .before .before .before .prepare .ensures) a b)))
 
--- src/lib.rt:453:9
-same-length : tie.Need-same-length
-same-length c = search needs
-
--- src/lib.rt:453:9
-same-length-2 : tie.Need-same-length-2
-same-length-2 c = search needs
-
--- src/lib.rt:453:9
 returns : tie.Need-returns
 returns c = (c .before .before .first-by-partner .ensures .0, prepared-swept _ _ _ _ _ _ _ (c .before .before .before .before .before .before .before .before .before .before .prepare .ensures) (c .before .before .before .before .before .before .before .before .before .before .before .before .before .before .before .before .before .before .before .pre .1 .1 .0) (c .before .before .before .before .before .before .before .before .before .before .before .before .before .before .before .before .before .before .before .pre .1 .1 .1) _ (c .before .before .first-by-partner .ensures .1))
 
--- src/lib.rt:455:5
 first-by-atom-requires : tie.Need-first-by-atom-requires
 first-by-atom-requires c κs =
     let a = c .before .before .before .before .before .before .before .before .before .before .before .before .before .before .before .before .before .pre .1 .1 .0 in
     let b = c .before .before .before .before .before .before .before .before .before .before .before .before .before .before .before .before .before .pre .1 .1 .1 in
     (prepared-arrays _ _ _ _ _ _ _ (c .before .before .before .before .before .before .before .before .prepare .ensures) a b, (c .before .before .before .before .before .before .before .before .before .before .before .before .before .before .before .before .before .pre .1 .0, (atom-kind _ a b (sym (c .before .before .before .uses-partner .ensures) ∙ c .before .before .if1 .left), prepared-calm _ _ _ _ _ _ _ (c .before .before .before .before .before .before .before .before .prepare .ensures) a b)))
 
--- src/lib.rt:447:1
-same-length-3 : tie.Need-same-length-3
-same-length-3 c = search needs
-
--- src/lib.rt:447:1
-same-length-4 : tie.Need-same-length-4
-same-length-4 c = search needs
-
--- src/lib.rt:447:1
 returns-2 : tie.Need-returns-2
 returns-2 c = (c .before .before .first-by-atom .ensures .0, prepared-swept _ _ _ _ _ _ _ (c .before .before .before .before .before .before .before .before .before .before .before .prepare .ensures) (c .before .before .before .before .before .before .before .before .before .before .before .before .before .before .before .before .before .before .before .before .pre .1 .1 .0) (c .before .before .before .before .before .before .before .before .before .before .before .before .before .before .before .before .before .before .before .before .pre .1 .1 .1) _ (c .before .before .first-by-atom .ensures .1))
 
 pub first-of-kind-spec : {M : Type 1} → statement M
 first-of-kind-spec =
     tie.close
-    (tie.spec
-    prepare-requires
-    uses-partner-requires
-    first-by-partner-requires
-    same-length
-    same-length-2
-    returns
-    first-by-atom-requires
-    same-length-3
-    same-length-4
-    returns-2)
+    (tie.spec prepare-requires uses-partner-requires first-by-partner-requires (λ c. search needs) (λ c. search needs) returns first-by-atom-requires (λ c. search needs) (λ c. search needs) returns-2)

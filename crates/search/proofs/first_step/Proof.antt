@@ -12,9 +12,6 @@ use Rattle.search.proofs.States.{kinds-found, kinds-none, kinds-more, f
 use borrow.Author.Needs.{needs}
 use Rattle.search.proofs.first_step.Statement.{statement}
 use Rattle.search.proofs.first_step.Tie as tie
-use Rattle.search.proofs.first_step.Reads as reads
-use Rattle.search.proofs.first_step.Lts as lts
-use Rattle.search.proofs.first_of_kind.Reads as first-of-kind-reads
 
 abbrev Inv-loop : tie.InvT-loop
 Inv-loop words marks start heads reach₀ may₀ m kind₀ reach may kind = ((1 ≤ kind) × (kind ≤ 9)) × ((length reach ≡ length reach₀) × ((length may ≡ length may₀) × (State words marks start heads reach may × ((i : ℕ) → suc i < kind → firstTarget (getD words 0 0) (view words marks) (kindOf (suc i)) ≡ none))))
@@ -22,59 +19,35 @@ Inv-loop words marks start heads reach₀ may₀ m kind₀ reach may kind = ((1 
 abbrev μ-loop : tie.MeasureT-loop
 μ-loop words marks start heads reach₀ may₀ m kind₀ reach may kind = 9 - kind
 
--- src/lib.rt:463:5
 loop-holds : tie.Need-loop-holds Inv-loop μ-loop
 loop-holds c = ((omega arith, omega arith), (refl, (refl, (c .before .before .before .before .before .before .pre .0, λ i l. absurd (omega arith)))))
 
--- src/lib.rt:464:13
 first-of-kind-requires : tie.Need-first-of-kind-requires Inv-loop μ-loop
 first-of-kind-requires c κs = (c .before .before .before .loop .inv .1 .1 .1 .0, (c .before .before .before .before .before .before .before .before .before .before .pre .1, (c .before .before .before .loop .inv .0 .0, omega (arith, c .before .before .loop-test .taken))))
 
-enum-told : tie.Need-enum-told Inv-loop μ-loop
-enum-told c = search needs
-
--- src/lib.rt:466:13
-enum-told-2 : tie.Need-enum-told-2 Inv-loop μ-loop
-enum-told-2 c = search needs
-
--- src/lib.rt:466:13
-add-kind : tie.Need-add-kind Inv-loop μ-loop
-add-kind c = search needs
-
--- src/lib.rt:463:5
-loop-less : tie.Need-loop-less Inv-loop μ-loop
-loop-less c = search needs
-
--- src/lib.rt:463:5
 loop-again : tie.Need-loop-again Inv-loop μ-loop
 loop-again c =
     let i = c .before .before .before .before .before .before .before .before .before .before .loop .inv in
     let e = sym (c .enum-told2 .given .1) ∙ c .before .before .before .before .before .before .first-of-kind .ensures .0 in
     ((omega arith, omega arith), (c .before .before .before .before .before .before .first-of-kind .kept .1 .1 .1 .1 .0 ∙ i .1 .0, (c .before .before .before .before .before .before .first-of-kind .kept .1 .1 .1 .1 .1 .0 ∙ i .1 .1 .0, (c .before .before .before .before .before .before .first-of-kind .ensures .1, kinds-more _ _ _ (i .0 .0) (i .1 .1 .1 .1) e))))
 
--- src/lib.rt:468:9
 same-length : tie.Need-same-length Inv-loop μ-loop
 same-length c = c .before .before .before .before .before .before .first-of-kind .kept .1 .1 .1 .1 .0 ∙ c .before .before .before .before .before .before .before .before .before .before .loop .inv .1 .0
 
--- src/lib.rt:468:9
 same-length-2 : tie.Need-same-length-2 Inv-loop μ-loop
 same-length-2 c = c .before .before .before .before .before .before .first-of-kind .kept .1 .1 .1 .1 .1 .0 ∙ c .before .before .before .before .before .before .before .before .before .before .loop .inv .1 .1 .0
 
--- src/lib.rt:468:9
 returns : tie.Need-returns Inv-loop μ-loop
 returns c =
     let i = c .before .before .before .before .before .before .before .before .before .before .loop .inv in
     (kinds-found _ _ _ (i .0 .0) (i .1 .1 .1 .1) (omega (arith, c .before .before .before .before .before .before .before .before .before .loop-test .taken)) _ (c .before .before .before .before .before .before .first-of-kind .ensures .0) (found-one _ _ (c .enum-told .given .1)), c .before .before .before .before .before .before .first-of-kind .ensures .1)
 
--- src/lib.rt:459:1
 same-length-3 : tie.Need-same-length-3 Inv-loop μ-loop
 same-length-3 c = c .before .loop .inv .1 .0
 
--- src/lib.rt:459:1
 same-length-4 : tie.Need-same-length-4 Inv-loop μ-loop
 same-length-4 c = c .before .loop .inv .1 .1 .0
 
--- src/lib.rt:459:1
 returns-2 : tie.Need-returns-2 Inv-loop μ-loop
 returns-2 c =
     let i = c .before .loop .inv in
@@ -83,19 +56,4 @@ returns-2 c =
 pub first-step-spec : {M : Type 1} → statement M
 first-step-spec =
     tie.close
-    (tie.spec
-    Inv-loop
-    μ-loop
-    loop-holds
-    first-of-kind-requires
-    enum-told
-    enum-told-2
-    add-kind
-    loop-less
-    loop-again
-    same-length
-    same-length-2
-    returns
-    same-length-3
-    same-length-4
-    returns-2)
+    (tie.spec Inv-loop μ-loop loop-holds first-of-kind-requires (λ c. search needs) (λ c. search needs) (λ c. search needs) (λ c. search needs) loop-again same-length same-length-2 returns same-length-3 same-length-4 returns-2)

@@ -7,41 +7,22 @@ use Rattle.search.proofs.Walks.{asked-heads, bare-test}
 use borrow.Author.Needs.{needs}
 use Rattle.search.proofs.passes.Statement.{statement}
 use Rattle.search.proofs.passes.Tie as tie
-use Rattle.search.proofs.passes.Reads as reads
-use Rattle.search.proofs.passes.Lts as lts
-use Rattle.conditions.proofs.no_head.Reads as no-head-reads
-use Rattle.parts.proofs.has.Reads as has-reads
-use Rattle.reach.proofs.is_in.Reads as is-in-reads
 
--- src/lib.rt:264:9
 has-requires : tie.Need-has-requires
 has-requires c κs = (c .before .before .before .before .before .before .pre .0 .ready, c .before .before .before .before .before .before .pre .1 .0)
 
--- src/lib.rt:264:9
 returns : tie.Need-returns
 returns c = rw (c .before .if1 .taken) (c .has .ensures)
 
--- src/lib.rt:267:9
 has-requires-2 : tie.Need-has-requires-2
 has-requires-2 c κs = (c .before .before .before .before .before .before .before .pre .0 .ready, c .before .before .before .before .before .before .before .pre .1 .0)
 
--- src/lib.rt:267:9
 returns-2 : tie.Need-returns-2
 returns-2 c = rw (c .before .if2 .taken) (c .has2 .ensures)
 
--- src/lib.rt:270:17
-is-in-requires : tie.Need-is-in-requires
-is-in-requires c κs = search needs
-
--- src/lib.rt:270:9
 returns-3 : tie.Need-returns-3
 returns-3 c = rw (c .before .if3 .taken) (ap not (c .is-in .ensures ∙ c .before .before .before .before .before .before .before .before .before .pre .0 .reached (c .before .if3 .taken) .is (c .before .before .before .before .before .before .before .before .before .args .atom)))
 
--- src/lib.rt:272:5
-no-head-requires : tie.Need-no-head-requires
-no-head-requires c κs = search needs
-
--- src/lib.rt:250:1
 returns-4 : tie.Need-returns-4
 returns-4 c =
     let p = c .before .before .before .before .before .before .before .before .before .pre in
@@ -50,12 +31,4 @@ returns-4 c =
 pub passes-spec : {M : Type 1} → statement M
 passes-spec =
     tie.close
-    (tie.spec
-    has-requires
-    returns
-    has-requires-2
-    returns-2
-    is-in-requires
-    returns-3
-    no-head-requires
-    returns-4)
+    (tie.spec has-requires returns has-requires-2 returns-2 (λ c κs. search needs) returns-3 (λ c κs. search needs) returns-4)

@@ -6,57 +6,23 @@ use Rattle.search.specs.State.{Settled}
 use borrow.Author.Needs.{needs}
 use Rattle.search.proofs.prepare.Statement.{statement}
 use Rattle.search.proofs.prepare.Tie as tie
-use Rattle.search.proofs.prepare.Reads as reads
-use Rattle.search.proofs.prepare.Lts as lts
-use Rattle.search.proofs.refresh.Reads as refresh-reads
-use Rattle.search.proofs.settle.Reads as settle-reads
 
--- src/lib.rt:437:9
 refresh-requires : tie.Need-refresh-requires
 refresh-requires c κs = (c .before .before .before .before .before .before .before .before .before .pre .0, c .before .before .before .before .before .before .before .before .before .pre .1)
 
--- src/lib.rt:438:9
-same-length : tie.Need-same-length
-same-length c = search needs
-
--- src/lib.rt:438:9
-same-length-2 : tie.Need-same-length-2
-same-length-2 c = search needs
-
--- src/lib.rt:438:9
 returns : tie.Need-returns
 returns c = record { state = c .before .before .before .before .refresh .ensures .0; known = λ _. c .before .before .before .before .refresh .ensures .1; settled = λ e. absurd (omega (arith, c .before .before .before .before .before .before .before .if1 .taken)) }
 
--- src/lib.rt:441:9
 settle-requires : tie.Need-settle-requires
 settle-requires c κs = (c .before .before .before .before .before .before .before .before .before .before .pre .0, c .before .before .before .before .before .before .before .before .before .before .pre .1)
 
--- src/lib.rt:442:9
-same-length-3 : tie.Need-same-length-3
-same-length-3 c = search needs
-
--- src/lib.rt:442:9
-same-length-4 : tie.Need-same-length-4
-same-length-4 c = search needs
-
--- src/lib.rt:442:9
 returns-2 : tie.Need-returns-2
 returns-2 c = record { state = c .before .before .settle .ensures .0; known = λ e. absurd (c .before .before .before .before .before .before .if1 .left e); settled = λ e. subst (Settled (c .before .before .settle .last .1 .1 .1 .1 .1 .0)) (c .before .before .before .before .before .before .before .before .before .before .before .before .before .pre .1) (c .before .before .settle .ensures .1) }
 
--- src/lib.rt:432:1
 returns-3 : tie.Need-returns-3
 returns-3 c = record { state = c .before .before .before .before .before .before .before .before .pre .0; known = λ e. absurd (c .before .if1 .left e); settled = λ e. absurd (c .if2 .left e) }
 
 pub prepare-spec : {M : Type 1} → statement M
 prepare-spec =
     tie.close
-    (tie.spec
-    refresh-requires
-    same-length
-    same-length-2
-    returns
-    settle-requires
-    same-length-3
-    same-length-4
-    returns-2
-    returns-3)
+    (tie.spec refresh-requires (λ c. search needs) (λ c. search needs) returns settle-requires (λ c. search needs) (λ c. search needs) returns-2 returns-3)

@@ -9,40 +9,22 @@ use Rattle.search.proofs.States.{few-clauses, state-reached}
 use borrow.Author.Needs.{needs}
 use Rattle.search.proofs.refresh.Statement.{statement}
 use Rattle.search.proofs.refresh.Tie as tie
-use Rattle.search.proofs.refresh.Reads as reads
-use Rattle.search.proofs.refresh.Lts as lts
-use Rattle.reach.proofs.find_reach.Reads as find-reach-reads
-use Rattle.search.proofs.flag_all.Reads as flag-all-reads
 
--- src/lib.rt:393:8
 slice-read-if1 : tie.Need-slice-read-if1
 slice-read-if1 c = omega (arith, c .before .before .before .before .before .before .before .pre .0 .long)
 
--- src/lib.rt:394:9
 returns : tie.Need-returns
 returns c = (c .before .before .before .before .before .before .before .before .pre .0, c .if1 .taken)
 
--- src/lib.rt:396:5
 find-reach-requires : tie.Need-find-reach-requires
 find-reach-requires c κs = (c .before .before .before .before .before .before .before .before .before .pre .0 .ready, c .before .before .before .before .before .before .before .before .before .pre .0 .bytes)
 
--- src/lib.rt:397:5
 flag-all-requires : tie.Need-flag-all-requires
 flag-all-requires c κs = (omega arith, (omega (arith, c .before .before .before .before .before .before .before .before .before .before .before .before .before .pre .1, few-clauses _ _ _ _ _ _ (c .before .before .before .before .before .before .before .before .before .before .before .before .before .pre .0)), c .before .before .before .before .before .before .before .before .before .before .before .before .before .pre .0 .long))
 
--- src/lib.rt:398:5
 slice-write-may : tie.Need-slice-write-may
 slice-write-may c = omega (arith, c .before .before .flag-all .kept .0, c .before .before .before .before .before .before .before .before .before .before .before .before .before .before .before .before .pre .0 .long)
 
--- src/lib.rt:389:1
-same-length : tie.Need-same-length
-same-length c = search needs
-
--- src/lib.rt:389:1
-same-length-2 : tie.Need-same-length-2
-same-length-2 c = search needs
-
--- src/lib.rt:389:1
 returns-2 : tie.Need-returns-2
 returns-2 c =
     let may' = c .before .before .flag-all .last .0 in
@@ -51,12 +33,4 @@ returns-2 c =
 pub refresh-spec : {M : Type 1} → statement M
 refresh-spec =
     tie.close
-    (tie.spec
-    slice-read-if1
-    returns
-    find-reach-requires
-    flag-all-requires
-    slice-write-may
-    same-length
-    same-length-2
-    returns-2)
+    (tie.spec slice-read-if1 returns find-reach-requires flag-all-requires slice-write-may (λ c. search needs) (λ c. search needs) returns-2)

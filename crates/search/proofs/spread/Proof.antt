@@ -9,10 +9,6 @@ use Rattle.search.proofs.Spreads.{Spreading, spreading-none, spreading-
 use borrow.Author.Needs.{needs}
 use Rattle.search.proofs.spread.Statement.{statement}
 use Rattle.search.proofs.spread.Tie as tie
-use Rattle.search.proofs.spread.Reads as reads
-use Rattle.search.proofs.spread.Lts as lts
-use Rattle.conditions.proofs.holds.Reads as holds-reads
-use Rattle.table.proofs.wide.Reads as wide-reads
 
 abbrev Inv-loop : tie.InvT-loop
 Inv-loop words marks start heads reach may₀ kind p atom m base t₀ may t = (t ≤ m) × ((base ≡ kind * 2048) × Spreading words marks may₀ may kind p atom t)
@@ -20,86 +16,41 @@ Inv-loop words marks start heads reach may₀ kind p atom m base t₀ may t = (t
 abbrev μ-loop : tie.MeasureT-loop
 μ-loop words marks start heads reach may₀ kind p atom m base t₀ may t = m - t
 
--- src/lib.rt:379:16
 -- there are few clauses, and the target is one of them
 few : (c : tie.In-loop Inv-loop μ-loop) → (c .before .loop .t < 2048) × (c .before .loop .t < getD (c .before .before .before .before .before .before .before .before .before .args .words .now) 1 0)
 few c = (omega (arith, c .loop-test .taken, c .before .before .before .before .before .before .before .before .before .pre .1 .0, passed-limits _ (c .before .before .before .before .before .before .before .before .before .pre .0 .placed .passed) .fewClauses), omega (arith, c .loop-test .taken, c .before .before .before .before .before .before .before .before .before .pre .1 .0))
 
-wide-requires : tie.Need-wide-requires Inv-loop μ-loop
-wide-requires c κs = search needs
-
--- src/lib.rt:379:16
 mul-base : tie.Need-mul-base Inv-loop μ-loop
 mul-base c = omega (arith, c .wide .ensures, c .before .before .before .before .before .before .before .pre .1 .1 .1 .0)
 
--- src/lib.rt:380:5
 loop-holds : tie.Need-loop-holds Inv-loop μ-loop
 loop-holds c = (search needs, (ap (λ x. x * 2048) (c .wide .ensures .0), spreading-none _ _ _ _ _ _))
 
--- src/lib.rt:381:13
 holds-requires : tie.Need-holds-requires Inv-loop μ-loop
 holds-requires c κs = (c .before .before .before .before .before .before .before .before .before .pre .0, ((few (c) .1, c .before .before .before .before .before .before .before .before .before .pre .1 .1 .0), (c .before .before .before .before .before .before .before .before .before .pre .1 .1 .1 .0, c .before .before .before .before .before .before .before .before .before .pre .1 .1 .1 .1 .0)))
 
--- src/lib.rt:382:13
-add-t : tie.Need-add-t Inv-loop μ-loop
-add-t c = search needs
-
--- src/lib.rt:380:5
-loop-less : tie.Need-loop-less Inv-loop μ-loop
-loop-less c = search needs
-
--- src/lib.rt:380:5
 loop-again : tie.Need-loop-again Inv-loop μ-loop
 loop-again c = (search needs, (c .before .before .before .loop .inv .1 .0, spreading-past _ _ _ _ _ _ _ _ (c .before .before .before .loop .inv .1 .1) (sym (c .before .holds .ensures) ∙ not-true _ (c .if1 .taken))))
 
--- src/lib.rt:384:13
 add-may : tie.Need-add-may Inv-loop μ-loop
 add-may c = omega (arith, c .before .before .before .loop .inv .1 .0, few (c .before .before), c .before .before .before .before .before .before .before .before .before .before .before .pre .1 .1 .1 .0)
 
--- src/lib.rt:384:9
 slice-write-may : tie.Need-slice-write-may Inv-loop μ-loop
 slice-write-may c = omega (arith, c .before .before .before .loop .inv .1 .0, few (c .before .before), c .before .before .before .before .before .before .before .before .before .before .before .pre .1 .1 .1, c .before .before .before .loop .inv .1 .1 .long)
 
--- src/lib.rt:380:9
-add-t-2 : tie.Need-add-t-2 Inv-loop μ-loop
-add-t-2 c = search needs
-
--- src/lib.rt:380:5
-loop-less-2 : tie.Need-loop-less-2 Inv-loop μ-loop
-loop-less-2 c = search needs
-
--- src/lib.rt:380:5
 loop-again-2 : tie.Need-loop-again-2 Inv-loop μ-loop
 loop-again-2 c =
     let b = c .before .before .before .loop .inv .1 .0 in
     let l : c .before .before .before .before .before .before .before .before .before .before .before .args .kind * 2048 + c .before .before .before .loop .t < length (c .before .before .before .loop .may) = omega (arith, few (c .before .before), c .before .before .before .before .before .before .before .before .before .before .before .pre .1 .1 .1, c .before .before .before .loop .inv .1 .1 .long) in
     (search needs, (b, rw b (spreading-on _ _ _ _ _ _ _ _ (c .before .before .before .loop .inv .1 .1) (few (c .before .before) .0) l)))
 
--- src/lib.rt:375:1
 same-length : tie.Need-same-length Inv-loop μ-loop
 same-length c = c .before .loop .inv .1 .1 .long
 
--- src/lib.rt:375:1
 returns : tie.Need-returns Inv-loop μ-loop
 returns c = spreading-all _ _ _ _ _ _ _ _ (c .before .loop .inv .1 .1) (omega (arith, c .loop-test .left, c .before .before .before .before .before .before .before .before .before .pre .1 .0))
 
 pub spread-spec : {M : Type 1} → statement M
 spread-spec =
     tie.close
-    (tie.spec
-    Inv-loop
-    μ-loop
-    wide-requires
-    mul-base
-    loop-holds
-    holds-requires
-    add-t
-    loop-less
-    loop-again
-    add-may
-    slice-write-may
-    add-t-2
-    loop-less-2
-    loop-again-2
-    same-length
-    returns)
+    (tie.spec Inv-loop μ-loop (λ c κs. search needs) mul-base loop-holds holds-requires (λ c. search needs) (λ c. search needs) loop-again add-may slice-write-may (λ c. search needs) (λ c. search needs) loop-again-2 same-length returns)

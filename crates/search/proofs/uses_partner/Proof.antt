@@ -4,18 +4,13 @@ use Rattle.search.proofs.States.{uses-rest}
 use borrow.Author.Needs.{needs}
 use Rattle.search.proofs.uses_partner.Statement.{statement}
 use Rattle.search.proofs.uses_partner.Tie as tie
-use Rattle.search.proofs.uses_partner.Reads as reads
-use Rattle.search.proofs.uses_partner.Lts as lts
 
--- src/lib.rt:423:9
 returns : tie.Need-returns
 returns c = rw (c .if1 .taken)
 
--- src/lib.rt:426:9
 returns-2 : tie.Need-returns-2
 returns-2 c = rw (c .if2 .taken)
 
--- src/lib.rt:418:1
 returns-3 : tie.Need-returns-3
 returns-3 c = uses-rest _ (c .before .before .pre .0) (c .before .before .pre .1) (c .before .if1 .left) (c .if2 .left)
 

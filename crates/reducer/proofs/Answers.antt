@@ -1,0 +1,108 @@
+-- The call: its state at the start, and its answer by the questions.
+use mathlib.Core.Path.{_≡_, refl, sym, ap, subst, _∙_}
+use mathlib.Core.Logic.{_≢_}
+use mathlib.Core.Bool.{true, false, cond}
+use mathlib.Core.List.{List, [], _∷_, _++_}
+use Prim.Native.Nat.{ℕ, zero, suc, _+_, _*_, _≤_, _<_}
+use native.Mathlib.Omega.{arith}
+use lib.Dec.{leb, eqb}
+use lib.ListN.{length, getD, drop, replicate, length-replicate, getD-replicate, List·getD-append}
+use lib.Seq.{sets, take-at}
+use borrow.Author.Tests.{le-leb, lt-leb}
+use Rattle.semantics.specs.Lists.{count}
+use Rattle.rewriting.specs.Steps.{number, Step}
+use Rattle.rewriting.proofs.Search.{number-bounds}
+use Rattle.rewriting.proofs.Quiet.{quiet-all}
+use Rattle.table.specs.declared.Checked.the-variants as checked
+use Rattle.table.specs.declared.Refusal.{Refusal}
+use Rattle.table.specs.declared.Refusal.the-variants.{Call}
+use Rattle.table.specs.declared.CallQuestion.the-variants.{MarksLength, ListRoom}
+use Rattle.table.specs.declared.Table.{Table}
+use Rattle.table.specs.Questions.{tableOf, numbers, Passed}
+use Rattle.table.specs.View.{view, allKept, marksAfterAll, zeros}
+use Rattle.table.proofs.Encoding.{valid-inv, passed-limits}
+use Rattle.table.proofs.Parts.{view-allKept, length-allKept}
+use Rattle.parts.specs.Parts.{Ready}
+use Rattle.conditions.specs.Known.{Heads}
+use Rattle.search.specs.Flags.{flags}
+use Rattle.search.specs.State.{State, freshOf}
+use Rattle.search.proofs.States.{target-lt}
+use Rattle.reducer.specs.declared.ReduceAnswer.the-variants.{Accepted, Refused}
+use Rattle.reducer.specs.Reductions.{room, stepsOf, wordsOf, Reduction, refused, onTable, reduction, Answered}
+use Rattle.reducer.specs.Opened.{Begun, Reduced}
+
+-- ---- the start
+
+flag-one : (rest : List ℕ) (i : ℕ) → i < 18432 → getD (replicate 18432 1 ++ rest) i 0 ≢ 0
+flag-one rest i l e = omega (arith, List·getD-append (replicate 18432 1) rest 0 i (subst (λ k. i < k) (sym (length-replicate {A = ℕ} 18432 1)) l), getD-replicate {A = ℕ} 18432 i 1 0 l)
+
+-- every target is flagged, and the reach is not known
+pub state-begun : (ws ms start hs rs may rest : List ℕ) → Ready ws ms start → Heads ws ms hs → getD ws 0 0 ≤ length hs → getD ws 0 0 ≤ length rs → length may ≡ 20480
+    → may ≡ replicate 18432 1 ++ rest → State ws ms start hs rs may
+state-begun ws ms start hs rs may rest r h a b l e = record {
+  ready = r;
+  counted = h;
+  atoms = a;
+  bytes = b;
+  long = l;
+  reached = λ q. absurd (flagged 0 (omega arith) q);
+  quiet = λ k _. quiet-all (getD ws 0 0) (view ws ms) k (flags may (number k)) (freshOf k may) (λ u x. flagged (number k * 2048 + u .target)
+      (omega (arith, number-bounds k, target-lt ws ms u x, passed-limits ws (r .placed .passed) .fewClauses)));
+}
+  where
+    flagged : (i : ℕ) → i < 18432 → getD may i 0 ≢ 0
+    flagged i k = subst (λ x. getD x i 0 ≢ 0) (sym e) (flag-one rest i k)
+
+none-gone : (n : ℕ) → count (λ x. eqb x 0) (replicate n 1) ≡ 0
+none-gone zero = refl
+none-gone (suc n) = omega (arith, none-gone n)
+
+zeros-allKept : (ws ms : List ℕ) → zeros ws (allKept ws ms) ≡ 0
+unfolding zeros
+zeros-allKept ws ms = ap (count (λ x. eqb x 0)) (take-at (replicate (length ws) 1) (drop (length ws) ms) (length ws) (length-replicate {A = ℕ} (length ws) 1)) ∙ none-gone (length ws)
+
+pub begun : (ws ms ms' ls : List ℕ) → Passed ws → ms' ≡ allKept ws ms → 4 * room ws ≤ length ls → Begun ws ms' ls
+begun ws ms ms' ls p e l = rw e (record { whole = view-allKept ws ms p; none = zeros-allKept ws ms; room = l })
+
+-- ---- the answer
+
+pub passed : (ws : List ℕ) (t : Table) → tableOf ws ≡ checked.Valid t → Passed ws
+passed ws t e = record { valid = e ∙ ap checked.Valid (valid-inv ws t e .1) }
+
+unfoldable whole-of : List ℕ → List ℕ → List ℕ → Reduction
+whole-of ws ms ls = record { answer = Accepted (length (stepsOf ws)); marks = marksAfterAll ws (allKept ws ms) (stepsOf ws); list = sets ls 0 (wordsOf (stepsOf ws)) }
+
+no-table-is : (ws ms ls : List ℕ) (r : Refusal) → tableOf ws ≡ checked.Refused r → reduction ws ms ls ≡ refused ms ls r
+unfolding reduction onTable
+no-table-is ws ms ls r e = rw e
+
+table-is : (ws ms ls : List ℕ) (t : Table) → tableOf ws ≡ checked.Valid t
+    → reduction ws ms ls ≡ cond (leb (length ws) (length ms)) (cond (leb (4 * room ws) (length ls)) (whole-of ws ms ls) (refused ms ls (Call ListRoom))) (refused ms ls (Call MarksLength))
+unfolding reduction onTable whole-of
+table-is ws ms ls t e = rw e
+
+module _ (ws ms ls : List ℕ) where
+  by : (x : Reduction) → reduction ws ms ls ≡ x → Answered ws ms ls (x .marks) (x .list) (x .answer)
+  by x e = record { answer = sym (ap (λ r. r .answer) e); marks = sym (ap (λ r. r .marks) e); list = sym (ap (λ r. r .list) e) }
+
+  -- questions 1 to 8
+  pub no-table : (r : Refusal) → tableOf ws ≡ checked.Refused r → Answered ws ms ls ms ls (Refused r)
+  no-table r e = by (refused ms ls r) is
+    where
+      is : reduction ws ms ls ≡ refused ms ls r
+      is = no-table-is ws ms ls r e
+
+  module _ (t : Table) (e : tableOf ws ≡ checked.Valid t) where
+    -- 9
+    pub few-marks : length ms < length ws → Answered ws ms ls ms ls (Refused (Call MarksLength))
+    few-marks l = by (refused ms ls (Call MarksLength)) (table-is ws ms ls t e ∙ rw (lt-leb _ _ l))
+
+    -- 17
+    pub no-room : length ws ≤ length ms → length ls < 4 * room ws → Answered ws ms ls ms ls (Refused (Call ListRoom))
+    no-room a l = by (refused ms ls (Call ListRoom)) (table-is ws ms ls t e ∙ rw (le-leb _ _ a, lt-leb _ _ l))
+
+    pub done : (ms₁ ms' ls' : List ℕ) (s : ℕ) → length ws ≤ length ms → 4 * room ws ≤ length ls → ms₁ ≡ allKept ws ms → Reduced ws ms₁ ls ms' ls' s → Answered ws ms ls ms' ls' (Accepted s)
+    unfolding whole-of
+    done ms₁ ms' ls' s a l q r =
+        let w = by (whole-of ws ms ls) (table-is ws ms ls t e ∙ rw (le-leb _ _ a, le-leb _ _ l)) in
+        record { answer = ap Accepted (r .number) ∙ w .answer; marks = r .marks ∙ ap (λ k. marksAfterAll ws k (stepsOf ws)) q ∙ w .marks; list = r .list ∙ w .list }
