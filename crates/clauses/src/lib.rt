@@ -33,11 +33,3 @@ pub fn neg_of(words: &[u16], at: usize) -> &[u16]
     let b = a + table::wide(words[at + 2]);
     &words[a..b]
 }
-
-// The place past it, where the next clause starts.
-pub fn next_of(words: &[u16], at: usize) -> usize
-    requires { ⌜ nextAt (now words) at ≤ length (now words) ⌝ }
-    ensures { λ r. ⌜ r ≡ nextAt (now (words .entry)) at ⌝ }
-{
-    at + 3 + table::wide(words[at]) + table::wide(words[at + 1]) + table::wide(words[at + 2])
-}

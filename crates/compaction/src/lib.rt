@@ -23,17 +23,6 @@ pub enum CompactAnswer {
     Refused(Refusal),
 }
 
-// The place past a clause.
-fn next_clause(words: &[u16], at: usize) -> usize
-    requires { ⌜ nextAt (now words) at ≤ length (now words) ⌝ }
-    ensures { λ r. ⌜ r ≡ nextAt (now (words .entry)) at ⌝ }
-{
-    let h = table::wide(words[at]);
-    let p = table::wide(words[at + 1]);
-    let q = table::wide(words[at + 2]);
-    at + 3 + h + p + q
-}
-
 // Question 10 where each mark from `at` up to `end` is to be `least` or 1; `least` is 0 or 1.
 fn check_span(marks: &[u8], at: usize, end: usize, least: u8) -> Walk
     requires { ⌜ (at ≤ end) × (end ≤ length (now marks)) ⌝ }
@@ -65,7 +54,7 @@ fn check_clause_marks(words: &[u16], marks: &[u8], at: usize) -> Walk
     let Walk::To(_) = counts else {
         return counts;
     };
-    check_span(marks, body, next_clause(words, at), 0)
+    check_span(marks, body, table::next_clause(words, at), 0)
 }
 
 // Question 10.
@@ -115,7 +104,7 @@ fn entry_size(words: &[u16], marks: &[u8], at: usize) -> usize
     if marks[at] != 1 {
         return 0;
     }
-    3 + table::wide(kept_in(marks, at + 3, next_clause(words, at)))
+    3 + table::wide(kept_in(marks, at + 3, table::next_clause(words, at)))
 }
 
 // The number of words of the reduced table.
@@ -128,7 +117,7 @@ pub fn left_size(words: &[u16], marks: &[u8]) -> usize
     let mut size: usize = 2;
     for k in 0..clauses {
         size += entry_size(words, marks, at);
-        at = next_clause(words, at);
+        at = table::next_clause(words, at);
     }
     size
 }
@@ -143,7 +132,7 @@ fn left_count(words: &[u16], marks: &[u8]) -> u16
     let mut n: u16 = 0;
     for k in 0..clauses {
         n += kept_in(marks, at, at + 1);
-        at = next_clause(words, at);
+        at = table::next_clause(words, at);
     }
     n
 }
@@ -217,7 +206,7 @@ fn copy_clauses(words: &[u16], marks: &[u8], out: &mut [u16])
     let mut to: usize = 2;
     for k in 0..clauses {
         to = copy_entry(words, marks, at, out, to);
-        at = next_clause(words, at);
+        at = table::next_clause(words, at);
     }
 }
 

@@ -19,9 +19,9 @@ use Rattle.rewriting.specs.Steps.{inNoHead}
 use Rattle.rewriting.proofs.Reach.{inNoHead-iff}
 use Rattle.rewriting.proofs.Left.{left-each, kept-lt}
 use Rattle.table.specs.Questions.{Passed}
-use Rattle.table.specs.View.{view}
+use Rattle.table.specs.View.{view, kept-of}
 use Rattle.table.proofs.View.{length-view}
-use Rattle.table.proofs.Parts.{kept-of, scan-end, view-straight}
+use Rattle.table.proofs.Parts.{scan-end, view-straight}
 use Rattle.parts.specs.Parts.{Ascends}
 use Rattle.parts.proofs.Laws.{kept-on, kept-some, kept-place}
 use Rattle.conditions.specs.Known.{headCount, Heads, Tallied}

@@ -15,10 +15,9 @@ use Rattle.rewriting.proofs.Left.{kept-lt}
 use Rattle.rewriting.proofs.Sound.{applies-ask}
 use Rattle.rewriting.proofs.Search.{partner-lt}
 use Rattle.table.specs.Places.{posAt, negAt, nextAt, startOf}
-use Rattle.table.specs.View.{view, find, clears, marksAfter}
+use Rattle.table.specs.View.{view, find, clears, marksAfter, kept-of}
 use Rattle.table.proofs.View.{length-view, clears-lt}
 use Rattle.table.proofs.Laws.{one-left}
-use Rattle.table.proofs.Parts.{kept-of}
 use Rattle.parts.specs.declared.Single.{Single}
 use Rattle.parts.specs.declared.Single.the-variants.{One, Other}
 use Rattle.parts.specs.declared.Part.the-variants.{Pos, Neg}

@@ -45,6 +45,6 @@ pub fn list_heads(words: &[u16], first: &mut [u16], nexts: &mut [u16], owner: &m
     let mut at: usize = 2;
     for k in 0..clauses {
         list_head(words, at, first, nexts, owner);
-        at = clauses::next_of(words, at);
+        at = table::next_clause(words, at);
     }
 }

@@ -17,12 +17,12 @@ use Rattle.semantics.proofs.Tests.{and-iff, mem-iff, so-ext, so-false, not-so}
 use Rattle.rewriting.specs.Marked.{entry}
 use Rattle.table.specs.Questions.{clausesFrom, Passed}
 use Rattle.table.specs.Places.{headAt, posAt, negAt, nextAt, startFrom, startOf}
-use Rattle.table.specs.View.{part, entryAt, view}
+use Rattle.table.specs.View.{part, entryAt, view, kept-of}
 use Rattle.table.specs.declared.Walk.the-variants.{To}
 use Rattle.table.proofs.Encoding.{passed-limits, on-inv, clause-inv}
 use Rattle.table.proofs.Places.{Rises, Good, passed-good, start-suc}
 use Rattle.table.proofs.View.{entry-view}
-use Rattle.table.proofs.Parts.{kept-of, part-slice, scan-step, scan-end}
+use Rattle.table.proofs.Parts.{part-slice, scan-step, scan-end}
 use Rattle.parts.specs.declared.Part.{Part}
 use Rattle.parts.specs.declared.Part.the-variants.{Head, Pos, Neg}
 use Rattle.parts.specs.declared.Bounds.{Bounds}

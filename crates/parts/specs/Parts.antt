@@ -6,7 +6,7 @@ use lib.ListN.{length, getD, drop}
 use Rattle.semantics.specs.Programs.{Clause}
 use Rattle.table.specs.Questions.{Passed}
 use Rattle.table.specs.Places.{headAt, posAt, negAt, nextAt, startOf}
-use Rattle.table.proofs.Parts.{kept-of}
+use Rattle.table.specs.View.{kept-of}
 use Rattle.parts.specs.declared.Part.{Part}
 use Rattle.parts.specs.declared.Part.the-variants.{Head, Pos, Neg}
 use Rattle.parts.specs.declared.Bounds.{Bounds}

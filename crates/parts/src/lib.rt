@@ -6,8 +6,7 @@ ghost use Rattle.semantics.specs.Lists.{mem, within, null};
 ghost use Rattle.rewriting.specs.Marked.{entry};
 ghost use Rattle.table.specs.Questions.{Passed};
 ghost use Rattle.table.specs.Places.{nextAt, startOf};
-ghost use Rattle.table.specs.View.{view};
-ghost use Rattle.table.proofs.Parts.{kept-of};
+ghost use Rattle.table.specs.View.{view, kept-of};
 ghost use Rattle.parts.specs.Parts.{partOf, Spanned, Placed, Ready, Ascends, Sought, FirstKept, singleOf};
 
 // A part of a clause.
@@ -31,14 +30,6 @@ pub enum Single {
 
 // ---- where clauses start
 
-// The first word of the clause after the one at `at`.
-fn next_start(words: &[u16], at: usize) -> usize
-    requires { ⌜ nextAt (now words) at ≤ length (now words) ⌝ }
-    ensures { λ r. ⌜ r ≡ nextAt (now (words .entry)) at ⌝ }
-{
-    at + 3 + table::wide(words[at]) + table::wide(words[at + 1]) + table::wide(words[at + 2])
-}
-
 // Every clause's first word, and at m the end of the table.
 pub fn clause_starts(words: &[u16], start: &mut [u16])
     requires { ⌜ (Passed (now words)) × (getD (now words) 1 0 < length (now start)) ⌝ }
@@ -48,7 +39,7 @@ pub fn clause_starts(words: &[u16], start: &mut [u16])
     let mut at: usize = 2;
     for t in 0..m {
         start[t] = at as u16;
-        at = next_start(words, at);
+        at = table::next_clause(words, at);
     }
     start[m] = at as u16;
 }

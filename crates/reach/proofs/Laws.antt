@@ -21,9 +21,9 @@ use Rattle.rewriting.specs.Reach.{closed, IsReach, reach}
 use Rattle.rewriting.proofs.Left.{ClosedAt, closed-left, kept-lt}
 use Rattle.rewriting.proofs.Reach.{closed-iff, reach-is}
 use Rattle.table.specs.Questions.{Passed}
-use Rattle.table.specs.View.{view}
+use Rattle.table.specs.View.{view, kept-of}
 use Rattle.table.proofs.View.{count-set, length-view}
-use Rattle.table.proofs.Parts.{kept-of, scan-end, view-straight}
+use Rattle.table.proofs.Parts.{scan-end, view-straight}
 use Rattle.parts.proofs.Laws.{kept-on, kept-some}
 use Rattle.reach.specs.Bytes.{inBytes, addAll, fires, fired, Grown, others, Swept, Reached}
 

@@ -1,5 +1,4 @@
 pub mod Room
-pub mod Writes
 pub mod Taken
 pub mod Opens
 pub mod Keeps

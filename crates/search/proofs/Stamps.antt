@@ -13,7 +13,8 @@ use lib.Seq.{getD-set-same, getD-set-other}
 use borrow.Author.Tests.{eqb-true, eq-eqb, ne-eqb}
 use Rattle.semantics.specs.Lists.{_∈_, any, all, mem}
 use Rattle.semantics.specs.Programs.{Clause}
-use Rattle.table.proofs.Parts.{kept-of, scan-end}
+use Rattle.table.proofs.Parts.{scan-end}
+use Rattle.table.specs.View.{kept-of}
 use Rattle.search.specs.Stamps.{stamped, isStamped, Stamps}
 
 -- a walk of a part, at its end

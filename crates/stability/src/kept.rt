@@ -48,7 +48,7 @@ fn fill(words: &[u16], set: &[u16], bodies: &mut [u16], heads: &mut [u16]) -> us
     let mut n: usize = 0;
     for k in 0..clauses {
         n = add_clause(words, at, set, bodies, heads, n);
-        at = clauses::next_of(words, at);
+        at = table::next_clause(words, at);
     }
     n
 }

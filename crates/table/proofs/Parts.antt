@@ -19,7 +19,7 @@ use Rattle.rewriting.proofs.Left.{left-whole}
 use Rattle.rewriting.proofs.Measure.{Tidy}
 use Rattle.table.specs.Questions.{Passed}
 use Rattle.table.specs.Places.{cut, headAt, posAt, negAt, nextAt, startFrom, startOf, clauseOf, clausesOf, programOf}
-use Rattle.table.specs.View.{part, entryAt, entriesFrom, view, allKept}
+use Rattle.table.specs.View.{part, kept-of, entryAt, entriesFrom, view, allKept}
 use Rattle.table.proofs.Places.{Rises, Good, passed-good}
 use Rattle.table.proofs.View.{part-mem, entry-view, length-view}
 
@@ -118,12 +118,6 @@ pub view-tidy : (ws ms : List ℕ) → Passed ws → (i : ℕ) → Tidy (entry (
 view-tidy ws ms p i = let s = view-straight ws ms p i in (s .pos, s .neg)
 
 -- ---- a part as slices of the words and the marks
-
--- the words whose mark is 1
-unfoldable pub kept-of : List ℕ → List ℕ → List ℕ
-kept-of [] ks = []
-kept-of (x ∷ ws) [] = []
-kept-of (x ∷ ws) (m ∷ ks) = cond (eqb m 1) (x ∷ kept-of ws ks) (kept-of ws ks)
 
 pub part-slice : (ws ms : List ℕ) (at k : ℕ) → at + k ≤ length ws → at + k ≤ length ms → part ws ms at k ≡ kept-of (take k (drop at ws)) (take k (drop at ms))
 unfolding part kept-of

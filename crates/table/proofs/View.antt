@@ -207,7 +207,7 @@ length-view w k = length-entries w k (getD w 1 0) 2
 
 module _ (w k : List ℕ) (p : Passed w) (long : length w ≤ length k) where
   -- the step's target, and its mark before and after
-  at-step : (n : ℕ) (s : Step) → So (applies n (view w k) s)
+  pub at-step : (n : ℕ) (s : Step) → So (applies n (view w k) s)
       → let o = startOf w (s .target) in let d = entry (view w k) (s .partner) .clause in
       (s .target < getD w 1 0) × (entry (view w k) (s .target) ≡ entryAt w k o) × (o ≤ clears w (s .kind) o d (s .atom)) × (clears w (s .kind) o d (s .atom) < nextAt w o)
       × (entryAt w (set k (clears w (s .kind) o d (s .atom)) 0) o ≡ rewritten (s .kind) (entryAt w k o .clause) d (s .atom)) × (getD k (clears w (s .kind) o d (s .atom)) 0 ≡ 1)

@@ -16,6 +16,12 @@ unfoldable pub part : List ℕ → List ℕ → ℕ → ℕ → List ℕ
 part ws ms at zero = []
 part ws ms at (suc k) = cond (eqb (getD ms at 0) 1) (getD ws at 0 ∷ part ws ms (suc at) k) (part ws ms (suc at) k)
 
+-- the same of a part as slices of the words and of the marks: the words whose mark is 1
+unfoldable pub kept-of : List ℕ → List ℕ → List ℕ
+kept-of [] ks = []
+kept-of (x ∷ ws) [] = []
+kept-of (x ∷ ws) (m ∷ ks) = cond (eqb m 1) (x ∷ kept-of ws ks) (kept-of ws ks)
+
 -- "the kept clauses, each with those of its atoms whose mark is 1"; a clause is kept while the mark of its first word is 1
 unfoldable pub entryAt : List ℕ → List ℕ → ℕ → Entry
 unfolding part

@@ -3,6 +3,7 @@ ghost use mathlib.Core.Path.{_≡_};
 ghost use Prim.Native.Nat.{ℕ, _+_, _-_, _≤_, _<_};
 ghost use lib.ListN.{length};
 ghost use Rattle.table.specs.Refusals.{callNumber, wordNumber, stepNumber, entryNumber, byteNumber, refusalNumber, refusalPlace};
+ghost use Rattle.table.specs.Places.{nextAt};
 ghost use Rattle.table.specs.Questions.{partFrom, partsFrom, clauseFrom, tableOf};
 
 // Questions about a call as a whole: their place is 0.
@@ -233,6 +234,14 @@ pub fn wide(w: u16) -> usize
     ensures { λ r. ⌜ (r ≡ w) × (r < 65536) ⌝ }
 {
     w as usize
+}
+
+// The first word of the clause after the one at `at`.
+pub fn next_clause(words: &[u16], at: usize) -> usize
+    requires { ⌜ nextAt (now words) at ≤ length (now words) ⌝ }
+    ensures { λ r. ⌜ r ≡ nextAt (now (words .entry)) at ⌝ }
+{
+    at + 3 + wide(words[at]) + wide(words[at + 1]) + wide(words[at + 2])
 }
 
 // Questions 6 and 7 for the words from `at` up to `end`.

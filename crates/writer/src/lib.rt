@@ -168,17 +168,6 @@ fn put_clause(out: &mut [u8], at: usize, words: &[u16], place: usize) -> usize
     put_parts(out, at, words, a, b, c, d)
 }
 
-// The place past a clause.
-fn next_place(words: &[u16], place: usize) -> usize
-    requires { ⌜ nextAt (now words) place ≤ length (now words) ⌝ }
-    ensures { λ r. ⌜ r ≡ nextAt (now (words .entry)) place ⌝ }
-{
-    let h = wide(words[place]);
-    let p = wide(words[place + 1]);
-    let q = wide(words[place + 2]);
-    place + 3 + h + p + q
-}
-
 // The lines of the table's clauses.
 fn put_clauses(out: &mut [u8], at: usize, words: &[u16]) -> usize
     requires { ⌜ Passed (now words) × (at + length (clausesText (clausesOf (now words) (getD (now words) 1 0) 2)) ≤ length (now out)) ⌝ }
@@ -188,7 +177,7 @@ fn put_clauses(out: &mut [u8], at: usize, words: &[u16]) -> usize
     let mut place: usize = 2;
     for k in 0..words[1] {
         n = put_clause(out, n, words, place);
-        place = next_place(words, place);
+        place = table::next_clause(words, place);
     }
     n
 }

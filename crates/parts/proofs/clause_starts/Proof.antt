@@ -30,11 +30,11 @@ cast-start c = omega (arith, start-short _ (c .before .loop .t) (c .before .befo
 slice-write-start : tie.Need-slice-write-start Inv-loop μ-loop
 slice-write-start c = omega arith
 
-next-start-requires : tie.Need-next-start-requires Inv-loop μ-loop
-next-start-requires c κs = subst (λ x. nextAt (c .before .before .before .before .before .before .args .words .now) x ≤ length (c .before .before .before .before .before .before .args .words .now)) (sym (c .before .loop .inv .1 .1 .0)) (passed-good _ (c .before .before .before .before .before .before .pre .0) (c .before .loop .t) (omega arith) .fits)
+next-clause-requires : tie.Need-next-clause-requires Inv-loop μ-loop
+next-clause-requires c κs = subst (λ x. nextAt (c .before .before .before .before .before .before .args .words .now) x ≤ length (c .before .before .before .before .before .before .args .words .now)) (sym (c .before .loop .inv .1 .1 .0)) (passed-good _ (c .before .before .before .before .before .before .pre .0) (c .before .loop .t) (omega arith) .fits)
 
 loop-again : tie.Need-loop-again Inv-loop μ-loop
-loop-again c = (search needs, (simp length-set (c .before .before .loop .inv .1 .0), (start-next _ _ _ _ (c .before .before .loop .inv .1 .1 .0) (c .next-start .ensures), starts-more _ (c .before .before .loop .start) (c .before .before .loop .t) _ (omega arith) (c .before .before .loop .inv .1 .1 .0) (c .before .before .loop .inv .1 .1 .1))))
+loop-again c = (search needs, (simp length-set (c .before .before .loop .inv .1 .0), (start-next _ _ _ _ (c .before .before .loop .inv .1 .1 .0) (c .next-clause .ensures), starts-more _ (c .before .before .loop .start) (c .before .before .loop .t) _ (omega arith) (c .before .before .loop .inv .1 .1 .0) (c .before .before .loop .inv .1 .1 .1))))
 
 cast-start-2 : tie.Need-cast-start-2 Inv-loop μ-loop
 cast-start-2 c = omega (arith, start-short _ (c .before .loop .t) (c .before .before .before .before .before .before .pre .0) (omega arith), c .before .loop .inv .1 .1 .0)
@@ -48,4 +48,4 @@ returns c = starts-placed _ (c .before .loop .start) (c .before .before .wide .r
 pub clause-starts-spec : {M : Type 1} → statement M
 clause-starts-spec =
     tie.close
-    (tie.spec Inv-loop μ-loop shared-slice-read-wide (λ c κs. search needs) loop-holds cast-start (λ c. search needs) slice-write-start next-start-requires (λ c. search needs) (λ c. search needs) loop-again cast-start-2 (λ c. search needs) slice-write-start-2 (λ c. search needs) returns)
+    (tie.spec Inv-loop μ-loop shared-slice-read-wide (λ c κs. search needs) loop-holds cast-start (λ c. search needs) slice-write-start next-clause-requires (λ c. search needs) (λ c. search needs) loop-again cast-start-2 (λ c. search needs) slice-write-start-2 (λ c. search needs) returns)

@@ -6,7 +6,7 @@ use native.Mathlib.Omega.{arith}
 use lib.ListN.{length, getD, drop}
 use borrow.Author.Tests.{not-true, not-false}
 use Rattle.semantics.specs.Lists.{within}
-use Rattle.table.proofs.Parts.{kept-of}
+use Rattle.table.specs.View.{kept-of}
 use Rattle.parts.proofs.Laws.{within-on, within-past, within-lost, within-end}
 use borrow.Author.Needs.{needs}
 use Rattle.parts.proofs.part_within.Statement.{statement}

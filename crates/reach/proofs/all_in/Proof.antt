@@ -5,7 +5,7 @@ use native.Mathlib.Omega.{arith}
 use lib.ListN.{length, drop}
 use borrow.Author.Tests.{not-true, not-false}
 use Rattle.semantics.specs.Lists.{all}
-use Rattle.table.proofs.Parts.{kept-of}
+use Rattle.table.specs.View.{kept-of}
 use Rattle.reach.specs.Bytes.{inBytes}
 use Rattle.reach.proofs.Laws.{all-past, all-on, all-lost, all-end}
 use borrow.Author.Needs.{needs}

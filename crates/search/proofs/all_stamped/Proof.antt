@@ -7,7 +7,7 @@ use lib.ListN.{length, getD, drop}
 use lib.Dec.{eqb}
 use borrow.Author.Tests.{eq-eqb, ne-eqb}
 use Rattle.semantics.specs.Lists.{all}
-use Rattle.table.proofs.Parts.{kept-of}
+use Rattle.table.specs.View.{kept-of}
 use Rattle.search.specs.Stamps.{isStamped}
 use Rattle.parts.proofs.Laws.{kept-some, kept-on}
 use Rattle.search.proofs.Stamps.{part-done, not-stamped, is-stamped}

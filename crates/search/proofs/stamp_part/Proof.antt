@@ -3,7 +3,7 @@ use Prim.Native.Nat.{_-_, _≤_, _<_, _+_}
 use mathlib.Core.Path.{_≡_, refl, sym, ap, _∙_}
 use native.Mathlib.Omega.{arith}
 use lib.ListN.{length, getD, drop, length-set}
-use Rattle.table.proofs.Parts.{kept-of}
+use Rattle.table.specs.View.{kept-of}
 use Rattle.search.specs.Stamps.{stamped}
 use Rattle.parts.proofs.Laws.{kept-some, kept-on}
 use Rattle.search.proofs.Stamps.{part-done}

@@ -27,14 +27,14 @@ loop-holds c = let q : getD (c .before .before .before .args .words .now) 1 0 - 
 put-clause-requires : tie.Need-put-clause-requires Inv-loop μ-loop
 put-clause-requires c κs = (walks-on _ _ _ _ (c .before .loop-test .taken) (c .before .before .loop .inv .1 .1 .0) .0, clauses-room _ _ _ _ (c .before .loop-test .taken) _ _ _ _ _ (c .before .before .loop .inv .1 .1 .1) (c .before .before .before .before .before .before .pre .1))
 
-next-place-requires : tie.Need-next-place-requires Inv-loop μ-loop
-next-place-requires c κs = walks-on _ _ _ _ (c .before .before .before .before .loop-test .taken) (c .before .before .before .before .before .loop .inv .1 .1 .0) .0
+next-clause-requires : tie.Need-next-clause-requires Inv-loop μ-loop
+next-clause-requires c κs = walks-on _ _ _ _ (c .before .before .before .before .loop-test .taken) (c .before .before .before .before .before .loop .inv .1 .1 .0) .0
 
 add-k : tie.Need-add-k Inv-loop μ-loop
 add-k c = omega (arith, passed-limits _ (c .before .before .before .before .before .before .before .before .before .before .pre .0) .fewClauses)
 
 loop-again : tie.Need-loop-again Inv-loop μ-loop
-loop-again c = (refl, (search needs, rw (c .next-place .ensures) (walks-on _ _ _ _ (c .before .before .before .before .before .loop-test .taken) (c .before .before .before .before .before .before .loop .inv .1 .1 .0) .1, clauses-on _ _ _ _ (c .before .before .before .before .before .loop-test .taken) _ _ _ _ _ (c .before .before .before .before .before .before .loop .inv .1 .1 .1) _ _ (c .before .before .before .put-clause .kept .0) (c .before .before .before .put-clause .ensures))))
+loop-again c = (refl, (search needs, rw (c .next-clause .ensures) (walks-on _ _ _ _ (c .before .before .before .before .before .loop-test .taken) (c .before .before .before .before .before .before .loop .inv .1 .1 .0) .1, clauses-on _ _ _ _ (c .before .before .before .before .before .loop-test .taken) _ _ _ _ _ (c .before .before .before .before .before .before .loop .inv .1 .1 .1) _ _ (c .before .before .before .put-clause .kept .0) (c .before .before .before .put-clause .ensures))))
 
 same-length : tie.Need-same-length Inv-loop μ-loop
 same-length c = c .before .loop .inv .1 .1 .1 .long
@@ -45,4 +45,4 @@ returns c = left-end _ _ _ _ _ _ (c .before .loop .inv .1 .1 .1) (clauses-none _
 pub put-clauses-spec : {M : Type 1} → statement M
 put-clauses-spec =
     tie.close
-    (tie.spec Inv-loop μ-loop shared-slice-read-k-end loop-holds put-clause-requires next-place-requires add-k (λ c. search needs) loop-again same-length returns)
+    (tie.spec Inv-loop μ-loop shared-slice-read-k-end loop-holds put-clause-requires next-clause-requires add-k (λ c. search needs) loop-again same-length returns)

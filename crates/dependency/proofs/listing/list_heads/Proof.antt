@@ -25,8 +25,8 @@ loop-holds c = (refl, (refl, (refl, (refl, listing-start _ _ _ _ (c .before .bef
 list-head-requires : tie.Need-list-head-requires Inv-loop μ-loop
 list-head-requires c κs = listing-clause _ _ _ _ _ _ (c .before .before .before .before .before .before .before .before .before .before .pre .passed) (c .before .before .before .loop-test .taken) (c .before .before .before .before .loop .inv .1 .1 .1 .1)
 
-next-of-requires : tie.Need-next-of-requires Inv-loop μ-loop
-next-of-requires c κs = along-fits _ _ _ (c .before .before .before .before .before .before .before .before .before .before .before .before .before .before .before .before .before .pre .passed) (c .before .before .before .before .before .before .before .before .before .before .loop-test .taken) (c .before .before .before .before .before .before .before .before .before .before .before .loop .inv .1 .1 .1 .1 .along)
+next-clause-requires : tie.Need-next-clause-requires Inv-loop μ-loop
+next-clause-requires c κs = along-fits _ _ _ (c .before .before .before .before .before .before .before .before .before .before .before .before .before .before .before .before .before .pre .passed) (c .before .before .before .before .before .before .before .before .before .before .loop-test .taken) (c .before .before .before .before .before .before .before .before .before .before .before .loop .inv .1 .1 .1 .1 .along)
 
 add-k : tie.Need-add-k Inv-loop μ-loop
 add-k c = let h = passed-limits _ (c .before .before .before .before .before .before .before .before .before .before .before .before .before .before .before .before .before .before .pre .passed) .fewClauses in omega arith
@@ -34,7 +34,7 @@ add-k c = let h = passed-limits _ (c .before .before .before .before .before .be
 loop-again : tie.Need-loop-again Inv-loop μ-loop
 loop-again c = let v = c .before .before .before .before .before .before .before .before .before .before .before .before .loop .inv in
     let d = c .before .before .before .before .before .before .before .list-head .ensures in
-    (refl, (d .atoms ∙ v .1 .0, (d .words ∙ v .1 .1 .0, (d .clauses ∙ v .1 .1 .1 .0, rw (c .next-of .ensures) (listing-next _ _ _ _ _ _ (c .before .before .before .before .before .before .before .before .before .before .before .before .before .before .before .before .before .before .pre .passed) (c .before .before .before .before .before .before .before .before .before .before .before .loop-test .taken) (v .1 .1 .1 .1) d)))))
+    (refl, (d .atoms ∙ v .1 .0, (d .words ∙ v .1 .1 .0, (d .clauses ∙ v .1 .1 .1 .0, rw (c .next-clause .ensures) (listing-next _ _ _ _ _ _ (c .before .before .before .before .before .before .before .before .before .before .before .before .before .before .before .before .before .before .pre .passed) (c .before .before .before .before .before .before .before .before .before .before .before .loop-test .taken) (v .1 .1 .1 .1) d)))))
 
 same-length : tie.Need-same-length Inv-loop μ-loop
 same-length c = c .before .loop .inv .1 .0
@@ -51,4 +51,4 @@ returns c = listing-end _ _ _ _ _ _ (c .before .before .before .before .before .
 pub list-heads-spec : {M : Type 1} → statement M
 list-heads-spec =
     tie.close
-    (tie.spec Inv-loop μ-loop shared-slice-read-clauses loop-holds list-head-requires next-of-requires add-k (λ c. search needs) loop-again same-length same-length-2 same-length-3 returns)
+    (tie.spec Inv-loop μ-loop shared-slice-read-clauses loop-holds list-head-requires next-clause-requires add-k (λ c. search needs) loop-again same-length same-length-2 same-length-3 returns)

@@ -25,14 +25,14 @@ loop-holds c = (refl, (refl, (refl, filling-start _ _ _ _ (c .before .before .be
 add-clause-requires : tie.Need-add-clause-requires Inv-loop μ-loop
 add-clause-requires c κs = filling-room _ _ _ _ _ _ _ (c .before .before .before .before .before .before .before .before .before .pre .passed) (c .before .before .before .loop .inv .1 .1 .1) (c .before .before .before .before .before .before .before .before .before .pre .small) (c .before .before .loop-test .taken)
 
-next-of-requires : tie.Need-next-of-requires Inv-loop μ-loop
-next-of-requires c κs = along-fits _ _ _ (c .before .before .before .before .before .before .before .before .before .before .before .before .before .before .pre .passed) (c .before .before .before .before .before .before .before .loop-test .taken) (c .before .before .before .before .before .before .before .before .loop .inv .1 .1 .1 .along)
+next-clause-requires : tie.Need-next-clause-requires Inv-loop μ-loop
+next-clause-requires c κs = along-fits _ _ _ (c .before .before .before .before .before .before .before .before .before .before .before .before .before .before .pre .passed) (c .before .before .before .before .before .before .before .loop-test .taken) (c .before .before .before .before .before .before .before .before .loop .inv .1 .1 .1 .along)
 
 add-k : tie.Need-add-k Inv-loop μ-loop
 add-k c = let h = passed-limits _ (c .before .before .before .before .before .before .before .before .before .before .before .before .before .before .before .pre .passed) .fewClauses in omega arith
 
 loop-again : tie.Need-loop-again Inv-loop μ-loop
-loop-again c = (refl, (c .before .before .before .before .before .add-clause .ensures .body ∙ c .before .before .before .before .before .before .before .before .before .loop .inv .1 .0, (c .before .before .before .before .before .add-clause .ensures .head ∙ c .before .before .before .before .before .before .before .before .before .loop .inv .1 .1 .0, rw (c .next-of .ensures) (filling-next _ _ _ _ _ _ _ (c .before .before .before .before .before .before .before .before .before .before .before .before .before .before .before .pre .passed) (c .before .before .before .before .before .before .before .before .before .loop .inv .1 .1 .1) (c .before .before .before .before .before .before .before .before .loop-test .taken) _ _ _ (c .before .before .before .before .before .add-clause .ensures)))))
+loop-again c = (refl, (c .before .before .before .before .before .add-clause .ensures .body ∙ c .before .before .before .before .before .before .before .before .before .loop .inv .1 .0, (c .before .before .before .before .before .add-clause .ensures .head ∙ c .before .before .before .before .before .before .before .before .before .loop .inv .1 .1 .0, rw (c .next-clause .ensures) (filling-next _ _ _ _ _ _ _ (c .before .before .before .before .before .before .before .before .before .before .before .before .before .before .before .pre .passed) (c .before .before .before .before .before .before .before .before .before .loop .inv .1 .1 .1) (c .before .before .before .before .before .before .before .before .loop-test .taken) _ _ _ (c .before .before .before .before .before .add-clause .ensures)))))
 
 same-length : tie.Need-same-length Inv-loop μ-loop
 same-length c = c .before .loop .inv .1 .0
@@ -46,4 +46,4 @@ returns c = filling-end _ _ _ _ _ _ _ (c .before .before .before .before .before
 pub fill-spec : {M : Type 1} → statement M
 fill-spec =
     tie.close
-    (tie.spec Inv-loop μ-loop shared-slice-read-clauses loop-holds add-clause-requires next-of-requires add-k (λ c. search needs) loop-again same-length same-length-2 returns)
+    (tie.spec Inv-loop μ-loop shared-slice-read-clauses loop-holds add-clause-requires next-clause-requires add-k (λ c. search needs) loop-again same-length same-length-2 returns)
