@@ -57,7 +57,7 @@ none-gone : (n : ℕ) → count (λ x. eqb x 0) (replicate n 1) ≡ 0
 none-gone zero = refl
 none-gone (suc n) = omega (arith, none-gone n)
 
-zeros-allKept : (ws ms : List ℕ) → zeros ws (allKept ws ms) ≡ 0
+pub zeros-allKept : (ws ms : List ℕ) → zeros ws (allKept ws ms) ≡ 0
 unfolding zeros
 zeros-allKept ws ms = ap (count (λ x. eqb x 0)) (take-at (replicate (length ws) 1) (drop (length ws) ms) (length ws) (length-replicate {A = ℕ} (length ws) 1)) ∙ none-gone (length ws)
 
