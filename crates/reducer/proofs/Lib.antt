@@ -4,4 +4,3 @@ pub mod Opens
 pub mod Keeps
 pub mod Runs
 pub mod Answers
-pub mod Theorems
