@@ -1,4 +1,4 @@
-# make run: proves and builds what can be run, and runs it. make test: everything that is checked.
+# make run: proves, builds and runs the program on a bundled order. make test: everything that is checked.
 # make lib: the library for C; make install PREFIX=..: header, library and pkg-config file. make bench: docs/BENCHMARKS.md's table.
 # make shell: the program `gambrolt` in build/; make install-shell: it and its man page. make test-shell: its tests.
 # make fuzz: a minute of a fuzzer on it.
@@ -10,13 +10,13 @@ BUILD := $(CURDIR)/build
 C_FLAGS := -std=c11 -Wall -Wextra -Werror -O2 -Iinclude
 CARGO_ENV = GAMBROLT_LIB_DIR=$(LIB_DIR) CARGO_TARGET_DIR=$(BUILD)
 
+# the program on document 01's sample: the reduced program, then its steps
 run:
-	rt check
+	rt check reduce
+	target/bin/reduce < examples/sample.txt
 
-# rt ci comes last: it removes target/, and its last line is the verdict
 test:
-	@rt fmt --check
-	@rt ci
+	@tests/run
 
 lib:
 	@rt staticlib gambrolt
