@@ -7,3 +7,4 @@ pub mod Lists
 pub mod Agree
 pub mod Whole
 pub mod Examples
+pub mod Allowed

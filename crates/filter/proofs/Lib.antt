@@ -3,3 +3,5 @@ pub mod Laws
 pub mod Left
 pub mod Steps
 pub mod Output
+pub mod Answers
+pub mod Prints

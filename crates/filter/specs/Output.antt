@@ -1,5 +1,6 @@
 -- What the program prints for what it reads, after document 01, "The text and its program".
-use Prim.Native.Nat.{ℕ}
+use Prim.Native.Nat.{ℕ, _≤_}
+use mathlib.Core.Path.{_≡_}
 use mathlib.Core.List.{List, [], _∷_, _++_}
 use lib.ListN.{length}
 use Rattle.semantics.specs.Programs.{Program, program}
@@ -9,6 +10,7 @@ use Rattle.rewriting.specs.Reducer.{reduce, measure}
 use Rattle.table.specs.Refusals.{refusalNumber, refusalPlace}
 use Rattle.text.specs.Digits.{digits, commas}
 use Rattle.text.specs.Render.{lineText, render}
+use Rattle.text.specs.Slices.{written}
 use Rattle.text.specs.Reader.{Read, done, stop, readText}
 
 -- "steps="
@@ -55,3 +57,9 @@ printed (stop r) = refusedText (refusalNumber r) (refusalPlace r)
 unfoldable pub outputOf : List ℕ → List ℕ
 unfolding readText
 outputOf ts = printed (readText ts 8192)
+
+-- The output stands at the start of the slice, r is the number of its bytes, and what lies past them is as it was.
+pub record Prints (ts old new : List ℕ) (r : ℕ) : Type 0 where
+  pub count : r ≡ length (outputOf ts)
+  pub bytes : new ≡ written (outputOf ts) old
+  pub fits : r ≤ 262144

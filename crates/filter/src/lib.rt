@@ -3,16 +3,17 @@ ghost use mathlib.Core.Path.{_≡_};
 ghost use mathlib.Core.List.{[], _∷_};
 ghost use Prim.Native.Nat.{ℕ, _+_, _*_, _≤_, _<_};
 ghost use lib.ListN.{length};
-ghost use Rattle.table.specs.declared.Refusal.{Refusal};
-ghost use Rattle.table.specs.Places.{cut};
+ghost use Rattle.table.specs.Places.{cut, programOf};
 ghost use Rattle.text.specs.Digits.{commas};
 ghost use Rattle.text.specs.Writer.{Puts};
 ghost use Rattle.text.specs.Render.{lineText, render};
 ghost use Rattle.compaction.specs.Reduced.{leftProgram};
 ghost use Rattle.compaction.specs.Parts.{Ready};
-ghost use Rattle.filter.specs.Output.{stepKey, refusedText};
+ghost use Rattle.table.specs.Questions.{Passed};
+ghost use Rattle.filter.specs.Output.{stepKey, refusedText, reducedText, Prints};
 ghost use Rattle.filter.specs.Lines.{stepLines, listLines};
-use table::Refusal;
+use reducer::ReduceAnswer;
+use text::ReadAnswer;
 use writer::put_bytes;
 use writer::put_line;
 use writer::put_next;
@@ -80,4 +81,35 @@ fn put_left(out: &mut [u8], words: &[u16], marks: &[u8]) -> usize
     let k = compaction::left_size(words, marks);
     compaction::write_reduced(words, marks, &mut reduced);
     put_text(out, &reduced[0..k])
+}
+
+// The output for a table that passed questions 1 to 8: its program reduced, and the steps; the number of its bytes.
+fn put_reduced(out: &mut [u8], words: &[u16]) -> usize
+    requires { ⌜ (Passed (now words)) × (262144 ≤ length (now out)) ⌝ }
+    ensures { λ r. ⌜ Puts (now (out .entry)) (now (out .exit)) 0 r (reducedText (programOf (now (words .entry)))) ⌝ }
+{
+    let mut marks = [0u8; 8192];
+    let mut list = [0u16; 32768];
+    let answer = reducer::reduce_table(words, &mut marks, &mut list);
+    let ReduceAnswer::Accepted(s) = answer else {
+        return 0;
+    };
+    let n = put_left(out, words, &marks);
+    put_list(out, n, &list, s)
+}
+
+// The whole output for an input; the number of its bytes.
+pub fn filter_text(text: &[u8], out: &mut [u8]) -> usize
+    requires { ⌜ 262144 ≤ length (now out) ⌝ }
+    ensures { λ r. ⌜ Prints (now (text .entry)) (now (out .entry)) (now (out .exit)) r ⌝ }
+{
+    let mut words = [0u16; 8192];
+    let answer = reader::read_text(text, &mut words);
+    match answer {
+        ReadAnswer::Accepted(n) => put_reduced(out, &words[0..n]),
+        ReadAnswer::Refused(r) => {
+            let number = table::refusal_number(r);
+            put_refused(out, number as usize, table::refusal_place(r))
+        }
+    }
 }

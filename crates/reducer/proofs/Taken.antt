@@ -2,16 +2,16 @@
 -- leaves, and number its steps.
 use mathlib.Core.Path.{_≡_, refl, ap, subst, _∙_}
 use mathlib.Core.Bool.{Bool, true, false, cond, So}
-use mathlib.Core.List.{List, []}
+use mathlib.Core.List.{List, [], _∷_}
 use Prim.Native.Nat.{ℕ, zero, suc, _*_, _≤_}
 use native.Mathlib.Omega.{arith}
 use lib.Dec.{leb, eqb}
 use lib.ListN.{length, getD, replicate, length-replicate}
-use lib.Seq.{sets, take-at}
+use lib.Seq.{sets, length-sets, take-at}
 use borrow.Author.Tests.{leb-true}
 use Rattle.semantics.specs.Lists.{count}
 use Rattle.rewriting.specs.Marked.{left, whole, entry}
-use Rattle.rewriting.specs.Steps.{accepted, leaves}
+use Rattle.rewriting.specs.Steps.{Step, accepted, leaves}
 use Rattle.rewriting.specs.Reducer.{Greedy}
 use Rattle.rewriting.proofs.Measure.{Tidy}
 use Rattle.rewriting.proofs.Greedy.{reduce-greedy, greedy-accepted, accepted-measure}
@@ -21,9 +21,9 @@ use Rattle.table.specs.declared.Checked.{Checked}
 use Rattle.table.specs.declared.Checked.the-variants.{Valid, Refused}
 use Rattle.table.specs.Questions.{tableOf, Passed}
 use Rattle.table.specs.Places.{programOf}
-use Rattle.table.specs.View.{view, allKept, marksAfterAll, zeros}
+use Rattle.table.specs.View.{view, allKept, marksAfter, marksAfterAll, zeros}
 use Rattle.table.proofs.Encoding.{valid-passed}
-use Rattle.table.proofs.View.{view-afterAll}
+use Rattle.table.proofs.View.{view-afterAll, length-after}
 use Rattle.table.proofs.Parts.{view-allKept, view-tidy, length-allKept}
 use Rattle.reducer.specs.declared.ReduceAnswer.the-variants as answer
 use Rattle.reducer.specs.Reductions.{wordsOf, room, stepsOf, Reduction, refused, onTable, reduction}
@@ -103,3 +103,15 @@ marks-after ws ms ls s t =
     let e = view-allKept ws ms p in
     let (a, b) = view-afterAll n ws (allKept ws ms) (stepsOf ws) p (omega (arith, length-allKept ws ms (t .marked), t .marked)) (rw e (steps-accepted ws p)) in
     (rw (t .marks) (a ∙ ap (λ P. leaves n P (stepsOf ws)) e), rw (t .marks) (omega (arith, b, t .count, zeros-allKept ws ms)))
+
+pub length-afterAll : (ws : List ℕ) (l : List Step) (ms : List ℕ) → length (marksAfterAll ws ms l) ≡ length ms
+unfolding marksAfterAll
+length-afterAll ws [] ms = refl
+length-afterAll ws (s ∷ l) ms = length-afterAll ws l (marksAfter ws ms s) ∙ length-after ws ms s
+
+-- A call that is taken leaves both slices as long as they were.
+pub lengths-kept : (ws ms ls : List ℕ) (s : ℕ) → Taken ws ms ls s → (length (reduction ws ms ls .marks) ≡ length ms) × (length (reduction ws ms ls .list) ≡ length ls)
+lengths-kept ws ms ls s t = (
+  ap length (t .marks) ∙ length-afterAll ws (stepsOf ws) (allKept ws ms) ∙ length-allKept ws ms (t .marked),
+  ap length (t .list) ∙ length-sets ls 0 (wordsOf (stepsOf ws)),
+)
