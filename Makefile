@@ -16,6 +16,7 @@ run:
 # rt ci comes last: it removes target/, and its last line is the verdict
 test:
 	@rt fmt --check
+	@$(MAKE) --no-print-directory test-lib test-c
 	@rt ci
 
 lib:

@@ -10,7 +10,7 @@ use std::time::Instant;
 /// Small tables of a shape step by step; larger ones at some of their steps.
 pub fn reduced(shape: &Shape, samples: usize, tally: &mut Tally) {
     let (start, full) = (Instant::now(), shape.full);
-    for size in [1, 2, 12, 40] {
+    for size in [1, 2, 12, 40, 100] {
         let table = shape.table(size);
         tally.reduce(&table, &vec![0; table.len()], &vec![0; 4 * table.len()]);
         tally.cycle(&table);
