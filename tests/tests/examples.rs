@@ -2,6 +2,7 @@
 #![deny(warnings)]
 use gambrolt_tests::compare::Tally;
 use gambrolt_tests::library;
+use gambrolt_tests::make::shapes::SHAPES;
 use gambrolt_tests::paper::program::{parse, words, Clause, Program};
 use gambrolt_tests::paper::{Answer, Refused};
 
@@ -121,4 +122,21 @@ fn small_programs() {
     assert_eq!(test("0 <- ~1. 1 <- ~0.", &[0]), Ok(1));
     assert_eq!(test("0 <- ~1. 1 <- ~0.", &[0, 1]), Ok(0));
     assert_eq!(Tally::new().cycle(&table(2, "0 <- ~1. 1 <- ~0.")), Ok(1));
+}
+
+/// The header says how much stack a call takes at most.
+#[test]
+fn a_stack_of_128_kilobytes() {
+    let calls = || {
+        let shape = SHAPES.iter().find(|shape| shape.name == "random sparse").unwrap();
+        let table = shape.table(shape.full);
+        let (steps, marks, list) = library::reduce(&table, &vec![0; table.len()], &vec![0; 32760]);
+        assert_eq!(library::check(&table, &marks, &list[..4 * steps as usize]).0, steps);
+        library::reduced_table(&table, &marks, &table);
+        assert_eq!(library::test(&table, &(0..16).collect::<Vec<_>>()), 0);
+        assert_eq!(library::cycle(&table), 1);
+        let (bytes, text) = library::write_text(&table, &vec![0; 65536]);
+        assert_eq!(library::read_text(&text[..bytes as usize], &vec![0; 8192]).0, table.len() as u64);
+    };
+    std::thread::Builder::new().stack_size(128 << 10).spawn(calls).unwrap().join().unwrap();
 }

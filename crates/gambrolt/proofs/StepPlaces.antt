@@ -18,7 +18,7 @@ use Rattle.table.specs.declared.Checked.{Checked}
 use Rattle.table.specs.declared.Checked.the-variants as checked
 use Rattle.table.specs.Refusals.{refusalPlace}
 use Rattle.table.specs.Questions.{Passed, tableOf}
-use Rattle.table.specs.Places.{nextAt, programOf}
+use Rattle.table.specs.Places.{programOf}
 use Rattle.table.specs.View.{view, allKept, marksAfter, marksAfterAll}
 use Rattle.table.proofs.Encoding.{valid-passed}
 use Rattle.rewriting.specs.Marked.{Marked, whole}
@@ -33,7 +33,7 @@ use Rattle.checker.specs.Lists.{Outcome, stepAt, stepQuestions, onward, stepsFr
 use Rattle.reducer.specs.declared.ReduceAnswer.{ReduceAnswer}
 use Rattle.reducer.specs.declared.ReduceAnswer.the-variants as made
 use Rattle.reducer.specs.Reductions.{room, stepsOf, wordsOf, Reduction, refused, onTable, reduction}
-use Rattle.reducer.proofs.Room.{Summed, summed-none, summed-on, summed-all}
+use Rattle.reducer.proofs.Room.{room-few}
 use Rattle.gambrolt.proofs.Places.{Checks, table-checks}
 
 -- a list is taken or refused with a number of at most 65,536
@@ -77,14 +77,6 @@ pub list-value : (ws ms ls : List ℕ) (k : ℕ) → checkList ws ms ls .answer 
 list-value ws ms ls k q = rw q at (list-lists ws ms ls)
 
 -- ---- reducing
-
-room-few : (ws : List ℕ) → Passed ws → room ws ≤ 8192
-room-few ws p = go (getD ws 1 0) 0 2 (getD ws 1 0) (omega arith) (summed-none ws p)
-  where
-    go : (k t at sum : ℕ) → t + k ≡ getD ws 1 0 → Summed ws t at sum → room ws ≤ 8192
-    go zero t at sum e s = let (a, b) = summed-all ws t at sum p s (omega arith) in omega arith
-    go (suc k) t at sum e s =
-        go k (t + 1) (nextAt ws at) (sum + getD ws (at + 1) 0 + getD ws (at + 2) 0) (omega arith) (summed-on ws t at sum p s (omega arith))
 
 reduce-few : (n fuel : ℕ) (P : Marked) → length (reduce n fuel P) ≤ fuel
 unfolding reduce

@@ -5,6 +5,8 @@ use Rattle.table.specs.declared.Checked.{Checked}
 use Rattle.table.specs.declared.Checked.the-variants as checked
 use Rattle.checker.specs.declared.CheckAnswer.{CheckAnswer}
 use Rattle.checker.specs.declared.CheckAnswer.the-variants as listed
+use Rattle.reducer.specs.declared.ReduceAnswer.{ReduceAnswer}
+use Rattle.reducer.specs.declared.ReduceAnswer.the-variants as made
 use Rattle.compaction.specs.declared.CompactAnswer.{CompactAnswer}
 use Rattle.compaction.specs.declared.CompactAnswer.the-variants as compacted
 use Rattle.dependency.specs.declared.CycleAnswer.{CycleAnswer}
@@ -31,6 +33,11 @@ tableCode (checked.Refused r) = refusalCode r
 abbrev pub checkCode : CheckAnswer → ℕ
 checkCode (listed.Accepted k) = k
 checkCode (listed.Refused r) = refusalCode r
+
+-- reducing carries the number of steps made
+abbrev pub reduceCode : ReduceAnswer → ℕ
+reduceCode (made.Accepted k) = k
+reduceCode (made.Refused r) = refusalCode r
 
 -- the reduced table carries the words written
 abbrev pub reducedCode : CompactAnswer → ℕ

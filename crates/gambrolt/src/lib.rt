@@ -6,15 +6,17 @@ ghost use Rattle.semantics.specs.Lists.{bit};
 ghost use Rattle.table.specs.Refusals.{refusalPlace};
 ghost use Rattle.table.specs.Questions.{tableOf};
 ghost use Rattle.checker.specs.Lists.{checkList};
+ghost use Rattle.reducer.specs.Reductions.{reduction};
 ghost use Rattle.compaction.specs.Reduced.{reducedAnswer, reducedOut};
 ghost use Rattle.dependency.specs.Answer.{cycleOf};
 ghost use Rattle.stability.specs.Answer.{testOf};
 ghost use Rattle.text.specs.Reader.{readAnswer, tableAfter};
 ghost use Rattle.text.specs.Writer.{writeAnswer, outAfter};
-ghost use Rattle.gambrolt.specs.Codes.{refusalCode, tableCode, checkCode, reducedCode, testCode, cycleCode, readCode, writeCode};
+ghost use Rattle.gambrolt.specs.Codes.{refusalCode, tableCode, checkCode, reduceCode, reducedCode, testCode, cycleCode, readCode, writeCode};
 use checker::CheckAnswer;
 use compaction::CompactAnswer;
 use dependency::CycleAnswer;
+use reducer::ReduceAnswer;
 use stability::TestAnswer;
 use table::Checked;
 use table::Refusal;
@@ -55,6 +57,17 @@ pub extern "C" fn gambrolt_check(words: &[u16], marks: &mut [u8], list: &[u16]) 
     match checker::check_list(words, marks, list) {
         CheckAnswer::Accepted(k) => k as u64,
         CheckAnswer::Refused(r) => refusal_code(r),
+    }
+}
+
+// Questions 1 to 9 and 17, then the smallest step again and again: the list of steps, and the marks that they leave.
+#[no_mangle]
+pub extern "C" fn gambrolt_reduce(words: &[u16], marks: &mut [u8], list: &mut [u16]) -> u64
+    ensures { λ r. ⌜ (r ≡ reduceCode (reduction (now (words .entry)) (now (marks .entry)) (now (list .entry)) .answer)) × ((now (marks .exit) ≡ reduction (now (words .entry)) (now (marks .entry)) (now (list .entry)) .marks) × (now (list .exit) ≡ reduction (now (words .entry)) (now (marks .entry)) (now (list .entry)) .list)) ⌝ }
+{
+    match reducer::reduce_table(words, marks, list) {
+        ReduceAnswer::Accepted(k) => k as u64,
+        ReduceAnswer::Refused(r) => refusal_code(r),
     }
 }
 

@@ -16,9 +16,9 @@ pub const SHAPES: [Shape; 9] = [
     Shape { name: "chain of facts against clause order", full: 1024, program: chain },
     Shape { name: "one clause of a thousand conditions", full: 1000, program: conditions },
     Shape { name: "two thousand equal facts", full: 2047, program: equal_facts },
-    Shape { name: "deep positive loops", full: 819, program: loops },
+    Shape { name: "deep positive loops", full: 511, program: loops },
     Shape { name: "a reach a thousand rounds deep", full: 1000, program: deep_reach },
-    Shape { name: "subsumption with late partners", full: 743, program: late_partners },
+    Shape { name: "subsumption with late partners", full: 511, program: late_partners },
     Shape { name: "kinds that open one another", full: 255, program: cascade },
 ];
 
@@ -78,12 +78,16 @@ fn equal_facts(size: usize) -> Program {
     program(1, vec![clause(&[0], &[], &[]); size])
 }
 
-/// Rings of 16 atoms, each derived from either of the next two, and nothing from outside.
+/// Rings of 16 atoms, each derived from either of the next two and from nothing outside, behind a chain that stays.
 fn loops(size: usize) -> Program {
     let ring = size.min(16);
+    let rings = size / ring * ring;
     let next = |i: usize, by: usize| i / ring * ring + (i + by) % ring;
-    let clauses = |i: usize| [1, 2].map(|by| clause(&[i], &[next(i, by)], &[]));
-    program(size, (0..size / ring * ring).flat_map(clauses).filter(|clause| clause.head != clause.pos).collect())
+    let two = |i: usize| [1, 2].map(|by| clause(&[i], &[next(i, by)], &[]));
+    let mut clauses = vec![clause(&[rings, rings + 1], &[], &[])];
+    clauses.extend((rings..rings + size).map(|i| clause(&[i + 1], &[i], &[])));
+    clauses.extend((0..rings).flat_map(two).filter(|clause| clause.head != clause.pos));
+    program(rings + size + 1, clauses)
 }
 
 /// A chain from a disjunctive fact, against clause order, and rings of two that it doesn't reach, each derived twice.
@@ -98,12 +102,13 @@ fn deep_reach(size: usize) -> Program {
     program(size + 1, clauses)
 }
 
-/// Clauses whose only subsuming partner stands in the second half.
+/// Clauses that nothing subsumes, then clauses whose only partner stands behind them all.
 fn late_partners(size: usize) -> Program {
     let mut clauses = vec![clause(&[0, 1], &[], &[])];
-    clauses.extend((0..size).map(|i| clause(&[2 + i], &[0, 1], &[])));
     clauses.extend((0..size).map(|i| clause(&[2 + i], &[0], &[])));
-    program(size + 2, clauses)
+    clauses.extend((0..size).map(|i| clause(&[2 + size + i], &[0, 1], &[])));
+    clauses.extend((0..size).map(|i| clause(&[2 + size + i], &[0], &[])));
+    program(2 * size + 2, clauses)
 }
 
 /// Rounds of success, blocked, no head and failure, each opened by the one before; the rounds stand against clause order.

@@ -13,7 +13,7 @@ pub fn check(words: &[u16], marks: &[u8], list: &[u16]) -> (Answer, Vec<u8>) {
 fn check_on(words: &[u16], marks: &mut [u8], list: &[u16]) -> Answer {
     let table = Table::read(words)?;
     ask(marks.len() >= words.len(), 9, 0)?;
-    ask(list.len() % 4 == 0 && list.len() <= 32760, 11, 0)?;
+    ask(list.len().is_multiple_of(4) && list.len() <= 32760, 11, 0)?;
     marks[..words.len()].fill(1);
     for (number, step) in list.chunks(4).enumerate() {
         let step = Step::new(step[0], step[1], step[2], step[3]);

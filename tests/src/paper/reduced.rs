@@ -13,8 +13,8 @@ pub fn reduced_table(words: &[u16], marks: &[u8], out: &[u16]) -> (Answer, Vec<u
 fn reduced_on(words: &[u16], marks: &[u8], out: &mut [u16]) -> Answer {
     let table = Table::read(words)?;
     ask(marks.len() >= words.len(), 9, 0)?;
-    for place in 0..words.len() {
-        ask(marks[place] == 1 || marks[place] == 0 && may_be_gone(&table, place), 10, place)?;
+    for (place, &mark) in marks[..words.len()].iter().enumerate() {
+        ask(mark == 1 || mark == 0 && may_be_gone(&table, place), 10, place)?;
     }
     let reduced = program::words(&table.program_left(marks));
     ask(out.len() >= reduced.len(), 18, 0)?;

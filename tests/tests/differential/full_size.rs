@@ -7,35 +7,38 @@ use gambrolt_tests::paper::steps::Left;
 use gambrolt_tests::paper::table::Table;
 use std::time::Instant;
 
-/// A table of a shape, small and full-size: the list is accepted and complete, and at some of its steps the next is the smallest.
+/// Small tables of a shape step by step; larger ones at some of their steps.
 pub fn reduced(shape: &Shape, samples: usize, tally: &mut Tally) {
-    let start = Instant::now();
-    for size in [shape.full.min(12), shape.full.min(40)] {
+    let (start, full) = (Instant::now(), shape.full);
+    for size in [1, 2, 12, 40, 100] {
         let table = shape.table(size);
-        let room = vec![0; 4 * table.len()];
-        tally.reduce(&table, &vec![0; table.len()], &room);
+        tally.reduce(&table, &vec![0; table.len()], &vec![0; 4 * table.len()]);
         tally.cycle(&table);
     }
-    let table = shape.table(shape.full);
-    let (answer, left, list) = library::reduce(&table, &vec![7; table.len()], &vec![0; 32760]);
+    for size in [full / 8, full / 3, full] {
+        let table = shape.table(size);
+        let steps = sampled(shape.name, &table, samples, tally);
+        tally.write_text(&table, &vec![0; 65536]);
+        println!("{}: {} words, {steps} steps, {:.1} s", shape.name, table.len(), start.elapsed().as_secs_f64());
+    }
+}
+
+/// The library takes its own list and no step more; at each sample the list's next step is the smallest that applies.
+fn sampled(name: &str, table: &[u16], samples: usize, tally: &mut Tally) -> usize {
+    let fresh = vec![7; table.len()];
+    let (answer, left, list) = library::reduce(table, &fresh, &vec![0; 32760]);
     let steps = answer as usize;
-    assert!(steps < 8190, "{}: refused, {answer:x}", shape.name);
+    assert!(steps < 8190, "{name}: refused, {answer:x}");
     let list = &list[..4 * steps];
-    assert_eq!(library::check(&table, &vec![0; table.len()], list), (answer, left.clone()), "{}", shape.name);
-    let read = Table::read(&table).unwrap();
+    assert_eq!(library::check(table, &fresh, list), (answer, left.clone()), "{name}: the reducer's list is not taken");
+    let read = Table::read(table).unwrap();
     for sample in 0..=samples {
         let step = steps * sample / samples;
-        let (_, marks) = library::check(&table, &vec![0; table.len()], &list[..4 * step]);
+        let (_, marks) = library::check(table, &fresh, &list[..4 * step]);
         let next = smallest(&Left::new(&read, &marks)).map(|step| step.words().to_vec());
-        assert_eq!(next.as_deref(), list[4 * step..].chunks(4).next(), "{}: step {step}", shape.name);
+        assert_eq!(next.as_deref(), list[4 * step..].chunks(4).next(), "{name}: step {step}");
         tally.cases += 1;
     }
-    tally.reduced_table(&table, &left, &vec![0; table.len()]);
-    tally.write_text(&table, &vec![0; 65536]);
-    println!(
-        "{}: {} words, {steps} steps, {samples} of them asked, {:.1} s",
-        shape.name,
-        table.len(),
-        start.elapsed().as_secs_f64()
-    );
+    tally.reduced_table(table, &left, &vec![0; table.len()]);
+    steps
 }

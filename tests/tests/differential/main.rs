@@ -39,7 +39,7 @@ fn main() {
             run(group, 1_000_000 * round + 1_000 * (1 + number as u64), &mut tally);
         }
         for shape in &SHAPES {
-            full_size::reduced(shape, if round == 0 { 6 } else { 60 }, &mut tally);
+            full_size::reduced(shape, if round == 0 { 12 } else { 100 }, &mut tally);
         }
     }
     report(&tally);
