@@ -6,135 +6,8 @@ ghost use Prim.Native.Nat.{ℕ, _+_, _≤_, _<_};
 use checker::CheckAnswer;
 use libc::STDIN_FILENO;
 use libc::STDOUT_FILENO;
-use table::CallQuestion;
-use table::Refusal;
-use table::StepQuestion;
-use table::WordQuestion;
 
 const ROOM: usize = 9000;
-
-pub struct Read {
-    pub value: usize,
-    pub next: usize,
-}
-
-fn is_digit(b: u8) -> bool {
-    b'0' <= b && b <= b'9'
-}
-
-fn more(value: usize, b: u8) -> usize {
-    if 100000 <= value {
-        return value;
-    }
-    value * 10 + digit(b)
-}
-
-fn digit(b: u8) -> usize
-    ensures { λ r. ⌜ r < 10 ⌝ }
-{
-    if b < 48 {
-        return 0;
-    }
-    if 57 < b {
-        return 0;
-    }
-    (b - 48) as usize
-}
-
-// The next number from a place on.
-fn number(text: &[u8], from: usize) -> Read {
-    let mut value: usize = 0;
-    let mut seen = false;
-    for i in from..text.len() {
-        if is_digit(text[i]) {
-            seen = true;
-            value = more(value, text[i]);
-        } else {
-            if seen {
-                return Read { value, next: i };
-            }
-        }
-    }
-    Read {
-        value,
-        next: text.len(),
-    }
-}
-
-fn narrow(x: usize) -> u16 {
-    if x < 65536 { x as u16 } else { 0 }
-}
-
-// The next n numbers, as far as there is room; the place after them.
-fn numbers(text: &[u8], from: usize, n: usize, out: &mut [u16]) -> usize {
-    let mut at = from;
-    for i in 0..n {
-        let x = number(text, at);
-        at = x.next;
-        store(out, i, narrow(x.value));
-    }
-    at
-}
-
-fn store(out: &mut [u16], i: usize, x: u16) {
-    if i < out.len() {
-        out[i] = x;
-    }
-}
-
-fn least(a: usize, b: usize) -> usize
-    ensures { λ r. ⌜ (r ≤ a) × (r ≤ b) ⌝ }
-{
-    if a < b { a } else { b }
-}
-
-fn call_number(q: CallQuestion) -> u64 {
-    match q {
-        CallQuestion::TableLength => 1,
-        CallQuestion::MarksLength => 9,
-        CallQuestion::ListLength => 11,
-        _ => 0,
-    }
-}
-
-fn word_number(q: WordQuestion) -> u64 {
-    match q {
-        WordQuestion::AtomLimit => 2,
-        WordQuestion::ClauseLimit => 3,
-        WordQuestion::CountsLeft => 4,
-        WordQuestion::LiteralsLeft => 5,
-        WordQuestion::AtomBelow => 6,
-        WordQuestion::Ascending => 7,
-        WordQuestion::AllUsed => 8,
-        _ => 0,
-    }
-}
-
-fn step_number(q: StepQuestion) -> u64 {
-    match q {
-        StepQuestion::KindKnown => 12,
-        StepQuestion::TargetKept => 13,
-        StepQuestion::PartnerKept => 14,
-        StepQuestion::AtomKnown => 15,
-        StepQuestion::ConditionHolds => 16,
-    }
-}
-
-fn print_pair(q: u64, place: usize) {
-    io::write_all(STDOUT_FILENO, b"refused=");
-    io::print_decimal(STDOUT_FILENO, q);
-    io::write_all(STDOUT_FILENO, b",");
-    io::print_decimal(STDOUT_FILENO, place as u64);
-}
-
-fn print_refusal(r: Refusal) {
-    match r {
-        Refusal::Call(q) => print_pair(call_number(q), 0),
-        Refusal::Word(q, at) => print_pair(word_number(q), at),
-        Refusal::Step(q, at) => print_pair(step_number(q), at),
-        _ => print_pair(0, 0),
-    }
-}
 
 fn print_answer(a: CheckAnswer) {
     match a {
@@ -142,7 +15,7 @@ fn print_answer(a: CheckAnswer) {
             io::write_all(STDOUT_FILENO, b"accepted=");
             io::print_decimal(STDOUT_FILENO, s as u64);
         }
-        CheckAnswer::Refused(r) => print_refusal(r),
+        CheckAnswer::Refused(r) => cases::refused(r),
     }
 }
 
@@ -150,7 +23,7 @@ fn print_answer(a: CheckAnswer) {
 fn print_marks(marks: &[u8; 9002], end: usize) {
     io::write_all(STDOUT_FILENO, b" marks=");
     let mut zeros: u64 = 0;
-    for i in 0..least(end, 9002) {
+    for i in 0..cases::least(end, 9002) {
         if end < 50 {
             io::print_decimal(STDOUT_FILENO, long(marks[i]));
         }
@@ -176,15 +49,15 @@ fn count(x: u64) -> u64 {
 fn case(text: &[u8], from: usize) -> usize {
     let mut words = [0u16; ROOM];
     let mut list = [0u16; 40000];
-    let n = number(text, from);
-    let at = numbers(text, n.next, n.value, &mut words);
-    let k = number(text, at);
-    let l = number(text, k.next);
-    let end = numbers(text, l.next, l.value, &mut list);
+    let n = cases::number_at(text, from);
+    let at = cases::numbers_at(text, n.next, n.value, &mut words);
+    let k = cases::number_at(text, at);
+    let l = cases::number_at(text, k.next);
+    let end = cases::numbers_at(text, l.next, l.value, &mut list);
     answer(
-        &words[0..least(n.value, ROOM)],
-        least(k.value, ROOM),
-        &list[0..least(l.value, 40000)],
+        &words[0..cases::least(n.value, ROOM)],
+        cases::least(k.value, ROOM),
+        &list[0..cases::least(l.value, 40000)],
     );
     end
 }
@@ -197,7 +70,7 @@ fn answer(words: &[u16], k: usize, list: &[u16])
     print_marks(&marks, k + 2);
 }
 
-fn cases(text: &[u8]) {
+fn run(text: &[u8]) {
     let mut at: usize = 0;
     for i in 0..1000usize {
         if at < text.len() {
@@ -209,5 +82,5 @@ fn cases(text: &[u8]) {
 fn main() {
     let mut text = [0u8; 400000];
     let n = io::read_full(STDIN_FILENO, &mut text);
-    cases(&text[..n]);
+    run(&text[..n]);
 }

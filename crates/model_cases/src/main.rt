@@ -5,10 +5,7 @@ use dependency::CycleAnswer;
 use libc::STDIN_FILENO;
 use libc::STDOUT_FILENO;
 use stability::TestAnswer;
-use table::CallQuestion;
-use table::EntryQuestion;
 use table::Refusal;
-use table::WordQuestion;
 
 // What was read of a line: the number that is being read, how many words and entries there are, and whether the set has begun.
 pub struct Line {
@@ -95,48 +92,11 @@ fn closed(words: &mut [u16], set: &mut [u16], l: Line) -> Line {
     at_line(0, false, n, l.entries, false)
 }
 
-fn call_number(q: CallQuestion) -> u64 {
-    match q {
-        CallQuestion::TableLength => 1,
-        CallQuestion::SetLength => 19,
-        _ => 0,
-    }
-}
-
-fn word_number(q: WordQuestion) -> u64 {
-    match q {
-        WordQuestion::AtomLimit => 2,
-        WordQuestion::ClauseLimit => 3,
-        WordQuestion::CountsLeft => 4,
-        WordQuestion::LiteralsLeft => 5,
-        WordQuestion::AtomBelow => 6,
-        WordQuestion::Ascending => 7,
-        WordQuestion::AllUsed => 8,
-        WordQuestion::MarkAllowed => 10,
-    }
-}
-
-fn entry_number(q: EntryQuestion) -> u64 {
-    match q {
-        EntryQuestion::EntryBelow => 20,
-        EntryQuestion::EntryAscending => 21,
-    }
-}
-
-fn print_refusal(number: u64, place: usize) {
-    io::write_all(STDOUT_FILENO, b"refused ");
-    io::print_decimal(STDOUT_FILENO, number);
-    io::write_all(STDOUT_FILENO, b",");
-    io::print_decimal(STDOUT_FILENO, place as u64);
-}
-
 fn show_refusal(r: Refusal) {
-    match r {
-        Refusal::Call(q) => print_refusal(call_number(q), 0),
-        Refusal::Word(q, at) => print_refusal(word_number(q), at),
-        Refusal::Entry(q, at) => print_refusal(entry_number(q), at),
-        _ => print_refusal(0, 0),
-    }
+    io::write_all(STDOUT_FILENO, b"refused ");
+    io::print_decimal(STDOUT_FILENO, table::refusal_number(r));
+    io::write_all(STDOUT_FILENO, b",");
+    io::print_decimal(STDOUT_FILENO, table::refusal_place(r) as u64);
 }
 
 fn show(yes: bool) {

@@ -5,52 +5,9 @@ ghost use Prim.Native.Nat.{_≤_};
 ghost use lib.ListN.{length};
 use libc::STDIN_FILENO;
 use libc::STDOUT_FILENO;
-use table::ByteQuestion;
-use table::CallQuestion;
 use table::Refusal;
-use table::WordQuestion;
 use text::ReadAnswer;
 use text::WriteAnswer;
-
-fn call_number(q: CallQuestion) -> u64 {
-    match q {
-        CallQuestion::TableLength => 1,
-        CallQuestion::MarksLength => 9,
-        CallQuestion::ListLength => 11,
-        CallQuestion::ListRoom => 17,
-        CallQuestion::TableRoom => 18,
-        CallQuestion::SetLength => 19,
-        CallQuestion::TextLength => 22,
-        CallQuestion::TableSlice => 23,
-        CallQuestion::TextRoom => 28,
-    }
-}
-
-fn word_number(q: WordQuestion) -> u64 {
-    match q {
-        WordQuestion::AtomLimit => 2,
-        WordQuestion::ClauseLimit => 3,
-        WordQuestion::CountsLeft => 4,
-        WordQuestion::LiteralsLeft => 5,
-        WordQuestion::AtomBelow => 6,
-        WordQuestion::Ascending => 7,
-        WordQuestion::AllUsed => 8,
-        WordQuestion::MarkAllowed => 10,
-    }
-}
-
-fn byte_number(q: ByteQuestion) -> u64 {
-    match q {
-        ByteQuestion::TextAtomLimit => 2,
-        ByteQuestion::TextClauseLimit => 3,
-        ByteQuestion::TextAtomBelow => 6,
-        ByteQuestion::TextAscending => 7,
-        ByteQuestion::LineThere => 24,
-        ByteQuestion::ValueInForm => 25,
-        ByteQuestion::WordLimit => 26,
-        ByteQuestion::TextAllUsed => 27,
-    }
-}
 
 fn print(bytes: &[u8]) {
     io::write_all(STDOUT_FILENO, bytes);
@@ -60,32 +17,12 @@ fn print_number(n: usize) {
     io::print_decimal(STDOUT_FILENO, n as u64);
 }
 
-fn print_pair(number: u64, place: usize) {
-    print(b"refused=");
-    io::print_decimal(STDOUT_FILENO, number);
-    print(b",");
-    print_number(place);
-    print(b"\n");
-}
-
 fn print_refusal(r: Refusal) {
-    match r {
-        Refusal::Call(q) => {
-            print_pair(call_number(q), 0);
-        }
-        Refusal::Word(q, at) => {
-            print_pair(word_number(q), at);
-        }
-        Refusal::Byte(q, at) => {
-            print_pair(byte_number(q), at);
-        }
-        Refusal::Step(_, at) => {
-            print_pair(0, at);
-        }
-        Refusal::Entry(_, at) => {
-            print_pair(0, at);
-        }
-    }
+    print(b"refused=");
+    io::print_decimal(STDOUT_FILENO, table::refusal_number(r));
+    print(b",");
+    print_number(table::refusal_place(r));
+    print(b"\n");
 }
 
 // The words of a table, joined by commas.
