@@ -10,13 +10,14 @@ use lib.ListN.{length, getD, set, length-set}
 use lib.Seq.{getD-set-same}
 use Rattle.semantics.specs.Lists.{_∈_, mem, bit}
 use Rattle.semantics.proofs.Tests.{so-ext, so-false}
+use Rattle.semantics.proofs.Models.{All}
 use Rattle.rewriting.specs.Marked.{Marked, entry, left}
 use Rattle.rewriting.specs.Reach.{reach}
 use Rattle.rewriting.specs.Steps.{Kind, tautology, contradiction, success, noHead, blocked, failure, loop, subsumed, number, kindOf, Step, usesPartner, fact, inNoHead, condition, applies, effect}
 use Rattle.rewriting.proofs.Sound.{applies-ask}
-use Rattle.rewriting.proofs.Reopen.{drops, asksHeads, reopens, ready, Opens, openPartner, openHead, openReach, drop-reach, effect-below}
+use Rattle.rewriting.proofs.Reopen.{drops, asksHeads, reopens, ready, Opens, openPartner, openHead, openReach, drop-reach, idle-reach, twin-reach, reach-less, Twin, effect-below}
 use Rattle.rewriting.proofs.Counts.{heads, heads-effect}
-use Rattle.rewriting.proofs.Quiet.{Quiet, Raised, stale, key, quiet-more, quiet-step, quiet-kind, quiet-drop}
+use Rattle.rewriting.proofs.Quiet.{Quiet, Raised, stale, key, quiet-more, quiet-step, quiet-kind, quiet-drop, quiet-reach}
 use Rattle.table.specs.View.{view, marksAfter}
 use Rattle.table.proofs.View.{view-after, length-after, length-view}
 use Rattle.reach.specs.Bytes.{inBytes, Reached}
@@ -25,7 +26,7 @@ use Rattle.search.specs.Flags.{flags, Grown}
 use Rattle.search.specs.State.{State, freshOf}
 use Rattle.search.proofs.Flags.{set-flag, grown-set}
 use Rattle.search.proofs.States.{target-lt}
-use Rattle.reducer.specs.Opened.{Dropped, OpenAt, Bared}
+use Rattle.reducer.specs.Opened.{Dropped, OpenAt, Bared, Lost}
 
 module _ (ws ms start hs rs may : List ℕ) (z : State ws ms start hs rs may) (s : Step) (h : So (applies (getD ws 0 0) (view ws ms) s)) where
   abbrev n : ℕ
@@ -106,28 +107,26 @@ module _ (ws ms start hs rs may : List ℕ) (z : State ws ms start hs rs may) (s
           (quiet-drop n P s h subsumed (flags may 8) (flags may 9) q (flags may' 9) d (λ i e. o .grown (9 * 2048 + i) e) (λ r. o .fresh))
           (flags may' 8) (flags may' 9) (up subsumed) (λ i e. e)
 
-  -- A deletion: the atoms of its head that are in no kept head now are open, and the reach is to be found anew.
-  pub state-deleted : (hs' may' : List ℕ) → ¬ So (drops (s .kind)) → Heads ws after hs' → length hs' ≡ length hs
-      → Bared ws after (set may 0 1) may' (entry (view ws after) (s .target) .clause .head) → State ws after start hs' rs may'
+  -- A deletion: the atoms of its head that are in no kept head now are open, and the reach is known only where it is as it was.
+  pub state-deleted : (hs' may₁ may' : List ℕ) → ¬ So (drops (s .kind)) → Heads ws after hs' → length hs' ≡ length hs → Lost ws ms may may₁ s
+      → Bared ws after may₁ may' (entry (view ws after) (s .target) .clause .head) → State ws after start hs' rs may'
   unfolding condition
-  state-deleted hs' may' d c l o = record {
+  state-deleted hs' may₁ may' d c l t o = record {
     ready = ready-after;
     counted = c;
     atoms = omega (arith, z .atoms);
     bytes = z .bytes;
-    long = o .long ∙ simp length-set (z .long);
-    reached = λ e. absurd (unknown e);
+    long = o .long ∙ t .long ∙ z .long;
+    reached = λ e. record { is = λ a. z .reached (grown 0 e) .is a ∙ reach-same (t .keeps (o .grown 0 e)) a };
     quiet = λ k e. subst (λ R. Quiet n R k (flags may' (number k)) (freshOf k may')) (sym is-effect) (go k e);
   }
     where
-      first : 0 < length may
-      first = omega (arith, z .long)
-
-      unknown : getD may' 0 0 ≢ 0
-      unknown e = set-flag may 0 first (o .grown 0 e)
-
       grown : Grown may may'
-      grown i e = grown-set may 0 first may (λ i e. e) i (o .grown i e)
+      grown i e = t .grown i (o .grown i e)
+
+      reach-same : ((¬ All (reach (left P)) (entry P (s .target) .clause .pos)) ⊎ Twin P s) → (a : ℕ) → reach (left P) a ≡ reach (left (view ws after)) a
+      reach-same x a = so-ext (reach (left P) a) (reach (left (effect P s)) a)
+          (⊎-elim (λ v. idle-reach n P s h d v a .0) (λ v. twin-reach n P s h v a) x) (reach-less n P s h d a) ∙ ap (λ R. reach (left R) a) (sym is-effect)
 
       known : (k : Kind) → number k ≢ 7 → (k ≡ loop → getD may 0 0 ≡ 0)
       known k x e = absurd (x (ap number e))
@@ -165,7 +164,7 @@ module _ (ws ms start hs rs may : List ℕ) (z : State ws ms start hs rs may) (s
       go contradiction e = plain contradiction (still contradiction refl (z .quiet contradiction (known contradiction (λ x. omega arith))))
       go success e = plain success (still success refl (z .quiet success (known success (λ x. omega arith))))
       go blocked e = plain blocked (still blocked refl (z .quiet blocked (known blocked (λ x. omega arith))))
-      go loop e = absurd (unknown (e refl))
+      go loop e = plain loop (quiet-reach n P s h loop (flags may 7) stale (z .quiet loop (λ q. grown 0 (e q))) refl (λ w. ⊎-elim (λ v. v (w .0)) (λ v. w .1 v) (t .keeps (o .grown 0 (e refl)))))
       go subsumed e = quiet-more n (effect P s) subsumed (flags may 8) (flags may 9) (still subsumed refl (z .quiet subsumed (known subsumed (λ x. omega arith)))) (flags may' 8) (flags may' 9) (up subsumed) (λ i e. grown (9 * 2048 + i) e)
       go noHead e = quiet-step n P noHead (flags may 4) stale (z .quiet noHead (known noHead (λ x. omega arith))) (flags may' 4) stale s h (up noHead) (λ i e. e) (λ u e a p m x. bare4 u e a p m)
       go failure e = quiet-step n P failure (flags may 6) stale (z .quiet failure (known failure (λ x. omega arith))) (flags may' 6) stale s h (up failure) (λ i e. e) (λ u e a p m x. bare6 u e a p m)

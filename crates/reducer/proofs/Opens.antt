@@ -1,7 +1,7 @@
 -- What is flagged after a drop and after a deletion.
 use mathlib.Core.Path.{_≡_, refl, sym, ap, subst, _∙_}
 use mathlib.Core.Logic.{_≢_, _⊎_, inl, inr, ⊎-elim}
-use mathlib.Core.Bool.{Bool, true, false, cond, So, false≢true}
+use mathlib.Core.Bool.{Bool, true, false, cond, _&&_, So, false≢true}
 use mathlib.Core.List.{List, [], _∷_, List·Memᴰ·head, List·Memᴰ·tail, List·Memᴰ·cases-cons, List·Memᴰ·not-nil}
 use Prim.Native.Nat.{ℕ, suc, _+_, _-_, _*_, _≤_, _<_}
 use native.Mathlib.Omega.{arith}
@@ -9,12 +9,17 @@ use native.Mathlib.Numerals.{add-one}
 use lib.Dec.{eqb}
 use lib.ListN.{length, getD, set, length-set}
 use borrow.Author.Tests.{eq-eqb, ne-eqb, eqb-true}
-use Rattle.semantics.specs.Lists.{_∈_}
-use Rattle.semantics.proofs.Tests.{not-so}
-use Rattle.rewriting.specs.Marked.{entry, left}
-use Rattle.rewriting.specs.Steps.{success, blocked, noHead, failure, fact, inNoHead}
+use Rattle.semantics.specs.Lists.{_∈_, all, within}
+use Rattle.semantics.proofs.Tests.{not-so, all-iff, within-iff}
+use Rattle.rewriting.specs.Marked.{Marked, entry, left}
+use Rattle.rewriting.proofs.Reopen.{Twin, partner-asked}
+use Rattle.rewriting.proofs.Left.{kept-lt}
+use Rattle.table.proofs.View.{length-view}
+use Rattle.reach.specs.Bytes.{inBytes}
+use Rattle.search.specs.State.{State}
+use Rattle.rewriting.specs.Steps.{applies, usesPartner, Step, subsumed, success, blocked, noHead, failure, fact, inNoHead}
 use Rattle.table.specs.View.{part, view}
-use Rattle.parts.specs.declared.Part.the-variants.{Head}
+use Rattle.parts.specs.declared.Part.the-variants.{Head, Pos}
 use Rattle.parts.specs.declared.Bounds.{Bounds}
 use Rattle.parts.specs.Parts.{Ready, Spanned}
 use Rattle.parts.proofs.Laws.{part-is}
@@ -24,7 +29,7 @@ use Rattle.search.specs.Flags.{flags, Grown}
 use Rattle.search.specs.State.{Spread}
 use Rattle.search.proofs.Flags.{set-flag, grown-set}
 use Rattle.search.proofs.Walks.{bare-test}
-use Rattle.reducer.specs.Opened.{Dropped, OpenAt, Bared}
+use Rattle.reducer.specs.Opened.{Dropped, OpenAt, Bared, Lost}
 
 -- ---- a drop
 
@@ -127,3 +132,54 @@ heads-noHead ws ms hs rs h = record { heads = λ _. h; reached = λ h. absurd (f
 
 pub heads-failure : (ws ms hs rs : List ℕ) → Heads ws ms hs → Known failure ws ms hs rs
 heads-failure ws ms hs rs h = record { heads = λ _. h; reached = λ h. absurd (false≢true h) }
+
+-- ---- the reach after a deletion
+
+-- what is left of the positive body decides
+abbrev pub Firing : List ℕ → List ℕ → List ℕ → ℕ → ℕ → ℕ → Type 0
+Firing ws ms rs t i e = all (inBytes rs) (part ws ms i (e - i)) ≡ all (inBytes rs) (entry (view ws ms) t .clause .pos)
+
+pub firing-all : (ws ms start rs : List ℕ) (t : ℕ) → Ready ws ms start → t < getD ws 1 0 → (s : Bounds) → Spanned ws t Pos s → Firing ws ms rs t (s .from) (s .end)
+firing-all ws ms start rs t r h s q = ap (all (inBytes rs)) (sym (part-is ws ms start r t h Pos s q
+    ∙ sym (part-slice ws ms (s .from) (s .end - s .from) (omega (arith, q .order, q .fits)) (omega (arith, q .order, q .fits, r .marks)))))
+
+module _ (ws ms rs : List ℕ) (t i e : ℕ) (f : Firing ws ms rs t i e) (h : i < e) where
+  abbrev next : List ℕ
+  next = part ws ms (i + 1) (e - (i + 1))
+
+  here : part ws ms i (e - i) ≡ cond (eqb (getD ms i 0) 1) (getD ws i 0 ∷ next) next
+  unfolding part
+  here = let z : e - i ≡ suc (e - (i + 1)) = omega arith in rw (z, add-one)
+
+  pub firing-past : getD ms i 0 ≢ 1 → Firing ws ms rs t (i + 1) e
+  firing-past d = sym (ap (all (inBytes rs)) (here ∙ ap (λ b. cond b (getD ws i 0 ∷ next) next) (ne-eqb _ _ d))) ∙ f
+
+  kept-here : getD ms i 0 ≡ 1 → all (inBytes rs) (part ws ms i (e - i)) ≡ (inBytes rs (getD ws i 0) && all (inBytes rs) next)
+  kept-here k = ap (all (inBytes rs)) (here ∙ ap (λ b. cond b (getD ws i 0 ∷ next) next) (eq-eqb _ _ k))
+
+  pub firing-on : getD ms i 0 ≡ 1 → inBytes rs (getD ws i 0) ≡ true → Firing ws ms rs t (i + 1) e
+  firing-on k b = sym (kept-here k ∙ ap (λ x. x && all (inBytes rs) next) b) ∙ f
+
+  pub firing-stop : getD ms i 0 ≡ 1 → inBytes rs (getD ws i 0) ≡ false → false ≡ all (inBytes rs) (entry (view ws ms) t .clause .pos)
+  firing-stop k b = sym (kept-here k ∙ ap (λ x. x && all (inBytes rs) next) b) ∙ f
+
+pub firing-end : (ws ms rs : List ℕ) (t i e : ℕ) → Firing ws ms rs t i e → e ≤ i → true ≡ all (inBytes rs) (entry (view ws ms) t .clause .pos)
+unfolding part
+firing-end ws ms rs t i e f l = let z : e - i ≡ 0 = omega arith in subst (λ k. all (inBytes rs) (part ws ms i k) ≡ all (inBytes rs) (entry (view ws ms) t .clause .pos)) z f
+
+module _ (ws ms start hs rs may : List ℕ) (s : Step) (z : State ws ms start hs rs may) where
+  pub lost-idle : false ≡ all (inBytes rs) (entry (view ws ms) (s .target) .clause .pos) → Lost ws ms may may s
+  lost-idle e = record { grown = λ i q. q; long = refl; keeps = λ k. inl (λ g. not-so (sym e) (all-iff (inBytes rs) (entry (view ws ms) (s .target) .clause .pos) .1 (λ a m. z .reached k .is a ∙ g a m))) }
+
+  pub lost-twin : Twin (view ws ms) s → Lost ws ms may may s
+  lost-twin t = record { grown = λ i q. q; long = refl; keeps = λ _. inr t }
+
+  pub lost-all : Lost ws ms may (set may 0 1) s
+  lost-all = let l : 0 < length may = omega (arith, z .long) in
+      record { grown = grown-set may 0 l may (λ i e. e); long = simp length-set; keeps = λ e. absurd (set-flag may 0 l e) }
+
+pub twin-by : (P : Marked) (s : Step) → s .kind ≡ subsumed → within (entry P (s .target) .clause .head) (entry P (s .partner) .clause .head) ≡ true → Twin P s
+twin-by P s e w = (e, within-iff _ _ .0 w)
+
+pub partner-lt : (ws ms : List ℕ) (s : Step) → s .kind ≡ subsumed → So (applies (getD ws 0 0) (view ws ms) s) → s .partner < getD ws 1 0
+partner-lt ws ms s e h = omega (arith, kept-lt (view ws ms) (s .partner) (partner-asked (getD ws 0 0) (view ws ms) s h (subst (λ k. So (usesPartner k)) (sym e) refl) .0), length-view ws ms)

@@ -1,12 +1,16 @@
 -- What a step opens, and what the reducer's loop starts from and comes to.
 use mathlib.Core.Path.{_≡_}
-use mathlib.Core.Logic.{_≢_}
+use mathlib.Core.Logic.{_≢_, _⊎_}
 use mathlib.Core.Bool.{So}
 use mathlib.Core.List.{List}
 use Prim.Native.Nat.{ℕ, _+_, _*_, _≤_, _<_}
 use lib.ListN.{length, getD}
 use lib.Seq.{sets}
 use Rattle.semantics.specs.Lists.{_∈_}
+use Rattle.semantics.proofs.Models.{All}
+use Rattle.rewriting.specs.Reach.{reach}
+use Rattle.rewriting.specs.Steps as steps
+use Rattle.rewriting.proofs.Reopen.{Twin}
 use Rattle.rewriting.specs.Marked.{entry, left, whole}
 use Rattle.rewriting.specs.Steps.{success, noHead, blocked, failure, fact, inNoHead, condition, applies, kindOf}
 use Rattle.table.specs.Questions.{Passed}
@@ -42,6 +46,12 @@ pub record Taken (ws ms : List ℕ) (s : Step) : Type 0 where
   pub low : 1 ≤ s .kind
   pub high : s .kind ≤ 8
   pub applies : So (applies (getD ws 0 0) (view ws ms) (stepOf s))
+
+-- Where the first flag stays 0, the deletion leaves the reach as it is: the clause did not fire, or its partner fires in its place.
+pub record Lost (ws ms may may' : List ℕ) (s : steps.Step) : Type 0 where
+  pub grown : Grown may may'
+  pub long : length may' ≡ length may
+  pub keeps : getD may' 0 0 ≡ 0 → (¬ All (reach (left (view ws ms))) (entry (view ws ms) (s .target) .clause .pos)) ⊎ Twin (view ws ms) s
 
 -- All marks are 1, and the list has room.
 pub record Begun (ws ms ls : List ℕ) : Type 0 where

@@ -15,8 +15,11 @@ ghost use Rattle.search.specs.State.{State};
 ghost use Rattle.reducer.specs.Reductions.{room, Answered};
 ghost use Rattle.rewriting.specs.Marked.{entry};
 ghost use Rattle.rewriting.specs.Steps.{kindOf};
-ghost use Rattle.rewriting.proofs.Reopen.{drops};
-ghost use Rattle.reducer.specs.Opened.{Dropped, Bared, Taken, Begun, Reduced};
+ghost use Rattle.rewriting.proofs.Reopen.{drops, Twin};
+ghost use Rattle.semantics.specs.Lists.{all};
+ghost use Rattle.reach.specs.Bytes.{inBytes};
+ghost use mathlib.Core.Bool.{true};
+ghost use Rattle.reducer.specs.Opened.{Dropped, Bared, Taken, Lost, Begun, Reduced};
 use conditions::Step;
 use parts::Part;
 use search::Found;
@@ -119,6 +122,65 @@ fn open_head(
 
 // ---- a step
 
+// Whether every positive atom of clause t is in the reach.
+fn fires(words: &[u16], marks: &[u8], start: &[u16], reach: &[u8], t: usize) -> bool
+    requires { ⌜ (Ready (now words) (now marks) (now start)) × (t < getD (now words) 1 0) ⌝ }
+    ensures { λ r. ⌜ r ≡ all (inBytes (now (reach .entry))) (entry (view (now (words .entry)) (now (marks .entry))) t .clause .pos) ⌝ }
+{
+    let s = parts::span(words, start, t, Part::Pos);
+    let e = s.end;
+    for i in s.from..e {
+        if marks[i] != 1 {
+            continue;
+        }
+        if !reach::is_in(reach, words[i]) {
+            return false;
+        }
+    }
+    true
+}
+
+// Whether the clause that a step deletes has a partner that fires in its place.
+fn has_twin(words: &[u16], marks: &[u8], start: &[u16], step: Step) -> bool
+    requires { ⌜ (Ready (now words) (now marks) (now start)) × (Taken (now words) (now marks) step) ⌝ }
+    ensures { λ r. ⌜ (r ≡ true → Twin (view (now (words .entry)) (now (marks .entry))) (stepOf step)) ⌝ }
+{
+    if step.kind != 8 {
+        return false;
+    }
+    parts::inside(
+        words,
+        marks,
+        start,
+        table::wide(step.target),
+        Part::Head,
+        table::wide(step.partner),
+        Part::Head,
+    )
+}
+
+// A deletion: the reach is to be found anew, unless the clause did not fire or its partner fires in its place.
+fn lose_reach(
+    words: &[u16],
+    marks: &[u8],
+    start: &[u16],
+    heads: &[u16],
+    reach: &[u8],
+    may: &mut [u8],
+    step: Step,
+)
+    requires { ⌜ (State (now words) (now marks) (now start) (now heads) (now reach) (now may)) × (Taken (now words) (now marks) step) ⌝ }
+    ensures { λ _. ⌜ Lost (now (words .entry)) (now (marks .entry)) (now (may .entry)) (now (may .exit)) (stepOf step) ⌝ }
+{
+    if !fires(words, marks, start, reach, table::wide(step.target)) {
+        return;
+    }
+    if has_twin(words, marks, start, step) {
+        return;
+    }
+    may[0] = 1;
+}
+
 // Kinds 3 and 4: a literal is dropped.
 fn drop_literal(
     words: &[u16],
@@ -160,9 +222,9 @@ fn delete_clause(
     requires { ⌜ (State (now words) (now marks) (now start) (now heads) (now reach) (now may)) × ((m ≡ getD (now words) 1 0) × ((Taken (now words) (now marks) step) × ¬ So (drops (kindOf (step .kind))))) ⌝ }
     ensures { λ _. ⌜ (now (marks .exit) ≡ marksAfter (now (words .entry)) (now (marks .entry)) (stepOf step)) × State (now (words .entry)) (now (marks .exit)) (now (start .entry)) (now (heads .exit)) (now (reach .entry)) (now (may .exit)) ⌝ }
 {
+    lose_reach(words, marks, start, heads, reach, may, step);
     conditions::make_step(words, marks, start, step);
     conditions::count_heads(words, marks, start, heads);
-    may[0] = 1;
     open_head(
         words,
         marks,

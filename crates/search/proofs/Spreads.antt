@@ -38,6 +38,15 @@ module _ (ws ms may may' : List ℕ) (kind p a t : ℕ) (s : Spreading ws ms may
     frame = s .frame;
   }
 
+  -- a target that is flagged already
+  pub spreading-over : flags may' kind t ≢ 0 → Spreading ws ms may may' kind p a (t + 1)
+  spreading-over f = record {
+    grown = s .grown;
+    long = s .long;
+    flagged = λ j l h. by-cases (ℕ-discrete j t) (λ d. subst (λ i. flags may' kind i ≢ 0) (sym d) f) (λ d. s .flagged j (omega arith) h);
+    frame = s .frame;
+  }
+
   pub spreading-on : t < 2048 → kind * 2048 + t < length may' → Spreading ws ms may (set may' (kind * 2048 + t) 1) kind p a (t + 1)
   spreading-on b l = record {
     grown = grown-set may' (kind * 2048 + t) l may (s .grown);

@@ -388,6 +388,9 @@ pub fn spread(
 {
     let base = table::wide(kind) * 2048;
     for t in 0..m {
+        if may[base + t] != 0 {
+            continue;
+        }
         if !conditions::holds(words, marks, start, heads, reach, kind, t, p, atom) {
             continue;
         }
