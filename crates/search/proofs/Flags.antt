@@ -1,22 +1,176 @@
--- Flags: what a store to one of them changes.
+-- Flags: what a flag more, a flag less and bounds drawn closer make of the rows.
 use mathlib.Core.Path.{_≡_, refl, sym, ap, subst, _∙_}
-use mathlib.Core.Logic.{_≢_, by-cases}
+use mathlib.Core.Logic.{_≢_, _⊎_, inl, inr, by-cases, ⊎-elim}
 use mathlib.Core.List.{List}
-use Prim.Native.Nat.{ℕ, _+_, _*_, _<_}
+use Prim.Native.Nat.{ℕ, _+_, _*_, _≤_, _<_}
 use native.Mathlib.Omega.{arith}
-use native.Mathlib.Decide.{ℕ-discrete}
-use lib.ListN.{length, getD, set, length-set}
+use native.Mathlib.Decide.{ℕ-discrete, decLt}
+use lib.ListN.{length, getD, set, length-set, List·getD-eq-default}
 use lib.Seq.{getD-set-same, getD-set-other}
-use Rattle.search.specs.Flags.{flags, Grown, AllFlagged}
+use Rattle.search.specs.Flags.{flags, lowest, highest, Inside, Rows, Grown, Raising, AllFlagged, Fenced}
 
--- a flag set to 1
-module _ (may : List ℕ) (j : ℕ) (l : j < length may) where
-  pub set-flag : getD (set may j 1) j 0 ≢ 0
-  set-flag e = omega (arith, getD-set-same may j 1 0 l)
+-- two rows have no place in common
+pub apart : (r s i j : ℕ) → i < 2048 → j < 2048 → r ≢ s → r * 2048 + i ≢ s * 2048 + j
+apart r s i j a b d e = by-cases (decLt r s) (λ x. omega arith) (λ x. by-cases (decLt s r) (λ y. omega arith) (λ y. d (omega arith)))
 
-  pub grown-set : (before : List ℕ) → Grown before may → Grown before (set may j 1)
-  grown-set before g i e = by-cases (ℕ-discrete i j) (λ d. absurd (set-flag (subst (λ k. getD (set may j 1) k 0 ≡ 0) d e))) (λ d. g i (sym (getD-set-other may j i 1 0 d) ∙ e))
+-- ---- outside the bounds
 
-  -- those that were set stay
-  pub flagged-set : (i : ℕ) → getD may i 0 ≢ 0 → getD (set may j 1) i 0 ≢ 0
-  flagged-set i h e = h (grown-set may (λ k z. z) i e)
+pub outside : (may : List ℕ) (row low end i : ℕ) → Inside may row low end → i < 2048 → ((low ≤ i) → (i < end) → ⊥) → flags may row i ≡ 0
+outside may row low end i w l h = by-cases (ℕ-discrete (flags may row i) 0) (λ e. e) (λ d. let q = w i l d in absurd (h (q .0) (q .1)))
+
+module _ (may : List ℕ) (row t end : ℕ) (w : Inside may row t end) where
+  -- a place without a flag is passed
+  pub inside-past : flags may row t ≡ 0 → Inside may row (t + 1) end
+  inside-past e i l f = let q = w i l f in
+      (by-cases (ℕ-discrete i t) (λ d. absurd (f (subst (λ j. flags may row j ≡ 0) (sym d) e))) (λ d. omega arith), q .1)
+
+  -- so is one that loses its flag
+  pub inside-clear : row * 2048 + t < length may → Inside (set may (row * 2048 + t) 0) row (t + 1) end
+  inside-clear l i k f =
+      by-cases (ℕ-discrete i t) (λ d. absurd (f (subst (λ j. flags (set may (row * 2048 + t) 0) row j ≡ 0) (sym d) (getD-set-same may (row * 2048 + t) 0 0 l))))
+      (λ d. let q = w i k (λ e. f (getD-set-other may (row * 2048 + t) (row * 2048 + i) 0 0 (λ x. d (omega arith)) ∙ e)) in (omega arith, q .1))
+
+-- ---- a flag less
+
+module _ (may : List ℕ) (row t : ℕ) (a : row ≤ 16) (l : t < 2048) where
+  pub less-flags : (r i : ℕ) → flags may r i ≡ 0 → flags (set may (row * 2048 + t) 0) r i ≡ 0
+  less-flags r i e = by-cases (ℕ-discrete (r * 2048 + i) (row * 2048 + t))
+      (λ d. by-cases (decLt (row * 2048 + t) (length may)) (λ k. ap (λ j. getD (set may (row * 2048 + t) 0) j 0) d ∙ getD-set-same may (row * 2048 + t) 0 0 k)
+      (λ k. ap (λ j. getD (set may (row * 2048 + t) 0) j 0) d ∙ List·getD-eq-default (set may (row * 2048 + t) 0) 0 (let q : length (set may (row * 2048 + t) 0) ≡ length may = simp length-set in omega arith)))
+      (λ d. getD-set-other may (row * 2048 + t) (r * 2048 + i) 0 0 d ∙ e)
+
+  bounds-same : (j : ℕ) → 34816 ≤ j → getD (set may (row * 2048 + t) 0) j 0 ≡ getD may j 0
+  bounds-same j h = getD-set-other may (row * 2048 + t) j 0 0 (λ e. omega arith)
+
+  pub rows-clear : (m : ℕ) → Rows m may → Rows m (set may (row * 2048 + t) 0)
+  rows-clear m w = record {
+    long = simp length-set (w .long);
+    inside = λ r x y i k f. let q = w .inside r x y i k (λ e. f (less-flags r i e)) in
+        (omega (arith, q .0, bounds-same (34816 + r) (omega arith)), omega (arith, q .1, bounds-same (34833 + r) (omega arith)));
+    high = λ r x y. omega (arith, w .high r x y, bounds-same (34833 + r) (omega arith));
+    few = λ r x y. omega (arith, w .few r x y, bounds-same (34833 + r) (omega arith));
+  }
+
+-- ---- a flag more, and bounds that hold it
+
+module _ (may : List ℕ) (row i x y : ℕ) (hr : row ≤ 16) (hi : i < 2048) (long : length may ≡ 34850) where
+  abbrev one : List ℕ
+  one = set may (row * 2048 + i) 1
+
+  abbrev after : List ℕ
+  after = set (set one (34816 + row) x) (34833 + row) y
+
+  flags-one : (r j : ℕ) → r ≤ 16 → j < 2048 → flags after r j ≡ flags one r j
+  flags-one r j a b = getD-set-other (set one (34816 + row) x) (34833 + row) (r * 2048 + j) y 0 (λ e. omega arith) ∙ getD-set-other one (34816 + row) (r * 2048 + j) x 0 (λ e. omega arith)
+
+  flag-there : flags after row i ≡ 1
+  flag-there = flags-one row i hr hi ∙ getD-set-same may (row * 2048 + i) 1 0 (omega arith)
+
+  pub flag-set : flags after row i ≢ 0
+  flag-set e = omega (arith, flag-there)
+
+  flags-other : (r j : ℕ) → r ≤ 16 → j < 2048 → r * 2048 + j ≢ row * 2048 + i → flags after r j ≡ flags may r j
+  flags-other r j a b d = flags-one r j a b ∙ getD-set-other may (row * 2048 + i) (r * 2048 + j) 1 0 d
+
+  lowest-here : lowest after row ≡ x
+  lowest-here = getD-set-other (set one (34816 + row) x) (34833 + row) (34816 + row) y 0 (λ e. omega arith) ∙ getD-set-same one (34816 + row) x 0 (let q : length one ≡ length may = simp length-set in omega arith)
+
+  highest-here : highest after row ≡ y
+  highest-here = getD-set-same (set one (34816 + row) x) (34833 + row) y 0 (let q : length (set one (34816 + row) x) ≡ length may = simp length-set in omega arith)
+
+  lowest-other : (r : ℕ) → r ≤ 16 → r ≢ row → lowest after r ≡ lowest may r
+  lowest-other r a d = getD-set-other (set one (34816 + row) x) (34833 + row) (34816 + r) y 0 (λ e. omega arith) ∙ getD-set-other one (34816 + row) (34816 + r) x 0 (λ e. d (omega arith)) ∙ getD-set-other may (row * 2048 + i) (34816 + r) 1 0 (λ e. omega arith)
+
+  highest-other : (r : ℕ) → r ≤ 16 → r ≢ row → highest after r ≡ highest may r
+  highest-other r a d = getD-set-other (set one (34816 + row) x) (34833 + row) (34833 + r) y 0 (λ e. d (omega arith)) ∙ getD-set-other one (34816 + row) (34833 + r) x 0 (λ e. omega arith) ∙ getD-set-other may (row * 2048 + i) (34833 + r) 1 0 (λ e. omega arith)
+
+  module _ (xi : x ≤ i) (xl : x ≤ lowest may row) (iy : i + 1 ≤ y) (hy : highest may row ≤ y) (o : (y ≡ i + 1) ⊎ (y ≡ highest may row)) where
+    flag-rows : (m : ℕ) → (1 ≤ row → row ≤ 8 → i + 1 ≤ m) → Rows m may → Rows m after
+    flag-rows m h w = record {
+      long = simp length-set (w .long);
+      inside = λ r a b j l f. by-cases (ℕ-discrete r row)
+          (λ d. subst (λ s. (lowest after s ≤ j) × (j < highest after s)) (sym d) (here j l (subst (λ s. flags after s j ≢ 0) d f) (subst (λ s. 1 ≤ s) d a)))
+          (λ d. let q = w .inside r a b j l (λ e. f (flags-other r j b l (apart r row j i l hi d) ∙ e)) in
+          (omega (arith, q .0, lowest-other r b d), omega (arith, q .1, highest-other r b d)));
+      high = λ r a b. by-cases (ℕ-discrete r row)
+          (λ d. subst (λ s. highest after s ≤ 2048) (sym d) (⊎-elim (λ e. omega (arith, highest-here)) (λ e. omega (arith, highest-here, w .high row (subst (λ s. 1 ≤ s) d a) hr)) o))
+          (λ d. omega (arith, w .high r a b, highest-other r b d));
+      few = λ r a b. by-cases (ℕ-discrete r row)
+          (λ d. subst (λ s. highest after s ≤ m) (sym d) (low (subst (λ s. 1 ≤ s) d a) (subst (λ s. s ≤ 8) d b)))
+          (λ d. omega (arith, w .few r a b, highest-other r (omega arith) d));
+    }
+      where
+        here : (j : ℕ) → j < 2048 → flags after row j ≢ 0 → 1 ≤ row → (lowest after row ≤ j) × (j < highest after row)
+        here j l f a = by-cases (ℕ-discrete j i)
+            (λ d. (omega (arith, lowest-here), omega (arith, highest-here)))
+            (λ d. let q = w .inside row a hr j l (λ e. f (flags-other row j hr l (λ z. d (omega arith)) ∙ e)) in
+            (omega (arith, q .0, lowest-here), omega (arith, q .1, highest-here)))
+
+        low : 1 ≤ row → row ≤ 8 → highest after row ≤ m
+        low a b = ⊎-elim (λ e. omega (arith, highest-here, h a b)) (λ e. omega (arith, highest-here, w .few row a b)) o
+
+    pub flag-raising : Raising may after row (i + 1)
+    flag-raising = record {
+      long = simp length-set;
+      grown = λ r j a b e. by-cases (ℕ-discrete (r * 2048 + j) (row * 2048 + i))
+          (λ d. absurd (flag-set (ap (λ k. getD after k 0) (sym d) ∙ e)))
+          (λ d. sym (flags-other r j a b d) ∙ e);
+      frame = λ r j a b d. flags-other r j a b (apart r row j i b hi d);
+      rows = flag-rows;
+    }
+
+pub raising-none : (may : List ℕ) (row top : ℕ) → Raising may may row top
+raising-none may row top = record { long = refl; grown = λ r i a b e. e; frame = λ r i a b d. refl; rows = λ m h w. w }
+
+pub raising-more : (one two three : List ℕ) (row x y z : ℕ) → x ≤ z → y ≤ z → Raising one two row x → Raising two three row y → Raising one three row z
+raising-more one two three row x y z a b p q = record {
+  long = q .long ∙ p .long;
+  grown = λ r i c d e. p .grown r i c d (q .grown r i c d e);
+  frame = λ r i c d e. q .frame r i c d e ∙ p .frame r i c d e;
+  rows = λ m h w. q .rows m (λ c d. let k = h c d in omega arith) (p .rows m (λ c d. let k = h c d in omega arith) w);
+}
+
+-- those that were set stay
+pub raising-keeps : (may may' : List ℕ) (row top : ℕ) → Raising may may' row top → (r i : ℕ) → r ≤ 16 → i < 2048 → flags may r i ≢ 0 → flags may' r i ≢ 0
+raising-keeps may may' row top g r i a b f e = f (g .grown r i a b e)
+
+-- ---- bounds drawn closer
+
+module _ (may : List ℕ) (row x y : ℕ) (hr : row ≤ 16) (long : length may ≡ 34850) where
+  abbrev drawn : List ℕ
+  drawn = set (set may (34816 + row) x) (34833 + row) y
+
+  drawn-same : (r i : ℕ) → r ≤ 16 → i < 2048 → flags drawn r i ≡ flags may r i
+  drawn-same r i a b = getD-set-other (set may (34816 + row) x) (34833 + row) (r * 2048 + i) y 0 (λ e. omega arith) ∙ getD-set-other may (34816 + row) (r * 2048 + i) x 0 (λ e. omega arith)
+
+  drawn-lowest : lowest drawn row ≡ x
+  drawn-lowest = getD-set-other (set may (34816 + row) x) (34833 + row) (34816 + row) y 0 (λ e. omega arith) ∙ getD-set-same may (34816 + row) x 0 (omega arith)
+
+  drawn-highest : highest drawn row ≡ y
+  drawn-highest = getD-set-same (set may (34816 + row) x) (34833 + row) y 0 (let q : length (set may (34816 + row) x) ≡ length may = simp length-set in omega arith)
+
+  drawn-other : (j : ℕ) → j ≢ 34816 + row → j ≢ 34833 + row → getD drawn j 0 ≡ getD may j 0
+  drawn-other j a b = getD-set-other (set may (34816 + row) x) (34833 + row) j y 0 b ∙ getD-set-other may (34816 + row) j x 0 a
+
+  drawn-rows : (m : ℕ) → Rows m may → Inside may row x y → y ≤ 2048 → (row ≤ 8 → y ≤ m) → Rows m drawn
+  drawn-rows m w n h k = record {
+    long = simp length-set (w .long);
+    inside = λ r a b i l f. by-cases (ℕ-discrete r row)
+        (λ d. subst (λ s. (lowest drawn s ≤ i) × (i < highest drawn s)) (sym d)
+        (let q = n i l (λ e. f (subst (λ s. flags drawn s i ≡ 0) (sym d) (drawn-same row i hr l ∙ e))) in (omega (arith, q .0, drawn-lowest), omega (arith, q .1, drawn-highest))))
+        (λ d. let q = w .inside r a b i l (λ e. f (drawn-same r i b l ∙ e)) in
+        (omega (arith, q .0, drawn-other (34816 + r) (λ z. d (omega arith)) (λ z. omega arith)), omega (arith, q .1, drawn-other (34833 + r) (λ z. omega arith) (λ z. d (omega arith)))));
+    high = λ r a b. by-cases (ℕ-discrete r row) (λ d. subst (λ s. highest drawn s ≤ 2048) (sym d) (omega (arith, drawn-highest, h)))
+        (λ d. omega (arith, w .high r a b, drawn-other (34833 + r) (λ z. omega arith) (λ z. d (omega arith))));
+    few = λ r a b. by-cases (ℕ-discrete r row) (λ d. subst (λ s. highest drawn s ≤ m) (sym d) (omega (arith, drawn-highest, k (subst (λ s. s ≤ 8) d b))))
+        (λ d. omega (arith, w .few r a b, drawn-other (34833 + r) (λ z. omega arith) (λ z. d (omega arith))));
+  }
+
+  pub drawn-closer : Fenced may drawn row x y
+  drawn-closer = record { long = simp length-set; same = drawn-same; rows = drawn-rows }
+
+-- an empty row
+pub drawn-empty : (may : List ℕ) (row low end : ℕ) → row ≤ 16 → length may ≡ 34850 → end ≤ low → Fenced may (set (set may (34816 + row) 2048) (34833 + row) 0) row low end
+drawn-empty may row low end a l h =
+    let f = drawn-closer may row 2048 0 a l in
+    record { long = f .long; same = f .same; rows = λ m w n e g. f .rows m w (λ i k q. let z = n i k q in absurd (omega arith)) (omega arith) (λ _. omega arith) }

@@ -1,30 +1,59 @@
 -- A key spread target by target.
 use mathlib.Core.Path.{_≡_, refl, sym, ap, subst, _∙_}
 use mathlib.Core.Logic.{_≢_, _⊎_, inl, inr, by-cases, ⊎-elim}
-use mathlib.Core.Bool.{Bool, true, false, So}
+use mathlib.Core.Bool.{Bool, true, false, cond, _&&_, not, So, false≢true}
 use mathlib.Core.List.{List, [], _∷_}
 use Prim.Native.Nat.{ℕ, _+_, _*_, _≤_, _<_}
 use native.Mathlib.Omega.{arith}
 use native.Mathlib.Decide.{ℕ-discrete}
+use lib.Dec.{eqb, ltb}
 use lib.ListN.{length, getD, set, length-set}
-use lib.Seq.{getD-set-same, getD-set-other}
-use Rattle.semantics.proofs.Tests.{not-so}
-use Rattle.rewriting.specs.Marked.{entry, left}
-use Rattle.rewriting.specs.Steps.{kindOf, condition}
+use borrow.Author.Tests.{eqb-true}
+use Rattle.semantics.proofs.Tests.{not-so, and-iff}
+use Rattle.rewriting.specs.Marked.{Marked, entry, left}
+use Rattle.rewriting.specs.Steps.{Kind, tautology, contradiction, success, noHead, blocked, failure, loop, subsumed, Step, step, kindOf, usesPartner, usesAtom, condition, conditionHolds, applies}
+use Rattle.rewriting.proofs.Left.{kept-lt}
+use Rattle.rewriting.proofs.Order.{atom-alone, partner-alone}
+use Rattle.rewriting.proofs.Quiet.{key}
+use Rattle.rewriting.proofs.Sound.{applies-ask}
 use Rattle.table.specs.View.{view}
-use Rattle.search.specs.Flags.{flags, Grown}
-use Rattle.search.specs.State.{Spread, Settled}
-use Rattle.search.proofs.Flags.{set-flag, grown-set, flagged-set}
+use Rattle.table.proofs.View.{length-view}
+use Rattle.search.specs.Flags.{flags, Grown, Raising, AllFlagged}
+use Rattle.search.specs.State.{Spread, KeySpread}
+use Rattle.search.proofs.Flags.{raising-none, raising-more, raising-keeps}
+use Rattle.search.proofs.States.{target-lt}
+
+-- ---- a step by its key
+
+module _ (n : ℕ) (P : Marked) (u : Step) (k : Kind) (e : u .kind ≡ k) (h : So (applies n P u)) where
+  asks : (j : Kind) → u .kind ≡ j → So (cond (usesPartner j) (entry P (u .partner) .kept && not (eqb (u .partner) (u .target))) (eqb (u .partner) 0)) × So (cond (usesAtom j) (ltb (u .atom) n) (eqb (u .atom) 0))
+  unfolding applies conditionHolds
+  asks j q = let w = simp and-iff at h in
+      subst (λ j. So (cond (usesPartner j) (entry P (u .partner) .kept && not (eqb (u .partner) (u .target))) (eqb (u .partner) 0)) × So (cond (usesAtom j) (ltb (u .atom) n) (eqb (u .atom) 0))) q (w .1 .0, w .1 .1 .0)
+
+  -- a kind with a partner: the key is the partner, and the atom is 0
+  pub by-partner : So (usesPartner k) → So (applies n P (step k (u .target) (key u) 0))
+  by-partner p =
+      let a : u .atom ≡ 0 = eqb-true _ _ (subst (λ b. So (cond b (ltb (u .atom) n) (eqb (u .atom) 0))) (partner-alone k p) (asks k e .1)) in
+      let x : key u ≡ u .partner = ap (λ j. cond (usesPartner j) (u .partner) (u .atom)) e ∙ ap (λ b. cond b (u .partner) (u .atom)) p in
+      subst (λ y. So (applies n P (step k (u .target) y 0))) (sym x) (subst (λ y. So (applies n P (step k (u .target) (u .partner) y))) a (subst (λ j. So (applies n P (step j (u .target) (u .partner) (u .atom)))) e h))
+
+  -- a kind with an atom: the key is the atom, and the partner is 0
+  pub by-atom : So (usesAtom k) → So (applies n P (step k (u .target) 0 (key u)))
+  by-atom p =
+      let a : u .partner ≡ 0 = eqb-true _ _ (subst (λ b. So (cond b (entry P (u .partner) .kept && not (eqb (u .partner) (u .target))) (eqb (u .partner) 0))) (atom-alone k p) (asks k e .0)) in
+      let x : key u ≡ u .atom = ap (λ j. cond (usesPartner j) (u .partner) (u .atom)) e ∙ ap (λ b. cond b (u .partner) (u .atom)) (atom-alone k p) in
+      subst (λ y. So (applies n P (step k (u .target) 0 y))) (sym x) (subst (λ y. So (applies n P (step k (u .target) y (u .atom)))) a (subst (λ j. So (applies n P (step j (u .target) (u .partner) (u .atom)))) e h))
+
+-- ---- one target after the other
 
 -- the targets below t are done
 pub record Spreading (ws ms may may' : List ℕ) (kind p a t : ℕ) : Type 0 where
-  pub grown : Grown may may'
-  pub long : length may' ≡ length may
+  pub raising : Raising may may' kind (getD ws 1 0)
   pub flagged : (j : ℕ) → j < t → So (condition (kindOf kind) (left (view ws ms)) (entry (view ws ms) j .clause) (entry (view ws ms) p .clause) a) → flags may' kind j ≢ 0
-  pub frame : (j : ℕ) → (j < kind * 2048) ⊎ (kind * 2048 + 2048 ≤ j) → getD may' j 0 ≡ getD may j 0
 
 pub spreading-none : (ws ms may : List ℕ) (kind p a : ℕ) → Spreading ws ms may may kind p a 0
-spreading-none ws ms may kind p a = record { grown = λ i e. e; long = refl; flagged = λ j l. absurd (omega arith); frame = λ j _. refl }
+spreading-none ws ms may kind p a = record { raising = raising-none may kind (getD ws 1 0); flagged = λ j l. absurd (omega arith) }
 
 module _ (ws ms may may' : List ℕ) (kind p a t : ℕ) (s : Spreading ws ms may may' kind p a t) where
   abbrev holds : ℕ → Bool
@@ -32,42 +61,45 @@ module _ (ws ms may may' : List ℕ) (kind p a t : ℕ) (s : Spreading ws ms may
 
   pub spreading-past : holds t ≡ false → Spreading ws ms may may' kind p a (t + 1)
   spreading-past e = record {
-    grown = s .grown;
-    long = s .long;
+    raising = s .raising;
     flagged = λ j l h. by-cases (ℕ-discrete j t) (λ d. absurd (not-so e (subst (λ i. So (holds i)) d h))) (λ d. s .flagged j (omega arith) h);
-    frame = s .frame;
   }
 
-  -- a target that is flagged already
-  pub spreading-over : flags may' kind t ≢ 0 → Spreading ws ms may may' kind p a (t + 1)
-  spreading-over f = record {
-    grown = s .grown;
-    long = s .long;
-    flagged = λ j l h. by-cases (ℕ-discrete j t) (λ d. subst (λ i. flags may' kind i ≢ 0) (sym d) f) (λ d. s .flagged j (omega arith) h);
-    frame = s .frame;
-  }
-
-  pub spreading-on : t < 2048 → kind * 2048 + t < length may' → Spreading ws ms may (set may' (kind * 2048 + t) 1) kind p a (t + 1)
-  spreading-on b l = record {
-    grown = grown-set may' (kind * 2048 + t) l may (s .grown);
-    long = simp length-set (s .long);
-    flagged = λ j k h. by-cases (ℕ-discrete j t) (λ d. subst (λ i. flags (set may' (kind * 2048 + t) 1) kind i ≢ 0) (sym d) (set-flag may' (kind * 2048 + t) l))
-        (λ d. flagged-set may' (kind * 2048 + t) l (kind * 2048 + j) (s .flagged j (omega arith) h));
-    frame = λ j o. getD-set-other may' (kind * 2048 + t) j 1 0 (λ z. ⊎-elim (λ x. omega arith) (λ x. omega arith) o) ∙ s .frame j o;
+  pub spreading-on : (may'' : List ℕ) → kind ≤ 16 → t < 2048 → t < getD ws 1 0 → Raising may' may'' kind (t + 1) → flags may'' kind t ≢ 0 → Spreading ws ms may may'' kind p a (t + 1)
+  spreading-on may'' b l h g f = record {
+    raising = raising-more may may' may'' kind (getD ws 1 0) (t + 1) (getD ws 1 0) (omega arith) (omega arith) (s .raising) g;
+    flagged = λ j k q. by-cases (ℕ-discrete j t) (λ d. subst (λ i. flags may'' kind i ≢ 0) (sym d) f)
+        (λ d. raising-keeps may' may'' kind (t + 1) g kind j b (omega arith) (s .flagged j (omega arith) q));
   }
 
   pub spreading-all : getD ws 1 0 ≤ t → Spread ws ms may may' kind p a
-  spreading-all l = record { grown = s .grown; long = s .long; flagged = λ j k. s .flagged j (omega arith); frame = s .frame }
+  unfolding condition
+  spreading-all l = record {
+    raising = s .raising;
+    flagged = λ j h. s .flagged j (omega (arith, target-lt ws ms (step (kindOf kind) j p a) h)) (applies-ask (getD ws 0 0) (view ws ms) (step (kindOf kind) j p a) h .2);
+  }
 
--- one key settled more
-pub settled-more : (may may' : List ℕ) (p : ℕ) → 18432 + p < length may' → Settled may p → ((i : ℕ) → i < p → flags may' 9 i ≡ flags may 9 i) → Settled (set may' (18432 + p) 0) (p + 1)
-settled-more may may' p l s f i k = by-cases (ℕ-discrete i p)
-    (λ e. subst (λ j. flags (set may' (18432 + p) 0) 9 j ≡ 0) (sym e) (getD-set-same may' (18432 + p) 0 0 l))
-    (λ d. getD-set-other may' (18432 + p) (9 * 2048 + i) 0 0 (λ e. d (omega arith)) ∙ f i (omega arith) ∙ s i (omega arith))
+-- ---- a key
 
-pub settled-past : (may : List ℕ) (p : ℕ) → Settled may p → getD may (18432 + p) 0 ≡ 0 → Settled may (p + 1)
-settled-past may p s e i k = by-cases (ℕ-discrete i p) (λ d. subst (λ j. flags may 9 j ≡ 0) (sym d) e) (λ d. s i (omega arith))
+module _ (ws ms may may' : List ℕ) (kind x : ℕ) where
+  pub key-partner : So (usesPartner (kindOf kind)) → Spread ws ms may may' kind x 0 → KeySpread ws ms may may' kind x
+  key-partner p s = record {
+    raising = s .raising;
+    flagged = λ u e d h. s .flagged (u .target) (subst (λ y. So (applies (getD ws 0 0) (view ws ms) (step (kindOf kind) (u .target) y 0))) d (by-partner (getD ws 0 0) (view ws ms) u (kindOf kind) e h p));
+  }
 
-pub first-cleared : (l : List ℕ) → getD (set l 0 0) 0 0 ≡ 0
-first-cleared [] = refl
-first-cleared (x ∷ l) = refl
+  pub key-all : Raising may may' kind (getD ws 1 0) → AllFlagged may' kind (getD ws 1 0) → KeySpread ws ms may may' kind x
+  key-all g f = record { raising = g; flagged = λ u e d h. f (u .target) (target-lt ws ms u h) }
+
+-- a number that is no clause's is no partner
+pub key-none : (ws ms may : List ℕ) (kind x : ℕ) → So (usesPartner (kindOf kind)) → getD ws 1 0 ≤ x → KeySpread ws ms may may kind x
+key-none ws ms may kind x p l = record {
+  raising = raising-none may kind (getD ws 1 0);
+  flagged = λ u e d h. absurd (let q = no-partner u e d h in omega arith);
+}
+  where
+    no-partner : (u : Step) → u .kind ≡ kindOf kind → key u ≡ x → So (applies (getD ws 0 0) (view ws ms) u) → x < getD ws 1 0
+    no-partner u e d h =
+        let w = applies-ask (getD ws 0 0) (view ws ms) (step (kindOf kind) (u .target) x 0) (subst (λ y. So (applies (getD ws 0 0) (view ws ms) (step (kindOf kind) (u .target) y 0))) d (by-partner (getD ws 0 0) (view ws ms) u (kindOf kind) e h p)) .1 in
+        let v = subst (λ b. So (cond b (entry (view ws ms) x .kept && not (eqb x (u .target))) (eqb x 0))) p w in
+        omega (arith, kept-lt (view ws ms) x (and-iff (entry (view ws ms) x .kept) (not (eqb x (u .target))) .0 v .0), length-view ws ms)

@@ -7,7 +7,8 @@ use mathlib.Core.Option.{Option, none, some}
 use Prim.Native.Nat.{ℕ, zero, suc, _+_, _-_, _*_, _≤_, _<_}
 use native.Mathlib.Omega.{arith}
 use native.Mathlib.Decide.{ℕ-discrete, decLt}
-use lib.Dec.{eqb}
+use lib.Dec.{eqb, ltb}
+use borrow.Author.Tests.{ltb-true}
 use lib.ListN.{length, getD, set, length-set}
 use lib.Seq.{getD-set-same, getD-set-other}
 use Rattle.semantics.proofs.Tests.{and-iff}
@@ -19,6 +20,7 @@ use Rattle.rewriting.proofs.Search.{kindOf-number, number-bounds}
 use Rattle.rewriting.proofs.Sound.{applies-ask}
 use Rattle.rewriting.proofs.Order.{kinds-end, kinds-hit}
 use Rattle.rewriting.proofs.Quiet.{Quiet, stale, key, quiet-more, quiet-spread, quiet-all}
+use Rattle.table.specs.Questions as Table
 use Rattle.table.specs.View.{view}
 use Rattle.table.proofs.Encoding.{passed-limits}
 use Rattle.table.proofs.View.{length-view}
@@ -28,10 +30,11 @@ use Rattle.conditions.specs.Known.{Heads, Known}
 use Rattle.conditions.specs.declared.Step as row
 use Rattle.search.specs.declared.Found.{Found}
 use Rattle.search.specs.declared.Found.the-variants.{One, Nothing}
-use Rattle.search.specs.Flags.{flags, Grown, AllFlagged}
+use Rattle.search.specs.Flags.{flags, highest, Inside, Rows, Raising, AllFlagged, Fenced}
 use Rattle.search.specs.Kinds.{PartnerKind, AtomKind}
-use Rattle.search.specs.State.{foundOf, Arrays, Calm, Swept, Spread, freshOf, Settled, State, Prepared}
+use Rattle.search.specs.State.{foundOf, Arrays, Calm, Swept, KeySpread, KeyPassed, Settled, State, Prepared}
 use Rattle.search.proofs.Fits.{kind-number}
+use Rattle.search.proofs.Flags.{apart, outside, rows-clear}
 
 -- ---- flags and keys by their numbers
 
@@ -39,53 +42,46 @@ use Rattle.search.proofs.Fits.{kind-number}
 pub target-lt : (ws ms : List ℕ) (u : Step) → So (applies (getD ws 0 0) (view ws ms) u) → u .target < getD ws 1 0
 target-lt ws ms u h = omega (arith, kept-lt (view ws ms) (u .target) (applies-ask (getD ws 0 0) (view ws ms) u h .0), length-view ws ms)
 
--- only flags of targets below 2,048 count
-pub quiet-same : (ws ms : List ℕ) → getD ws 1 0 ≤ 2048 → (k : Kind) (f g f' g' : ℕ → ℕ) → Quiet (getD ws 0 0) (view ws ms) k f g
-    → ((i : ℕ) → i < 2048 → f' i ≡ 0 → f i ≡ 0) → ((i : ℕ) → g' i ≡ 0 → g i ≡ 0) → Quiet (getD ws 0 0) (view ws ms) k f' g'
-quiet-same ws ms l k f g f' g' q a b = record { calm = λ u e m x h. q .calm u e (a (u .target) (omega (arith, target-lt ws ms u h)) m) (b (key u) x) h }
-
--- no key is fresh: the kind is calm
-fresh-stale : (ws ms : List ℕ) (k : Kind) (may : List ℕ) (f : ℕ → ℕ) → (k ≡ subsumed → Settled may (getD ws 1 0)) → Quiet (getD ws 0 0) (view ws ms) k f (freshOf k may) → Quiet (getD ws 0 0) (view ws ms) k f stale
-unfolding applies
-fresh-stale ws ms tautology may f s q = q
-fresh-stale ws ms contradiction may f s q = q
-fresh-stale ws ms success may f s q = q
-fresh-stale ws ms noHead may f s q = q
-fresh-stale ws ms blocked may f s q = q
-fresh-stale ws ms failure may f s q = q
-fresh-stale ws ms loop may f s q = q
-fresh-stale ws ms subsumed may f s q = record { calm = λ u e m x h. q .calm u e m (s refl (key u) (at u e h)) h }
+-- so is its partner, and its atom is an atom of the program
+pub key-lt : (ws ms : List ℕ) → Table.Passed ws → (u : Step) → So (applies (getD ws 0 0) (view ws ms) u) → key u < 2048
+unfolding applies conditionHolds
+key-lt ws ms p u h = let w = simp and-iff at h in go (u .kind) (w .1 .0) (w .1 .1 .0)
   where
-    at : (u : Step) → u .kind ≡ subsumed → So (applies (getD ws 0 0) (view ws ms) u) → key u < getD ws 1 0
-    at u e h =
-        let w = applies-ask (getD ws 0 0) (view ws ms) u h .1 in
-        let v = subst (λ k. So (cond (usesPartner k) (entry (view ws ms) (u .partner) .kept && not (eqb (u .partner) (u .target))) (eqb (u .partner) 0))) e w in
-        let x : key u ≡ u .partner = ap (λ k. cond (usesPartner k) (u .partner) (u .atom)) e in
-        omega (arith, x, kept-lt (view ws ms) (u .partner) (and-iff (entry (view ws ms) (u .partner) .kept) (not (eqb (u .partner) (u .target))) .0 v .0), length-view ws ms)
+    partner : So (entry (view ws ms) (u .partner) .kept && not (eqb (u .partner) (u .target))) → u .partner < 2048
+    partner q = omega (arith, kept-lt (view ws ms) (u .partner) (and-iff (entry (view ws ms) (u .partner) .kept) (not (eqb (u .partner) (u .target))) .0 q .0), length-view ws ms, passed-limits ws p .fewClauses)
 
-to-fresh : (n : ℕ) (P : Marked) (k : Kind) (f g : ℕ → ℕ) → Quiet n P k f stale → Quiet n P k f g
-to-fresh n P k f g q = quiet-more n P k f stale q f g (λ i e. e) (λ i e. refl)
+    atom : So (ltb (u .atom) (getD ws 0 0)) → u .atom < 2048
+    atom q = omega (arith, ltb-true (u .atom) (getD ws 0 0) q, passed-limits ws p .fewAtoms)
 
--- a byte of the keys of kind 8, as seen through a kind's keys
-fresh-grown : (k : Kind) (may may' : List ℕ) → ((i : ℕ) → flags may' 9 i ≡ 0 → flags may 9 i ≡ 0) → (i : ℕ) → freshOf k may' i ≡ 0 → freshOf k may i ≡ 0
-fresh-grown tautology may may' h i e = e
-fresh-grown contradiction may may' h i e = e
-fresh-grown success may may' h i e = e
-fresh-grown noHead may may' h i e = e
-fresh-grown blocked may may' h i e = e
-fresh-grown failure may may' h i e = e
-fresh-grown loop may may' h i e = e
-fresh-grown subsumed may may' h i e = h i e
+    go : (k : Kind) → So (cond (usesPartner k) (entry (view ws ms) (u .partner) .kept && not (eqb (u .partner) (u .target))) (eqb (u .partner) 0)) → So (cond (usesAtom k) (ltb (u .atom) (getD ws 0 0)) (eqb (u .atom) 0))
+        → cond (usesPartner k) (u .partner) (u .atom) < 2048
+    go tautology a b = atom b
+    go contradiction a b = atom b
+    go noHead a b = atom b
+    go failure a b = atom b
+    go loop a b = atom b
+    go success a b = partner a
+    go blocked a b = partner a
+    go subsumed a b = partner a
+
+-- only flags of targets and keys below 2,048 count
+pub quiet-same : (ws ms : List ℕ) → Table.Passed ws → (k : Kind) (f g f' g' : ℕ → ℕ) → Quiet (getD ws 0 0) (view ws ms) k f g
+    → ((i : ℕ) → i < 2048 → f' i ≡ 0 → f i ≡ 0) → ((i : ℕ) → i < 2048 → g' i ≡ 0 → g i ≡ 0) → Quiet (getD ws 0 0) (view ws ms) k f' g'
+quiet-same ws ms p k f g f' g' q a b = record { calm = λ u e m x h. q .calm u e (a (u .target) (omega (arith, target-lt ws ms u h, passed-limits ws p .fewClauses)) m) (b (key u) (key-lt ws ms p u h) x) h }
 
 -- a kind that is not the loop's
 abbrev known : Kind → List ℕ → Type 0
-known k may = k ≡ loop → getD may 0 0 ≡ 0
+known k may = k ≡ loop → flags may 0 0 ≡ 0
 
 seven : (kind : ℕ) → 1 ≤ kind → kind ≤ 8 → kindOf kind ≡ loop → kind ≡ 7
 seven kind a b e = sym (kind-number kind a b) ∙ ap number e
 
-eight : (kind : ℕ) → 1 ≤ kind → kind ≤ 8 → kindOf kind ≡ subsumed → kind ≡ 8
-eight kind a b e = sym (kind-number kind a b) ∙ ap number e
+-- the rows of a kind
+row-low : (k : Kind) → number k ≤ 16
+row-low k = omega (arith, number-bounds k)
+
+row-high : (k : Kind) → 8 + number k ≤ 16
+row-high k = omega (arith, number-bounds k)
 
 module _ (ws ms start hs rs may : List ℕ) (z : State ws ms start hs rs may) where
   pub few-clauses : getD ws 1 0 ≤ 2048
@@ -95,110 +91,112 @@ module _ (ws ms start hs rs may : List ℕ) (z : State ws ms start hs rs may) wh
   known-of k h = record { heads = λ _. z .counted; reached = h }
 
   -- the searches' requirements
-  pub state-arrays : (kind : ℕ) → (kind ≡ 7 → getD may 0 0 ≡ 0) → Arrays ws ms start hs rs kind
+  pub state-arrays : (kind : ℕ) → (kind ≡ 7 → flags may 0 0 ≡ 0) → Arrays ws ms start hs rs kind
   state-arrays kind h = record { ready = z .ready; counted = z .counted; reached = λ e. z .reached (h e) }
 
-  pub state-calm : (kind : ℕ) → 1 ≤ kind → kind ≤ 8 → (kind ≡ 7 → getD may 0 0 ≡ 0) → (kind ≡ 8 → Settled may (getD ws 1 0)) → Calm ws ms may kind
+  pub state-calm : (kind : ℕ) → 1 ≤ kind → kind ≤ 8 → (kind ≡ 7 → flags may 0 0 ≡ 0) → Settled may kind → Calm ws ms may kind
   state-calm kind a b h s = record {
-    long = z .long;
-    quiet = fresh-stale ws ms (kindOf kind) may (flags may kind) (λ e. s (eight kind a b e))
-        (subst (λ j. Quiet (getD ws 0 0) (view ws ms) (kindOf kind) (flags may j) (freshOf (kindOf kind) may)) (kind-number kind a b) (z .quiet (kindOf kind) (λ e. h (seven kind a b e))));
+    rows = z .rows;
+    quiet = quiet-same ws ms (z .ready .placed .passed) (kindOf kind) (flags may kind) (flags may (8 + kind)) (flags may kind) stale
+        (subst (λ j. Quiet (getD ws 0 0) (view ws ms) (kindOf kind) (flags may j) (flags may (8 + j))) (kind-number kind a b) (z .quiet (kindOf kind) (λ e. h (seven kind a b e))))
+        (λ i l e. e) (λ i l e. s i l);
   }
+
+  -- other flags of the same words and marks
+  state-with : (may' : List ℕ) → Rows (getD ws 1 0) may' → (flags may' 0 0 ≡ 0 → flags may 0 0 ≡ 0)
+      → ((k : Kind) → known k may → Quiet (getD ws 0 0) (view ws ms) k (flags may (number k)) (flags may (8 + number k)) → Quiet (getD ws 0 0) (view ws ms) k (flags may' (number k)) (flags may' (8 + number k))) → State ws ms start hs rs may'
+  state-with may' r e q = record {
+    ready = z .ready;
+    counted = z .counted;
+    atoms = z .atoms;
+    bytes = z .bytes;
+    rows = r;
+    reached = λ h. z .reached (e h);
+    quiet = λ k h. q k (λ x. e (h x)) (z .quiet k (λ x. e (h x)));
+  }
+
+  same-at : (may' : List ℕ) (k : Kind) → ((i : ℕ) → i < 2048 → flags may' (number k) i ≡ 0 → flags may (number k) i ≡ 0) → ((i : ℕ) → i < 2048 → flags may' (8 + number k) i ≡ 0 → flags may (8 + number k) i ≡ 0)
+      → Quiet (getD ws 0 0) (view ws ms) k (flags may (number k)) (flags may (8 + number k)) → Quiet (getD ws 0 0) (view ws ms) k (flags may' (number k)) (flags may' (8 + number k))
+  same-at may' k a b q = quiet-same ws ms (z .ready .placed .passed) k (flags may (number k)) (flags may (8 + number k)) (flags may' (number k)) (flags may' (8 + number k)) q a b
+
+  -- after a flag or more: nothing is lost
+  pub state-raised : (may' : List ℕ) (row top : ℕ) → Raising may may' row top → (1 ≤ row → row ≤ 8 → top ≤ getD ws 1 0) → State ws ms start hs rs may'
+  state-raised may' row top g h = state-with may' (g .rows (getD ws 1 0) h (z .rows)) (λ e. g .grown 0 0 (omega arith) (omega arith) e)
+      (λ k _. same-at may' k (λ i l e. g .grown (number k) i (row-low k) l e) (λ i l e. g .grown (8 + number k) i (row-high k) l e))
+
+  -- after bounds were drawn closer
+  pub state-fenced : (may' : List ℕ) (row low end : ℕ) → Fenced may may' row low end → Inside may row low end → end ≤ 2048 → (row ≤ 8 → end ≤ getD ws 1 0) → State ws ms start hs rs may'
+  state-fenced may' row low end f n h g = state-with may' (f .rows (getD ws 1 0) (z .rows) n h g) (λ e. sym (f .same 0 0 (omega arith) (omega arith)) ∙ e)
+      (λ k _. same-at may' k (λ i l e. sym (f .same (number k) i (row-low k) l) ∙ e) (λ i l e. sym (f .same (8 + number k) i (row-high k) l) ∙ e))
 
   -- after a search
   pub state-swept : (may' : List ℕ) (kind : ℕ) → 1 ≤ kind → kind ≤ 8 → Swept ws ms may may' kind → State ws ms start hs rs may'
-  state-swept may' kind a b s = record {
-    ready = z .ready;
-    counted = z .counted;
-    atoms = z .atoms;
-    bytes = z .bytes;
-    long = s .calm .long;
-    reached = λ e. z .reached (sym zero-same ∙ e);
-    quiet = λ k h. by-cases (ℕ-discrete (number k) kind)
-        (λ e. to-fresh (getD ws 0 0) (view ws ms) k (flags may' (number k)) (freshOf k may')
-        (subst (λ j. Quiet (getD ws 0 0) (view ws ms) j (flags may' (number k)) stale) (ap kindOf (sym e) ∙ kindOf-number k)
-        (subst (λ j. Quiet (getD ws 0 0) (view ws ms) (kindOf kind) (flags may' j) stale) (sym e) (s .calm .quiet))))
-        (λ d. quiet-same ws ms few-clauses k (flags may (number k)) (freshOf k may) (flags may' (number k)) (freshOf k may') (z .quiet k (λ e. sym zero-same ∙ h e))
-        (λ i l e. sym (s .frame (number k * 2048 + i) (apart k i l d)) ∙ e)
-        (fresh-grown k may may' (λ i e. sym (s .frame (9 * 2048 + i) (inr (omega arith))) ∙ e)));
-  }
+  state-swept may' kind a b s = state-with may' (s .calm .rows) (λ e. sym (s .frame 0 (inl (omega arith))) ∙ e) (λ k _ q. by-cases (ℕ-discrete (number k) kind)
+      (λ e. quiet-more (getD ws 0 0) (view ws ms) k (flags may' (number k)) stale
+      (subst (λ j. Quiet (getD ws 0 0) (view ws ms) j (flags may' (number k)) stale) (ap kindOf (sym e) ∙ kindOf-number k)
+      (subst (λ j. Quiet (getD ws 0 0) (view ws ms) (kindOf kind) (flags may' j) stale) (sym e) (s .calm .quiet)))
+      (flags may' (number k)) (flags may' (8 + number k)) (λ i e. e) (λ i e. refl))
+      (λ d. same-at may' k (λ i l e. sym (s .frame (number k * 2048 + i) (aside (number k) i l d)) ∙ e)
+      (λ i l e. sym (s .frame ((8 + number k) * 2048 + i) (aside (8 + number k) i l (λ x. omega (arith, number-bounds k)))) ∙ e) q))
     where
-      zero-same : getD may' 0 0 ≡ getD may 0 0
-      zero-same = s .frame 0 (inl (omega arith))
+      aside : (r i : ℕ) → i < 2048 → r ≢ kind → (r * 2048 + i < kind * 2048) ⊎ (kind * 2048 + 2048 ≤ r * 2048 + i)
+      aside r i l d = by-cases (decLt r kind) (λ x. inl (omega arith)) (λ x. inr (omega arith))
 
-      apart : (k : Kind) (i : ℕ) → i < 2048 → number k ≢ kind → (number k * 2048 + i < kind * 2048) ⊎ (kind * 2048 + 2048 ≤ number k * 2048 + i)
-      apart k i l d = by-cases (decLt (number k) kind) (λ x. inl (omega arith)) (λ x. inr (omega arith))
+  -- a key spread
+  module _ (may' : List ℕ) (kind x : ℕ) (a : 1 ≤ kind) (b : kind ≤ 8) (l : x < 2048) (s : KeySpread ws ms may may' kind x) where
+    abbrev gone : List ℕ
+    gone = set may' ((8 + kind) * 2048 + x) 0
 
-  -- after a flag or more: nothing is lost
-  pub state-grown : (may' : List ℕ) → length may' ≡ length may → Grown may may' → State ws ms start hs rs may'
-  state-grown may' l g = record {
-    ready = z .ready;
-    counted = z .counted;
-    atoms = z .atoms;
-    bytes = z .bytes;
-    long = l ∙ z .long;
-    reached = λ e. z .reached (g 0 e);
-    quiet = λ k h. quiet-same ws ms few-clauses k (flags may (number k)) (freshOf k may) (flags may' (number k)) (freshOf k may') (z .quiet k (λ e. g 0 (h e))) (λ i _ e. g (number k * 2048 + i) e) (fresh-grown k may may' (λ i e. g (9 * 2048 + i) e));
-  }
+    elsewhere : (r i : ℕ) → i < 2048 → (r ≢ 8 + kind) ⊎ (i ≢ x) → flags gone r i ≡ flags may' r i
+    elsewhere r i k o = getD-set-other may' ((8 + kind) * 2048 + x) (r * 2048 + i) 0 0 (λ e. ⊎-elim (λ d. apart r (8 + kind) i x k l d e) (λ d. by-cases (ℕ-discrete r (8 + kind)) (λ q. d (omega arith)) (λ q. apart r (8 + kind) i x k l q e)) o)
 
-  -- a key of kind 8 spread
-  pub state-spread : (may' : List ℕ) (p : ℕ) → Spread ws ms may may' 8 p 0 → State ws ms start hs rs (set may' (18432 + p) 0)
-  unfolding condition
-  state-spread may' p s =
-      let y = state-grown may' (s .long) (s .grown) in
-      record {
-        ready = z .ready;
-        counted = z .counted;
-        atoms = z .atoms;
-        bytes = z .bytes;
-        long = simp length-set (y .long);
-        reached = λ e. y .reached (sym (other 0 (omega arith)) ∙ e);
-        quiet = λ k h. go k (y .quiet k (λ e. sym (other 0 (omega arith)) ∙ h e));
-      }
-    where
-      after : List ℕ
-      after = set may' (18432 + p) 0
+    after-spread : State ws ms start hs rs may'
+    after-spread = state-raised may' kind (getD ws 1 0) (s .raising) (λ _ _. omega arith)
 
-      other : (j : ℕ) → j < 18432 → getD after j 0 ≡ getD may' j 0
-      other j l = getD-set-other may' (18432 + p) j 0 0 (λ e. omega arith)
+    key-quiet : (k : Kind) → Quiet (getD ws 0 0) (view ws ms) k (flags may (number k)) (flags may (8 + number k)) → Quiet (getD ws 0 0) (view ws ms) k (flags gone (number k)) (flags gone (8 + number k))
+    key-quiet k q = by-cases (ℕ-discrete (number k) kind)
+        (λ e. quiet-same ws ms (z .ready .placed .passed) k (flags may' (number k)) (flags gone (8 + number k)) (flags gone (number k)) (flags gone (8 + number k))
+        (quiet-spread (getD ws 0 0) (view ws ms) k (flags may' (number k)) (flags may' (8 + number k)) (raised k q) (flags may' (number k)) (flags gone (8 + number k)) x (λ i e. e)
+        (λ i d h. by-cases (decLt i 2048) (λ j. sym (elsewhere (8 + number k) i j (inr d)) ∙ h)
+        (λ j. sym (getD-set-other may' ((8 + kind) * 2048 + x) ((8 + number k) * 2048 + i) 0 0 (λ y. omega arith)) ∙ h))
+        (λ u f d h. subst (λ r. flags may' r (u .target) ≢ 0) (sym e) (s .flagged u (f ∙ sym (kindOf-number k) ∙ ap kindOf e) d h)))
+        (λ i j h. sym (elsewhere (number k) i j (inl (λ y. omega (arith, number-bounds k)))) ∙ h) (λ i j h. h))
+        (λ d. same-with k (raised k q) (λ i j h. sym (elsewhere (number k) i j (inl (λ y. omega (arith, number-bounds k)))) ∙ h) (λ i j h. sym (elsewhere (8 + number k) i j (inl (λ y. d (omega arith)))) ∙ h))
+      where
+        raised : (k : Kind) → Quiet (getD ws 0 0) (view ws ms) k (flags may (number k)) (flags may (8 + number k)) → Quiet (getD ws 0 0) (view ws ms) k (flags may' (number k)) (flags may' (8 + number k))
+        raised k q = same-at may' k (λ i j e. s .raising .grown (number k) i (row-low k) j e) (λ i j e. s .raising .grown (8 + number k) i (row-high k) j e) q
 
-      plain : (k : Kind) → Quiet (getD ws 0 0) (view ws ms) k (flags may' (number k)) stale → Quiet (getD ws 0 0) (view ws ms) k (flags after (number k)) stale
-      plain k q = quiet-same ws ms few-clauses k (flags may' (number k)) stale (flags after (number k)) stale q (λ i l e. sym (other (number k * 2048 + i) (omega (arith, number-bounds k))) ∙ e) (λ i e. e)
+        same-with : (k : Kind) → Quiet (getD ws 0 0) (view ws ms) k (flags may' (number k)) (flags may' (8 + number k)) → ((i : ℕ) → i < 2048 → flags gone (number k) i ≡ 0 → flags may' (number k) i ≡ 0)
+            → ((i : ℕ) → i < 2048 → flags gone (8 + number k) i ≡ 0 → flags may' (8 + number k) i ≡ 0) → Quiet (getD ws 0 0) (view ws ms) k (flags gone (number k)) (flags gone (8 + number k))
+        same-with k q c d = quiet-same ws ms (z .ready .placed .passed) k (flags may' (number k)) (flags may' (8 + number k)) (flags gone (number k)) (flags gone (8 + number k)) q c d
 
-      last : Quiet (getD ws 0 0) (view ws ms) subsumed (flags may' 8) (flags may' 9) → Quiet (getD ws 0 0) (view ws ms) subsumed (flags after 8) (flags after 9)
-      last q = quiet-same ws ms few-clauses subsumed (flags may' 8) (flags after 9) (flags after 8) (flags after 9)
-          (quiet-spread (getD ws 0 0) (view ws ms) subsumed (flags may' 8) (flags may' 9) q (flags may' 8) (flags after 9) p (λ i e. e)
-          (λ i d e. sym (getD-set-other may' (18432 + p) (9 * 2048 + i) 0 0 (λ x. d (omega arith))) ∙ e)
-          (λ u e d h. s .flagged (u .target) (target-lt ws ms u h) (fits u e d h)))
-          (λ i l e. sym (other (8 * 2048 + i) (omega arith)) ∙ e) (λ i e. e)
-        where
-          fits : (u : Step) → u .kind ≡ subsumed → key u ≡ p → So (applies (getD ws 0 0) (view ws ms) u)
-              → So (condition subsumed (left (view ws ms)) (entry (view ws ms) (u .target) .clause) (entry (view ws ms) p .clause) 0)
-          fits u e d h =
-              let x : u .partner ≡ p = sym (ap (λ k. cond (usesPartner k) (u .partner) (u .atom)) e) ∙ d in
-              subst (λ q. So (condition subsumed (left (view ws ms)) (entry (view ws ms) (u .target) .clause) (entry (view ws ms) q .clause) 0)) x
-              (subst (λ k. So (condition k (left (view ws ms)) (entry (view ws ms) (u .target) .clause) (entry (view ws ms) (u .partner) .clause) (u .atom))) e (applies-ask (getD ws 0 0) (view ws ms) u h .2))
+    pub key-passed : KeyPassed ws ms start hs rs may gone kind x
+    key-passed = record {
+      state = state-with gone (rows-clear may' (8 + kind) x (omega arith) l (getD ws 1 0) (after-spread .rows))
+          (λ e. s .raising .grown 0 0 (omega arith) (omega arith) (sym (elsewhere 0 0 (omega arith) (inl (λ y. omega arith))) ∙ e)) (λ k _. key-quiet k);
+      long = simp length-set (s .raising .long);
+      reach = elsewhere 0 0 (omega arith) (inl (λ y. omega arith)) ∙ s .raising .frame 0 0 (omega arith) (omega arith) (λ e. omega arith);
+      gone = getD-set-same may' ((8 + kind) * 2048 + x) 0 0 (omega (arith, after-spread .rows .long));
+      rest = λ i k d. elsewhere (8 + kind) i k (inr d) ∙ s .raising .frame (8 + kind) i (omega arith) k (λ e. omega arith);
+    }
 
-      go : (k : Kind) → Quiet (getD ws 0 0) (view ws ms) k (flags may' (number k)) (freshOf k may') → Quiet (getD ws 0 0) (view ws ms) k (flags after (number k)) (freshOf k after)
-      go tautology q = plain tautology q
-      go contradiction q = plain contradiction q
-      go success q = plain success q
-      go noHead q = plain noHead q
-      go blocked q = plain blocked q
-      go failure q = plain failure q
-      go loop q = plain loop q
-      go subsumed q = last q
+  -- a key that was not fresh
+  pub key-stale : (kind x : ℕ) → flags may (8 + kind) x ≡ 0 → KeyPassed ws ms start hs rs may may kind x
+  key-stale kind x e = record { state = z; long = refl; reach = refl; gone = e; rest = λ i l d. refl }
 
   -- the reach found anew, and every target of kind 7 flagged
-  pub state-reached : (rs' may' : List ℕ) → Reached ws ms rs' → length rs' ≡ length rs → length may' ≡ length may → Grown may may' → AllFlagged may' 7 (getD ws 1 0) → State ws ms start hs rs' (set may' 0 0)
-  state-reached rs' may' r lr lm g f = record {
+  pub state-reached : (rs' may' : List ℕ) → Reached ws ms rs' → length rs' ≡ length rs → Raising may may' 7 (getD ws 1 0) → AllFlagged may' 7 (getD ws 1 0) → State ws ms start hs rs' (set may' 0 0)
+  state-reached rs' may' r lr g f = record {
     ready = z .ready;
     counted = z .counted;
     atoms = z .atoms;
     bytes = omega (arith, z .bytes);
-    long = simp length-set (lm ∙ z .long);
+    rows = rows-clear may' 0 0 (omega arith) (omega arith) (getD ws 1 0) (g .rows (getD ws 1 0) (λ _ _. omega arith) (z .rows));
     reached = λ _. r;
-    quiet = λ k h. go k;
+    quiet = λ k h. by-cases (ℕ-discrete (number k) 7)
+        (λ e. quiet-all (getD ws 0 0) (view ws ms) k (flags after (number k)) (flags after (8 + number k)) (λ u h x. f (u .target) (target-lt ws ms u h) (sym (other (7 * 2048 + u .target) (omega arith)) ∙ subst (λ j. flags after j (u .target) ≡ 0) e x)))
+        (λ d. same-at after k (λ i l e. g .grown (number k) i (row-low k) l (sym (other (number k * 2048 + i) (omega (arith, number-bounds k))) ∙ e))
+        (λ i l e. g .grown (8 + number k) i (row-high k) l (sym (other ((8 + number k) * 2048 + i) (omega (arith, number-bounds k))) ∙ e)) (z .quiet k (λ e. absurd (d (ap number e)))));
   }
     where
       after : List ℕ
@@ -207,23 +205,51 @@ module _ (ws ms start hs rs may : List ℕ) (z : State ws ms start hs rs may) wh
       other : (j : ℕ) → 0 < j → getD after j 0 ≡ getD may' j 0
       other j l = getD-set-other may' 0 j 0 0 (λ e. omega arith)
 
-      rest : (k : Kind) → known k may → Quiet (getD ws 0 0) (view ws ms) k (flags after (number k)) (freshOf k after)
-      rest k h = quiet-same ws ms few-clauses k (flags may (number k)) (freshOf k may) (flags after (number k)) (freshOf k after) (z .quiet k h)
-          (λ i l e. g (number k * 2048 + i) (sym (other (number k * 2048 + i) (omega (arith, number-bounds k))) ∙ e))
-          (fresh-grown k may after (λ i e. g (9 * 2048 + i) (sym (other (9 * 2048 + i) (omega arith)) ∙ e)))
+-- what a kind with a partner asks of the whole program: nothing
+pub partner-known : (ws ms start hs rs may : List ℕ) → State ws ms start hs rs may → (kind : ℕ) → So (usesPartner (kindOf kind)) → Known (kindOf kind) ws ms hs rs
+partner-known ws ms start hs rs may z kind p = known-of ws ms start hs rs may z (kindOf kind) (λ h. absurd (no (kindOf kind) p h))
+  where
+    no : (k : Kind) → So (usesPartner k) → ¬ So (Rattle.conditions.specs.Known.asksReach k)
+    no loop a b = false≢true a
+    no tautology a b = false≢true b
+    no contradiction a b = false≢true b
+    no success a b = false≢true b
+    no noHead a b = false≢true b
+    no blocked a b = false≢true b
+    no failure a b = false≢true b
+    no subsumed a b = false≢true b
 
-      never : (k : Kind) → number k ≢ 7 → known k may
-      never k d e = absurd (d (ap number e))
+-- ---- the keys of a kind, one after the other
 
-      go : (k : Kind) → Quiet (getD ws 0 0) (view ws ms) k (flags after (number k)) (freshOf k after)
-      go tautology = rest tautology (never tautology (λ e. omega arith))
-      go contradiction = rest contradiction (never contradiction (λ e. omega arith))
-      go success = rest success (never success (λ e. omega arith))
-      go noHead = rest noHead (never noHead (λ e. omega arith))
-      go blocked = rest blocked (never blocked (λ e. omega arith))
-      go failure = rest failure (never failure (λ e. omega arith))
-      go subsumed = rest subsumed (never subsumed (λ e. omega arith))
-      go loop = quiet-all (getD ws 0 0) (view ws ms) loop (flags after 7) stale (λ u h e. f (u .target) (target-lt ws ms u h) (sym (other (7 * 2048 + u .target) (omega arith)) ∙ e))
+-- the keys below x are fresh no more
+pub record Settling (ws ms start hs rs may may' : List ℕ) (kind x end : ℕ) : Type 0 where
+  pub state : State ws ms start hs rs may'
+  pub long : length may' ≡ length may
+  pub inside : Inside may' (8 + kind) x end
+  pub reach : flags may 0 0 ≡ 0 → flags may' 0 0 ≡ 0
+
+pub settling-none : (ws ms start hs rs may : List ℕ) (kind low end : ℕ) → State ws ms start hs rs may → Inside may (8 + kind) low end → Settling ws ms start hs rs may may kind low end
+settling-none ws ms start hs rs may kind low end z w = record { state = z; long = refl; inside = w; reach = λ e. e }
+
+module _ (ws ms start hs rs may may' : List ℕ) (kind x end : ℕ) (s : Settling ws ms start hs rs may may' kind x end) where
+  pub settling-on : (may'' : List ℕ) → KeyPassed ws ms start hs rs may' may'' kind x → Settling ws ms start hs rs may may'' kind (x + 1) end
+  settling-on may'' k = record {
+    state = k .state;
+    long = k .long ∙ s .long;
+    inside = λ i l f. by-cases (ℕ-discrete i x) (λ d. absurd (f (subst (λ j. flags may'' (8 + kind) j ≡ 0) (sym d) (k .gone))))
+        (λ d. let q = s .inside i l (λ e. f (k .rest i l d ∙ e)) in (omega arith, q .1));
+    reach = λ e. k .reach ∙ s .reach e;
+  }
+
+  pub settling-end : 1 ≤ kind → kind ≤ 8 → end ≤ 2048 → end ≤ x → (may'' : List ℕ) → Fenced may' may'' (8 + kind) end end
+      → State ws ms start hs rs may'' × (Settled may'' kind × (flags may 0 0 ≡ 0 → flags may'' 0 0 ≡ 0))
+  settling-end a b c l may'' f = (
+    state-fenced ws ms start hs rs may' (s .state) may'' (8 + kind) end end f (λ i k h. let q = s .inside i k h in absurd (omega arith)) c (λ h. absurd (omega arith)),
+    (
+      λ y k. f .same (8 + kind) y (omega arith) k ∙ outside may' (8 + kind) x end y (s .inside) k (λ p q. omega arith),
+      λ e. f .same 0 0 (omega arith) (omega arith) ∙ s .reach e,
+    ),
+  )
 
 -- ---- kinds in order
 
@@ -286,8 +312,10 @@ module _ (ws ms start hs rs may : List ℕ) (kind : ℕ) (p : Prepared ws ms sta
   pub prepared-calm : Calm ws ms may kind
   prepared-calm = state-calm ws ms start hs rs may (p .state) kind a b (p .known) (p .settled)
 
-  pub prepared-swept : (may' : List ℕ) → Swept ws ms may may' kind → State ws ms start hs rs may'
-  prepared-swept may' s = state-swept ws ms start hs rs may (p .state) may' kind a b s
+  -- the search, then the row's bounds drawn closer
+  pub prepared-swept : (may' may'' : List ℕ) (low end : ℕ) → Swept ws ms may may' kind → Inside may' kind low end → end ≡ highest may kind → Fenced may' may'' kind low end → State ws ms start hs rs may''
+  prepared-swept may' may'' low end s n e f = state-fenced ws ms start hs rs may' (state-swept ws ms start hs rs may (p .state) may' kind a b s) may'' kind low end f n
+      (omega (arith, p .state .rows .high kind a (omega arith))) (λ _. omega (arith, p .state .rows .few kind a b))
 
 pub found-one : (f : Found) (s : row.Step) → f ≡ One s → f ≢ Nothing
 found-one f s e d = let q : _≡_ {A = ℕ} 0 1 = cc in omega arith

@@ -37,10 +37,12 @@ use Rattle.reach.specs.Bytes.{inBytes}
 use Rattle.conditions.specs.Known.{headCount}
 use Rattle.search.specs.declared.Found.{Found}
 use Rattle.search.specs.declared.Found.the-variants.{One, Nothing}
-use Rattle.search.specs.Flags.{flags}
+use Rattle.conditions.specs.declared.Step as row
+use Rattle.search.specs.Flags.{flags, Inside, Rows}
 use Rattle.search.specs.Kinds.{PartnerKind, AtomKind, walkedPart}
-use Rattle.search.specs.State.{foundOf, Arrays, Calm, Swept, Walk, Partners}
+use Rattle.search.specs.State.{foundOf, stoppedAt, Arrays, Calm, Swept, Walk, Partners}
 use Rattle.search.proofs.Fits.{kind-number, words-below}
+use Rattle.search.proofs.Flags.{outside, rows-clear}
 
 -- ---- kinds with an atom, by their numbers
 
@@ -163,31 +165,54 @@ module _ (ws ms : List ℕ) (kind t e : ℕ) (q : Partners ws ms t e) (k : Partn
 pub swept-none : (ws ms may : List ℕ) (kind : ℕ) → Calm ws ms may kind → Swept ws ms may may kind
 swept-none ws ms may kind c = record { calm = c; frame = λ j _. refl }
 
-module _ (ws ms may may' : List ℕ) (kind : ℕ) (s : Swept ws ms may may' kind) (t : ℕ) (l : t < 2048) where
+module _ (ws ms may may' : List ℕ) (kind : ℕ) (s : Swept ws ms may may' kind) where
   -- a target without a flag has no step
-  pub swept-over : getD may' (kind * 2048 + t) 0 ≡ 0 → firstPartner (getD ws 0 0) (view ws ms) (kindOf kind) t ≡ none
-  swept-over e = quiet-target (getD ws 0 0) (view ws ms) (kindOf kind) (flags may' kind) stale (s .calm .quiet) (λ x. refl) t e
+  pub swept-over : (t : ℕ) → getD may' (kind * 2048 + t) 0 ≡ 0 → firstPartner (getD ws 0 0) (view ws ms) (kindOf kind) t ≡ none
+  swept-over t e = quiet-target (getD ws 0 0) (view ws ms) (kindOf kind) (flags may' kind) stale (s .calm .quiet) (λ x. refl) t e
 
   -- a target that has no step loses its flag
-  pub swept-clear : firstPartner (getD ws 0 0) (view ws ms) (kindOf kind) t ≡ none → Swept ws ms may (set may' (kind * 2048 + t) 0) kind
-  swept-clear e = record {
+  pub swept-clear : kind ≤ 16 → (t : ℕ) → t < 2048 → firstPartner (getD ws 0 0) (view ws ms) (kindOf kind) t ≡ none → Swept ws ms may (set may' (kind * 2048 + t) 0) kind
+  swept-clear h t l e = record {
     calm = record {
-      long = simp length-set (s .calm .long);
+      rows = rows-clear may' kind t h l (getD ws 1 0) (s .calm .rows);
       quiet = quiet-clear (getD ws 0 0) (view ws ms) (kindOf kind) (flags may' kind) stale (s .calm .quiet) (flags (set may' (kind * 2048 + t) 0) kind) t
           (λ i d z. sym (getD-set-other may' (kind * 2048 + t) (kind * 2048 + i) 0 0 (λ q. d (omega arith))) ∙ z) e;
     };
     frame = λ j o. getD-set-other may' (kind * 2048 + t) j 0 0 (λ z. ⊎-elim (λ x. omega arith) (λ x. omega arith) o) ∙ s .frame j o;
   }
 
-module _ (ws ms : List ℕ) (kind m : ℕ) (e : m ≡ getD ws 1 0) where
-  pub targets-end : (t : ℕ) → m ≤ t → Before (getD ws 0 0) (view ws ms) (kindOf kind) t → Nothing ≡ foundOf (firstTarget (getD ws 0 0) (view ws ms) (kindOf kind))
-  unfolding foundOf
-  targets-end t l b = sym (ap foundOf (search-end (getD ws 0 0) (view ws ms) (kindOf kind) (λ j i. b j (omega (arith, length-view ws ms)))))
+  module _ (t end : ℕ) (w : Inside may' kind t end) (few : getD ws 1 0 ≤ 2048) where
+    -- the targets before the row's first flag have no step
+    pub swept-before : t ≤ getD ws 1 0 → Before (getD ws 0 0) (view ws ms) (kindOf kind) t
+    swept-before l j k = swept-over j (outside may' kind t end j w (omega arith) (λ a b. omega arith))
 
-  pub targets-hit : 1 ≤ kind → kind ≤ 8 → (t p a : ℕ) → t < m → Before (getD ws 0 0) (view ws ms) (kindOf kind) t
+    -- nor has any where the row has no flag
+    pub swept-all : end ≤ t → Before (getD ws 0 0) (view ws ms) (kindOf kind) (getD ws 1 0)
+    swept-all l j k = swept-over j (outside may' kind t end j w (omega arith) (λ a b. omega arith))
+
+module _ (ws ms : List ℕ) (kind : ℕ) where
+  pub targets-end : Before (getD ws 0 0) (view ws ms) (kindOf kind) (getD ws 1 0) → Nothing ≡ foundOf (firstTarget (getD ws 0 0) (view ws ms) (kindOf kind))
+  unfolding foundOf
+  targets-end b = sym (ap foundOf (search-end (getD ws 0 0) (view ws ms) (kindOf kind) (λ j i. b j (omega (arith, length-view ws ms)))))
+
+  pub targets-hit : 1 ≤ kind → kind ≤ 8 → (t p a : ℕ) → t < getD ws 1 0 → Before (getD ws 0 0) (view ws ms) (kindOf kind) t
       → firstPartner (getD ws 0 0) (view ws ms) (kindOf kind) t ≡ some (step (kindOf kind) t p a)
       → One (record { kind = kind; target = t; partner = p; atom = a }) ≡ foundOf (firstTarget (getD ws 0 0) (view ws ms) (kindOf kind))
   unfolding foundOf
   targets-hit x y t p a l b f =
       ap (λ z. One (record { kind = z; target = t; partner = p; atom = a })) (sym (kind-number kind x y))
       ∙ sym (ap foundOf (search-hit (getD ws 0 0) (view ws ms) (kindOf kind) t (step (kindOf kind) t p a) (omega (arith, length-view ws ms)) f b))
+
+-- where a search stopped
+pub stopped-one : (f : Found) (s : row.Step) (end : ℕ) → f ≡ One s → stoppedAt f end ≡ s .target
+unfolding stoppedAt
+stopped-one f s end e = ap (λ g. stoppedAt g end) e
+
+module _ (may : List ℕ) (kind t end : ℕ) (w : Inside may kind t end) where
+  pub stopped-there : (f : Found) (s : row.Step) → f ≡ One s → s .target ≡ t → Inside may kind (stoppedAt f end) end
+  unfolding stoppedAt
+  stopped-there f s e q = subst (λ g. Inside may kind (stoppedAt g end) end) (sym e) (subst (λ x. Inside may kind x end) (sym q) w)
+
+  pub stopped-end : (f : Found) → f ≡ Nothing → end ≤ t → Inside may kind (stoppedAt f end) end
+  unfolding stoppedAt
+  stopped-end f e l = subst (λ g. Inside may kind (stoppedAt g end) end) (sym e) (λ i k h. let q = w i k h in absurd (omega arith))

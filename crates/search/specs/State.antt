@@ -10,14 +10,14 @@ use Rattle.rewriting.specs.Marked.{Marked, entry, left}
 use Rattle.rewriting.specs.Steps.{condition, Kind, tautology, contradiction, success, noHead, blocked, failure, loop, subsumed, number, kindOf, Step, step, applies}
 use Rattle.rewriting.specs.Reducer.{firstPartner}
 use Rattle.rewriting.proofs.Order.{firstIn, asked}
-use Rattle.rewriting.proofs.Quiet.{Quiet, stale}
+use Rattle.rewriting.proofs.Quiet.{Quiet, stale, key}
 use Rattle.table.specs.View.{view, part}
 use Rattle.parts.specs.Parts.{Ready}
 use Rattle.reach.specs.Bytes.{Reached}
 use Rattle.conditions.specs.Known.{Heads}
 use Rattle.search.specs.declared.Found.{Found}
 use Rattle.search.specs.declared.Found.the-variants.{One, Nothing}
-use Rattle.search.specs.Flags.{flags, Grown}
+use Rattle.search.specs.Flags.{flags, Inside, Rows, Raising}
 
 -- a step as the search gives it
 unfoldable pub foundOf : Option Step → Found
@@ -32,13 +32,18 @@ pub record Arrays (ws ms start hs rs : List ℕ) (kind : ℕ) : Type 0 where
 
 -- A target of the kind without a flag has no step.
 pub record Calm (ws ms may : List ℕ) (kind : ℕ) : Type 0 where
-  pub long : length may ≡ 20480
+  pub rows : Rows (getD ws 1 0) may
   pub quiet : Quiet (getD ws 0 0) (view ws ms) (kindOf kind) (flags may kind) stale
 
--- A search of the kind cleared flags of its own, and no other byte changed.
+-- A search of the kind cleared flags of its own, and nothing else changed.
 pub record Swept (ws ms may may' : List ℕ) (kind : ℕ) : Type 0 where
   pub calm : Calm ws ms may' kind
   pub frame : (j : ℕ) → (j < kind * 2048) ⊎ (kind * 2048 + 2048 ≤ j) → getD may' j 0 ≡ getD may j 0
+
+-- where a search stopped: at the target found, or at the end
+unfoldable pub stoppedAt : Found → ℕ → ℕ
+stoppedAt (One s) end = s .target
+stoppedAt Nothing end = end
 
 -- What is left of the walk in clause t: the words from i up to e.
 pub record Walk (ws ms : List ℕ) (kind t i e : ℕ) : Type 0 where
@@ -54,41 +59,41 @@ pub record Partners (ws ms : List ℕ) (t e : ℕ) : Type 0 where
   pub kept : 0 < e → So (entry (view ws ms) t .kept)
   pub all : So (entry (view ws ms) t .kept) → e ≡ getD ws 1 0
 
--- Every target whose condition holds with the partner p and the atom is flagged, and no flag is lost.
+-- Every target that has a step with the partner p and the atom is flagged.
 pub record Spread (ws ms may may' : List ℕ) (kind p a : ℕ) : Type 0 where
-  pub grown : Grown may may'
-  pub long : length may' ≡ length may
-  pub flagged : (t : ℕ) → t < getD ws 1 0 → So (condition (kindOf kind) (left (view ws ms)) (entry (view ws ms) t .clause) (entry (view ws ms) p .clause) a) → flags may' kind t ≢ 0
-  pub frame : (j : ℕ) → (j < kind * 2048) ⊎ (kind * 2048 + 2048 ≤ j) → getD may' j 0 ≡ getD may j 0
+  pub raising : Raising may may' kind (getD ws 1 0)
+  pub flagged : (t : ℕ) → So (applies (getD ws 0 0) (view ws ms) (step (kindOf kind) t p a)) → flags may' kind t ≢ 0
 
--- the clauses that may have become partners of kind 8 are flagged from 9 times 2,048 on; other kinds have no such keys
-abbrev pub freshOf : Kind → List ℕ → ℕ → ℕ
-freshOf tautology may = stale
-freshOf contradiction may = stale
-freshOf success may = stale
-freshOf noHead may = stale
-freshOf blocked may = stale
-freshOf failure may = stale
-freshOf loop may = stale
-freshOf subsumed may = flags may 9
+-- The same by the key: what a step names beside its target, the partner or the atom.
+pub record KeySpread (ws ms may may' : List ℕ) (kind x : ℕ) : Type 0 where
+  pub raising : Raising may may' kind (getD ws 1 0)
+  pub flagged : (u : Step) → u .kind ≡ kindOf kind → key u ≡ x → So (applies (getD ws 0 0) (view ws ms) u) → flags may' kind (u .target) ≢ 0
 
--- no clause is such a key
+-- no key of the kind is fresh
 abbrev pub Settled : List ℕ → ℕ → Type 0
-Settled may m = (p : ℕ) → p < m → flags may 9 p ≡ 0
+Settled may kind = (x : ℕ) → x < 2048 → flags may (8 + kind) x ≡ 0
 
 -- Between two steps: the arrays are what the words and the marks say, and no step is open but those at flagged targets and fresh keys.
--- The reach is that of the program while the first flag is 0.
+-- The reach is that of the program while its flag is 0.
 pub record State (ws ms start hs rs may : List ℕ) : Type 0 where
   pub ready : Ready ws ms start
   pub counted : Heads ws ms hs
   pub atoms : getD ws 0 0 ≤ length hs
   pub bytes : getD ws 0 0 ≤ length rs
-  pub long : length may ≡ 20480
-  pub reached : getD may 0 0 ≡ 0 → Reached ws ms rs
-  pub quiet : (k : Kind) → (k ≡ loop → getD may 0 0 ≡ 0) → Quiet (getD ws 0 0) (view ws ms) k (flags may (number k)) (freshOf k may)
+  pub rows : Rows (getD ws 1 0) may
+  pub reached : flags may 0 0 ≡ 0 → Reached ws ms rs
+  pub quiet : (k : Kind) → (k ≡ loop → flags may 0 0 ≡ 0) → Quiet (getD ws 0 0) (view ws ms) k (flags may (number k)) (flags may (8 + number k))
+
+-- One key is no longer fresh, and the others stay as they were.
+pub record KeyPassed (ws ms start hs rs may may' : List ℕ) (kind x : ℕ) : Type 0 where
+  pub state : State ws ms start hs rs may'
+  pub long : length may' ≡ length may
+  pub reach : flags may' 0 0 ≡ flags may 0 0
+  pub gone : flags may' (8 + kind) x ≡ 0
+  pub rest : (i : ℕ) → i < 2048 → i ≢ x → flags may' (8 + kind) i ≡ flags may (8 + kind) i
 
 -- The search of a kind can begin.
 pub record Prepared (ws ms start hs rs may : List ℕ) (kind : ℕ) : Type 0 where
   pub state : State ws ms start hs rs may
-  pub known : kind ≡ 7 → getD may 0 0 ≡ 0
-  pub settled : kind ≡ 8 → Settled may (getD ws 1 0)
+  pub known : kind ≡ 7 → flags may 0 0 ≡ 0
+  pub settled : Settled may kind

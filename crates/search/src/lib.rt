@@ -3,20 +3,21 @@ ghost use mathlib.Core.Path.{_≡_};
 ghost use mathlib.Core.Bool.{So, _&&_};
 ghost use Prim.Native.Nat.{ℕ, _+_, _-_, _*_, _≤_, _<_};
 ghost use lib.Dec.{eqb};
-ghost use lib.ListN.{length, getD, replicate};
+ghost use lib.ListN.{length, getD, set, replicate};
 ghost use Rattle.semantics.specs.Lists.{all};
 ghost use Rattle.rewriting.specs.Marked.{entry, left};
 ghost use Rattle.rewriting.specs.Steps.{usesPartner, fact, single, step, kindOf, condition, applies};
 ghost use Rattle.table.specs.View.{view, kept-of};
 ghost use Rattle.parts.specs.Parts.{partOf, Ready};
 ghost use Rattle.search.specs.Stamps.{stamped, isStamped, allStamped, Stamps, Below};
-ghost use Rattle.search.specs.Flags.{Grown, AllFlagged};
+ghost use mathlib.Core.Logic.{_≢_, _⊎_};
+ghost use Rattle.search.specs.Flags.{flags, lowest, highest, Inside, Raising, AllFlagged, Fenced};
 ghost use Rattle.rewriting.specs.Reducer.{firstTarget};
 ghost use Rattle.rewriting.proofs.Order.{asked, walked};
 ghost use Rattle.search.specs.Kinds.{PartnerKind, AtomKind, walkedPart};
 ghost use Rattle.rewriting.specs.Reducer.{firstStep};
 ghost use Rattle.conditions.specs.Known.{Known};
-ghost use Rattle.search.specs.State.{Arrays, Walk, Partners, Calm, Swept, Spread, State, Settled, Prepared, foundOf};
+ghost use Rattle.search.specs.State.{Arrays, Walk, Partners, Calm, Swept, Spread, KeySpread, KeyPassed, State, Settled, Prepared, foundOf, stoppedAt};
 use conditions::Step;
 use parts::Bounds;
 use parts::Part;
@@ -206,17 +207,82 @@ fn partner_applies(
     partner_fits(words, marks, start, stamps, kind, t, p)
 }
 
-// ---- flags: one byte a kind and target
+// ---- flags: a row for each kind's targets, then for each kind's keys
 
-// Flags every target of a kind.
-pub fn flag_all(may: &mut [u8], kind: usize, m: usize)
-    requires { ⌜ (kind ≤ 9) × ((m ≤ 2048) × (length (now may) ≡ 20480)) ⌝ }
-    ensures { λ _. ⌜ Grown (now (may .entry)) (now (may .exit)) × AllFlagged (now (may .exit)) kind m ⌝ }
+// Where the rows' bounds stand, and the length of all.
+const LOWEST: usize = 34816;
+
+const HIGHEST: usize = 34833;
+
+pub const FLAGS: usize = 34850;
+
+fn lesser(a: usize, b: usize) -> usize
+    ensures { λ r. ⌜ (r ≤ a) × ((r ≤ b) × ((r ≡ a) ⊎ (r ≡ b))) ⌝ }
 {
-    let base = kind * 2048;
-    for t in 0..m {
-        may[base + t] = 1;
+    if a < b { a } else { b }
+}
+
+fn greater(a: usize, b: usize) -> usize
+    ensures { λ r. ⌜ (a ≤ r) × ((b ≤ r) × ((r ≡ a) ⊎ (r ≡ b))) ⌝ }
+{
+    if a < b { b } else { a }
+}
+
+// One flag more, within the row's bounds.
+pub fn flag(may: &mut [u16], row: usize, i: usize)
+    requires { ⌜ (row ≤ 16) × ((i < 2048) × (length (now may) ≡ 34850)) ⌝ }
+    ensures { λ _. ⌜ Raising (now (may .entry)) (now (may .exit)) row (i + 1) × (flags (now (may .exit)) row i ≢ 0) ⌝ }
+{
+    let low = lesser(i, table::wide(may[LOWEST + row]));
+    let high = greater(i + 1, table::wide(may[HIGHEST + row]));
+    may[row * 2048 + i] = 1;
+    may[LOWEST + row] = narrow(low);
+    may[HIGHEST + row] = narrow(high);
+}
+
+// Every place of a row below a number is flagged.
+pub fn flag_all(may: &mut [u16], row: usize, top: usize)
+    requires { ⌜ (row ≤ 16) × ((top ≤ 2048) × (length (now may) ≡ 34850)) ⌝ }
+    ensures { λ _. ⌜ Raising (now (may .entry)) (now (may .exit)) row top × AllFlagged (now (may .exit)) row top ⌝ }
+{
+    for i in 0..top {
+        flag(may, row, i);
     }
+}
+
+fn lowest_of(may: &[u16], row: usize) -> usize
+    requires { ⌜ (row ≤ 16) × (length (now may) ≡ 34850) ⌝ }
+    ensures { λ r. ⌜ r ≡ lowest (now (may .entry)) row ⌝ }
+{
+    table::wide(may[LOWEST + row])
+}
+
+fn highest_of(may: &[u16], row: usize) -> usize
+    requires { ⌜ (row ≤ 16) × (length (now may) ≡ 34850) ⌝ }
+    ensures { λ r. ⌜ r ≡ highest (now (may .entry)) row ⌝ }
+{
+    table::wide(may[HIGHEST + row])
+}
+
+// A row's bounds.
+fn bound(may: &mut [u16], row: usize, low: usize, end: usize)
+    requires { ⌜ (row ≤ 16) × ((length (now may) ≡ 34850) × ((low ≤ 2048) × (end ≤ 2048))) ⌝ }
+    ensures { λ _. ⌜ now (may .exit) ≡ set (set (now (may .entry)) (34816 + row) low) (34833 + row) end ⌝ }
+{
+    may[LOWEST + row] = narrow(low);
+    may[HIGHEST + row] = narrow(end);
+}
+
+// A row's bounds are drawn closer.
+fn fence(may: &mut [u16], row: usize, low: usize, end: usize)
+    requires { ⌜ (row ≤ 16) × ((length (now may) ≡ 34850) × (end ≤ 2048)) ⌝ }
+    ensures { λ _. ⌜ Fenced (now (may .entry)) (now (may .exit)) row low end ⌝ }
+{
+    if end <= low {
+        bound(may, row, 2048, 0);
+        return;
+    }
+    bound(may, row, low, end);
 }
 
 // ---- the search of a kind with an atom
@@ -298,16 +364,17 @@ pub fn first_by_atom(
     start: &[u16],
     heads: &[u16],
     reach: &[u8],
-    may: &mut [u8],
+    may: &mut [u16],
     kind: u16,
-    m: usize,
+    low: usize,
+    end: usize,
 ) -> Found
-    requires { ⌜ (Arrays (now words) (now marks) (now start) (now heads) (now reach) kind) × ((m ≡ getD (now words) 1 0) × ((AtomKind kind) × (Calm (now words) (now marks) (now may) kind))) ⌝ }
-    ensures { λ r. ⌜ (r ≡ foundOf (firstTarget (getD (now (words .entry)) 0 0) (view (now (words .entry)) (now (marks .entry))) (kindOf kind))) × Swept (now (words .entry)) (now (marks .entry)) (now (may .entry)) (now (may .exit)) kind ⌝ }
+    requires { ⌜ (Arrays (now words) (now marks) (now start) (now heads) (now reach) kind) × ((end ≤ getD (now words) 1 0) × ((AtomKind kind) × ((Calm (now words) (now marks) (now may) kind) × Inside (now may) kind low end))) ⌝ }
+    ensures { λ r. ⌜ (r ≡ foundOf (firstTarget (getD (now (words .entry)) 0 0) (view (now (words .entry)) (now (marks .entry))) (kindOf kind))) × (Swept (now (words .entry)) (now (marks .entry)) (now (may .entry)) (now (may .exit)) kind × Inside (now (may .exit)) kind (stoppedAt r end) end) ⌝ }
 {
     let base = table::wide(kind) * 2048;
     let mut found = Found::Nothing;
-    'search: for t in 0..m {
+    'search: for t in low..end {
         if may[base + t] != 0 {
             let w = walk(words, marks, start, kind, t);
             let e = w.end;
@@ -326,12 +393,12 @@ pub fn first_by_atom(
 // ---- the search of a kind with a partner
 
 // How many partners the search tries for the target t: none where it is gone.
-fn partners(words: &[u16], marks: &[u8], start: &[u16], t: usize, m: usize) -> usize
-    requires { ⌜ (Ready (now words) (now marks) (now start)) × ((t < getD (now words) 1 0) × (m ≡ getD (now words) 1 0)) ⌝ }
+fn partners(words: &[u16], marks: &[u8], start: &[u16], t: usize) -> usize
+    requires { ⌜ (Ready (now words) (now marks) (now start)) × (t < getD (now words) 1 0) ⌝ }
     ensures { λ r. ⌜ Partners (now (words .entry)) (now (marks .entry)) t r ⌝ }
 {
     if parts::kept(words, marks, start, t) {
-        m
+        table::wide(words[1])
     } else {
         0
     }
@@ -342,20 +409,21 @@ pub fn first_by_partner(
     words: &[u16],
     marks: &[u8],
     start: &[u16],
-    may: &mut [u8],
+    may: &mut [u16],
     kind: u16,
-    m: usize,
+    low: usize,
+    end: usize,
 ) -> Found
-    requires { ⌜ (Ready (now words) (now marks) (now start)) × ((m ≡ getD (now words) 1 0) × ((PartnerKind kind) × (Calm (now words) (now marks) (now may) kind))) ⌝ }
-    ensures { λ r. ⌜ (r ≡ foundOf (firstTarget (getD (now (words .entry)) 0 0) (view (now (words .entry)) (now (marks .entry))) (kindOf kind))) × Swept (now (words .entry)) (now (marks .entry)) (now (may .entry)) (now (may .exit)) kind ⌝ }
+    requires { ⌜ (Ready (now words) (now marks) (now start)) × ((end ≤ getD (now words) 1 0) × ((PartnerKind kind) × ((Calm (now words) (now marks) (now may) kind) × Inside (now may) kind low end))) ⌝ }
+    ensures { λ r. ⌜ (r ≡ foundOf (firstTarget (getD (now (words .entry)) 0 0) (view (now (words .entry)) (now (marks .entry))) (kindOf kind))) × (Swept (now (words .entry)) (now (marks .entry)) (now (may .entry)) (now (may .exit)) kind × Inside (now (may .exit)) kind (stoppedAt r end) end) ⌝ }
 {
     let base = table::wide(kind) * 2048;
     let mut found = Found::Nothing;
-    'search: for t in 0..m {
+    'search: for t in low..end {
         if may[base + t] != 0 {
             let mut stamps = [0u8; 3072];
             stamp_clause(words, marks, start, t, &mut stamps);
-            let e = partners(words, marks, start, t, m);
+            let e = partners(words, marks, start, t);
             for p in 0..e {
                 if partner_applies(words, marks, start, &stamps, kind, t, p) {
                     found = Found::One(Step::new(kind, narrow(t), narrow(p), 0));
@@ -370,75 +438,124 @@ pub fn first_by_partner(
 
 // ---- what was opened
 
-// Flags every target of the kind whose condition holds with the partner p and the atom.
-pub fn spread(
+// Flags every target of the kind that has a step with the partner p and the atom.
+fn spread(
     words: &[u16],
     marks: &[u8],
     start: &[u16],
     heads: &[u16],
     reach: &[u8],
-    may: &mut [u8],
+    may: &mut [u16],
     kind: u16,
     p: usize,
     atom: u16,
     m: usize,
 )
-    requires { ⌜ (Ready (now words) (now marks) (now start)) × ((m ≡ getD (now words) 1 0) × ((p < getD (now words) 1 0) × (((1 ≤ kind) × (kind ≤ 8)) × ((Known (kindOf kind) (now words) (now marks) (now heads) (now reach)) × (length (now may) ≡ 20480))))) ⌝ }
+    requires { ⌜ (Ready (now words) (now marks) (now start)) × ((m ≡ getD (now words) 1 0) × ((p < getD (now words) 1 0) × (((1 ≤ kind) × (kind ≤ 8)) × ((Known (kindOf kind) (now words) (now marks) (now heads) (now reach)) × (length (now may) ≡ 34850))))) ⌝ }
     ensures { λ _. ⌜ Spread (now (words .entry)) (now (marks .entry)) (now (may .entry)) (now (may .exit)) kind p atom ⌝ }
 {
-    let base = table::wide(kind) * 2048;
+    let row = table::wide(kind);
     for t in 0..m {
-        if may[base + t] != 0 {
-            continue;
-        }
         if !conditions::holds(words, marks, start, heads, reach, kind, t, p, atom) {
             continue;
         }
-        may[base + t] = 1;
+        flag(may, row, t);
     }
 }
 
-// Kind 7: the reach, where it is to be found anew; then every target is flagged.
-fn refresh(
+// Flags every target of the kind that has a step with the key.
+fn spread_key(
     words: &[u16],
     marks: &[u8],
     start: &[u16],
     heads: &[u16],
-    reach: &mut [u8],
-    may: &mut [u8],
+    reach: &[u8],
+    may: &mut [u16],
+    kind: u16,
+    x: usize,
     m: usize,
 )
-    requires { ⌜ (State (now words) (now marks) (now start) (now heads) (now reach) (now may)) × (m ≡ getD (now words) 1 0) ⌝ }
-    ensures { λ _. ⌜ (State (now (words .entry)) (now (marks .entry)) (now (start .entry)) (now (heads .entry)) (now (reach .exit)) (now (may .exit))) × (getD (now (may .exit)) 0 0 ≡ 0) ⌝ }
+    requires { ⌜ (State (now words) (now marks) (now start) (now heads) (now reach) (now may)) × ((m ≡ getD (now words) 1 0) × (((1 ≤ kind) × (kind ≤ 8)) × (x < 2048))) ⌝ }
+    ensures { λ _. ⌜ KeySpread (now (words .entry)) (now (marks .entry)) (now (may .entry)) (now (may .exit)) kind x ⌝ }
 {
-    if may[0] == 0 {
+    if uses_partner(kind) {
+        if x < m {
+            spread(words, marks, start, heads, reach, may, kind, x, 0, m);
+        }
         return;
     }
-    reach::find_reach(words, marks, start, reach);
-    flag_all(may, 7, m);
-    may[0] = 0;
+    flag_all(may, table::wide(kind), m);
 }
 
-// Kind 8: the clauses that lost a literal are tried as partners of every target.
+// A key that is fresh is spread, and is fresh no more.
+fn pass_key(
+    words: &[u16],
+    marks: &[u8],
+    start: &[u16],
+    heads: &[u16],
+    reach: &[u8],
+    may: &mut [u16],
+    kind: u16,
+    x: usize,
+    m: usize,
+)
+    requires { ⌜ (State (now words) (now marks) (now start) (now heads) (now reach) (now may)) × ((m ≡ getD (now words) 1 0) × (((1 ≤ kind) × (kind ≤ 8)) × (x < 2048))) ⌝ }
+    ensures { λ _. ⌜ KeyPassed (now (words .entry)) (now (marks .entry)) (now (start .entry)) (now (heads .entry)) (now (reach .entry)) (now (may .entry)) (now (may .exit)) kind x ⌝ }
+{
+    let at = (8 + table::wide(kind)) * 2048 + x;
+    if may[at] == 0 {
+        return;
+    }
+    spread_key(words, marks, start, heads, reach, may, kind, x, m);
+    may[at] = 0;
+}
+
+// Every fresh key of the kind is spread.
 fn settle(
     words: &[u16],
     marks: &[u8],
     start: &[u16],
     heads: &[u16],
     reach: &[u8],
-    may: &mut [u8],
+    may: &mut [u16],
+    kind: u16,
+    m: usize,
+)
+    requires { ⌜ (State (now words) (now marks) (now start) (now heads) (now reach) (now may)) × ((m ≡ getD (now words) 1 0) × ((1 ≤ kind) × (kind ≤ 8))) ⌝ }
+    ensures { λ _. ⌜ (State (now (words .entry)) (now (marks .entry)) (now (start .entry)) (now (heads .entry)) (now (reach .entry)) (now (may .exit))) × (Settled (now (may .exit)) kind × (flags (now (may .entry)) 0 0 ≡ 0 → flags (now (may .exit)) 0 0 ≡ 0)) ⌝ }
+{
+    let row = 8 + table::wide(kind);
+    let low = lowest_of(may, row);
+    let end = highest_of(may, row);
+    for x in low..end {
+        pass_key(words, marks, start, heads, reach, may, kind, x, m);
+    }
+    fence(may, row, end, end);
+}
+
+// For kind 7 the reach, where it is to be found anew; then every target of the kind is flagged.
+fn refresh(
+    words: &[u16],
+    marks: &[u8],
+    start: &[u16],
+    heads: &[u16],
+    reach: &mut [u8],
+    may: &mut [u16],
+    kind: u16,
     m: usize,
 )
     requires { ⌜ (State (now words) (now marks) (now start) (now heads) (now reach) (now may)) × (m ≡ getD (now words) 1 0) ⌝ }
-    ensures { λ _. ⌜ (State (now (words .entry)) (now (marks .entry)) (now (start .entry)) (now (heads .entry)) (now (reach .entry)) (now (may .exit))) × (Settled (now (may .exit)) m) ⌝ }
+    ensures { λ _. ⌜ (State (now (words .entry)) (now (marks .entry)) (now (start .entry)) (now (heads .entry)) (now (reach .exit)) (now (may .exit))) × (kind ≡ 7 → flags (now (may .exit)) 0 0 ≡ 0) ⌝ }
 {
-    for p in 0..m {
-        if may[18432 + p] == 0 {
-            continue;
-        }
-        spread(words, marks, start, heads, reach, may, 8, p, 0, m);
-        may[18432 + p] = 0;
+    if kind != 7 {
+        return;
     }
+    if may[0] == 0 {
+        return;
+    }
+    reach::find_reach(words, marks, start, reach);
+    flag_all(may, 7, m);
+    may[0] = 0;
 }
 
 // ---- the smallest step
@@ -457,28 +574,53 @@ fn uses_partner(kind: u16) -> bool
     kind == 8
 }
 
-// What the search of kind 7 or 8 asks for first.
+// What the search of a kind asks for first: no key is fresh, and for kind 7 the reach.
 fn prepare(
     words: &[u16],
     marks: &[u8],
     start: &[u16],
     heads: &[u16],
     reach: &mut [u8],
-    may: &mut [u8],
+    may: &mut [u16],
     kind: u16,
     m: usize,
 )
-    requires { ⌜ (State (now words) (now marks) (now start) (now heads) (now reach) (now may)) × (m ≡ getD (now words) 1 0) ⌝ }
+    requires { ⌜ (State (now words) (now marks) (now start) (now heads) (now reach) (now may)) × ((m ≡ getD (now words) 1 0) × ((1 ≤ kind) × (kind ≤ 8))) ⌝ }
     ensures { λ _. ⌜ Prepared (now (words .entry)) (now (marks .entry)) (now (start .entry)) (now (heads .entry)) (now (reach .exit)) (now (may .exit)) kind ⌝ }
 {
-    if kind == 7 {
-        refresh(words, marks, start, heads, reach, may, m);
-        return;
+    refresh(words, marks, start, heads, reach, may, kind, m);
+    settle(words, marks, start, heads, reach, may, kind, m);
+}
+
+// Where a search stopped: at the target found, or at the end.
+fn stopped_at(found: Found, end: usize) -> usize
+    ensures { λ r. ⌜ r ≡ stoppedAt found end ⌝ }
+{
+    let Found::One(step) = found else {
+        return end;
+    };
+    table::wide(step.target)
+}
+
+// The search of a kind between its row's bounds.
+fn search_row(
+    words: &[u16],
+    marks: &[u8],
+    start: &[u16],
+    heads: &[u16],
+    reach: &[u8],
+    may: &mut [u16],
+    kind: u16,
+    low: usize,
+    end: usize,
+) -> Found
+    requires { ⌜ (Arrays (now words) (now marks) (now start) (now heads) (now reach) kind) × ((end ≤ getD (now words) 1 0) × (((1 ≤ kind) × (kind ≤ 8)) × ((Calm (now words) (now marks) (now may) kind) × Inside (now may) kind low end))) ⌝ }
+    ensures { λ r. ⌜ (r ≡ foundOf (firstTarget (getD (now (words .entry)) 0 0) (view (now (words .entry)) (now (marks .entry))) (kindOf kind))) × (Swept (now (words .entry)) (now (marks .entry)) (now (may .entry)) (now (may .exit)) kind × Inside (now (may .exit)) kind (stoppedAt r end) end) ⌝ }
+{
+    if uses_partner(kind) {
+        return first_by_partner(words, marks, start, may, kind, low, end);
     }
-    if kind == 8 {
-        settle(words, marks, start, heads, reach, may, m);
-        return;
-    }
+    first_by_atom(words, marks, start, heads, reach, may, kind, low, end)
 }
 
 // The smallest step of a kind.
@@ -488,7 +630,7 @@ fn first_of_kind(
     start: &[u16],
     heads: &[u16],
     reach: &mut [u8],
-    may: &mut [u8],
+    may: &mut [u16],
     kind: u16,
     m: usize,
 ) -> Found
@@ -496,10 +638,12 @@ fn first_of_kind(
     ensures { λ r. ⌜ (r ≡ foundOf (firstTarget (getD (now (words .entry)) 0 0) (view (now (words .entry)) (now (marks .entry))) (kindOf kind))) × State (now (words .entry)) (now (marks .entry)) (now (start .entry)) (now (heads .entry)) (now (reach .exit)) (now (may .exit)) ⌝ }
 {
     prepare(words, marks, start, heads, reach, may, kind, m);
-    if uses_partner(kind) {
-        return first_by_partner(words, marks, start, may, kind, m);
-    }
-    first_by_atom(words, marks, start, heads, reach, may, kind, m)
+    let row = table::wide(kind);
+    let low = lowest_of(may, row);
+    let end = highest_of(may, row);
+    let found = search_row(words, marks, start, heads, reach, may, kind, low, end);
+    fence(may, row, stopped_at(found, end), end);
+    found
 }
 
 // The smallest step: kind after kind.
@@ -509,7 +653,7 @@ pub fn first_step(
     start: &[u16],
     heads: &[u16],
     reach: &mut [u8],
-    may: &mut [u8],
+    may: &mut [u16],
     m: usize,
 ) -> Found
     requires { ⌜ (State (now words) (now marks) (now start) (now heads) (now reach) (now may)) × (m ≡ getD (now words) 1 0) ⌝ }

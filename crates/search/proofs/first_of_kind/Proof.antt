@@ -1,35 +1,47 @@
--- `first_of_kind`: prepared, then searched.
+-- `first_of_kind`: prepared, searched between the row's bounds, and these drawn closer.
+use Prim.Native.Nat.{ℕ, _+_, _≤_, _<_}
 use mathlib.Core.Path.{_≡_, sym, ap, subst, refl, _∙_}
-use Rattle.search.proofs.States.{partner-kind, atom-kind, prepared-arrays, prepared-calm, prepared-swept}
+use native.Mathlib.Omega.{arith}
+use Rattle.search.specs.Flags.{lowest, highest, Inside, Fenced}
+use Rattle.search.proofs.States.{prepared-arrays, prepared-calm, prepared-swept}
 use borrow.Author.Needs.{needs}
 use Rattle.search.proofs.first_of_kind.Statement.{statement}
 use Rattle.search.proofs.first_of_kind.Tie as tie
 
 prepare-requires : tie.Need-prepare-requires
-prepare-requires c κs = (c .before .before .before .before .before .before .before .before .pre .0, c .before .before .before .before .before .before .before .before .pre .1 .0)
+prepare-requires c κs = c .before .before .before .before .before .before .before .before .pre
 
-uses-partner-requires : tie.Need-uses-partner-requires
-uses-partner-requires c κs = c .before .before .before .before .before .before .before .before .before .before .before .before .before .pre .1 .1
+lowest-of-requires : tie.Need-lowest-of-requires
+lowest-of-requires c κs = (omega (arith, c .before .wide .ensures .0, c .before .before .before .before .before .before .before .before .before .before .before .before .before .before .before .pre .1 .1), c .before .before .before .before .before .before .prepare .ensures .state .rows .long)
 
-first-by-partner-requires : tie.Need-first-by-partner-requires
-first-by-partner-requires c κs =
-    let a = c .before .before .before .before .before .before .before .before .before .before .before .before .before .before .before .before .pre .1 .1 .0 in
-    let b = c .before .before .before .before .before .before .before .before .before .before .before .before .before .before .before .before .pre .1 .1 .1 in
-    (c .before .before .before .before .before .before .before .prepare .ensures .state .ready, (c .before .before .before .before .before .before .before .before .before .before .before .before .before .before .before .before .pre .1 .0, (partner-kind _ a b (sym (c .before .before .uses-partner .ensures) ∙ c .before .if1 .taken), prepared-calm _ _ _ _ _ _ _ (c .before .before .before .before .before .before .before .prepare .ensures) a b)))
+highest-of-requires : tie.Need-highest-of-requires
+highest-of-requires c κs = (omega (arith, c .before .before .before .wide .ensures .0, c .before .before .before .before .before .before .before .before .before .before .before .before .before .before .before .before .before .pre .1 .1), c .before .before .before .before .before .before .before .before .prepare .ensures .state .rows .long)
+
+search-row-requires : tie.Need-search-row-requires
+search-row-requires c κs =
+    let p = c .before .before .before .before .before .before .before .before .before .before .before .prepare .ensures in
+    let k = c .before .before .before .before .before .before .before .before .before .before .before .before .before .before .before .before .before .before .before .before .pre .1 .1 in
+    let r : c .before .before .before .before .before .before .before .before .before .before .before .before .before .before .before .before .before .before .before .before .args .kind ≤ 16 = omega (arith, k) in
+    let h = c .before .before .highest-of .ensures ∙ ap (λ r. highest (c .before .before .before .before .before .before .before .before .before .before .before .prepare .last .1 .1 .1 .1 .1 .0) r) (c .before .before .before .before .before .before .wide .ensures .0) in
+    let l = c .before .before .before .before .lowest-of .ensures ∙ ap (λ r. lowest (c .before .before .before .before .before .before .before .before .before .before .before .prepare .last .1 .1 .1 .1 .1 .0) r) (c .before .before .before .before .before .before .wide .ensures .0) in
+    (prepared-arrays _ _ _ _ _ _ _ p (k .0) (k .1), (rw h (p .state .rows .few (c .before .before .before .before .before .before .before .before .before .before .before .before .before .before .before .before .before .before .before .before .args .kind) (k .0) (k .1)), (k, (prepared-calm _ _ _ _ _ _ _ p (k .0) (k .1), rw (h, l) (p .state .rows .inside (c .before .before .before .before .before .before .before .before .before .before .before .before .before .before .before .before .before .before .before .before .args .kind) (k .0) r)))))
+
+fence-requires : tie.Need-fence-requires
+fence-requires c κs =
+    let p = c .before .before .before .before .before .before .before .before .before .before .before .before .before .before .before .before .prepare .ensures in
+    let k = c .before .before .before .before .before .before .before .before .before .before .before .before .before .before .before .before .before .before .before .before .before .before .before .before .before .pre .1 .1 in
+    let h = c .before .before .before .before .before .before .before .highest-of .ensures ∙ ap (λ r. highest (c .before .before .before .before .before .before .before .before .before .before .before .before .before .before .before .before .prepare .last .1 .1 .1 .1 .1 .0) r) (c .before .before .before .before .before .before .before .before .before .before .before .wide .ensures .0) in
+    (omega (arith, c .before .before .before .before .before .before .before .before .before .before .before .wide .ensures .0, k), (c .before .before .before .before .search-row .ensures .1 .0 .calm .rows .long, rw h (p .state .rows .high (c .before .before .before .before .before .before .before .before .before .before .before .before .before .before .before .before .before .before .before .before .before .before .before .before .before .args .kind) (k .0) (omega (arith, k)))))
 
 returns : tie.Need-returns
-returns c = (c .before .before .first-by-partner .ensures .0, prepared-swept _ _ _ _ _ _ _ (c .before .before .before .before .before .before .before .before .before .before .prepare .ensures) (c .before .before .before .before .before .before .before .before .before .before .before .before .before .before .before .before .before .before .before .pre .1 .1 .0) (c .before .before .before .before .before .before .before .before .before .before .before .before .before .before .before .before .before .before .before .pre .1 .1 .1) _ (c .before .before .first-by-partner .ensures .1))
-
-first-by-atom-requires : tie.Need-first-by-atom-requires
-first-by-atom-requires c κs =
-    let a = c .before .before .before .before .before .before .before .before .before .before .before .before .before .before .before .before .before .pre .1 .1 .0 in
-    let b = c .before .before .before .before .before .before .before .before .before .before .before .before .before .before .before .before .before .pre .1 .1 .1 in
-    (prepared-arrays _ _ _ _ _ _ _ (c .before .before .before .before .before .before .before .before .prepare .ensures) a b, (c .before .before .before .before .before .before .before .before .before .before .before .before .before .before .before .before .before .pre .1 .0, (atom-kind _ a b (sym (c .before .before .before .uses-partner .ensures) ∙ c .before .before .if1 .left), prepared-calm _ _ _ _ _ _ _ (c .before .before .before .before .before .before .before .before .prepare .ensures) a b)))
-
-returns-2 : tie.Need-returns-2
-returns-2 c = (c .before .before .first-by-atom .ensures .0, prepared-swept _ _ _ _ _ _ _ (c .before .before .before .before .before .before .before .before .before .before .before .prepare .ensures) (c .before .before .before .before .before .before .before .before .before .before .before .before .before .before .before .before .before .before .before .before .pre .1 .1 .0) (c .before .before .before .before .before .before .before .before .before .before .before .before .before .before .before .before .before .before .before .before .pre .1 .1 .1) _ (c .before .before .first-by-atom .ensures .1))
+returns c =
+    let k = c .before .before .before .before .before .before .before .before .before .before .before .before .before .before .before .before .before .before .before .before .before .before .before .before .before .before .before .before .pre .1 .1 in
+    let h = c .before .before .before .before .before .before .before .before .before .before .highest-of .ensures ∙ ap (λ r. highest (c .before .before .before .before .before .before .before .before .before .before .before .before .before .before .before .before .before .before .before .prepare .last .1 .1 .1 .1 .1 .0) r) (c .before .before .before .before .before .before .before .before .before .before .before .before .before .before .wide .ensures .0) in
+    let f = subst (λ r. Fenced (c .before .before .before .before .before .before .before .search-row .last .1 .1 .1 .1 .1 .0) (c .before .before .fence .last .0) r (c .before .before .before .stopped-at .result) (c .before .before .before .before .before .before .before .before .before .before .highest-of .result)) (c .before .before .before .before .before .before .before .before .before .before .before .before .before .before .wide .ensures .0) (c .before .before .fence .ensures) in
+    (c .before .before .before .before .before .before .before .search-row .ensures .0, prepared-swept _ _ _ _ _ _ _ (c .before .before .before .before .before .before .before .before .before .before .before .before .before .before .before .before .before .before .before .prepare .ensures) (k .0) (k .1) _ _ _ _ (c .before .before .before .before .before .before .before .search-row .ensures .1 .0) (c .before .before .before .before .before .before .before .search-row .ensures .1 .1) h
+    (subst (λ x. Fenced (c .before .before .before .before .before .before .before .search-row .last .1 .1 .1 .1 .1 .0) (c .before .before .fence .last .0) (c .before .before .before .before .before .before .before .before .before .before .before .before .before .before .before .before .before .before .before .before .before .before .before .before .before .before .before .before .args .kind) x (c .before .before .before .before .before .before .before .before .before .before .highest-of .result)) (c .before .before .before .stopped-at .ensures) f))
 
 pub first-of-kind-spec : {M : Type 1} → statement M
 first-of-kind-spec =
     tie.close
-    (tie.spec prepare-requires uses-partner-requires first-by-partner-requires (λ c. search needs) (λ c. search needs) returns first-by-atom-requires (λ c. search needs) (λ c. search needs) returns-2)
+    (tie.spec prepare-requires (λ c κs. search needs) lowest-of-requires highest-of-requires search-row-requires (λ c κs. search needs) fence-requires (λ c. search needs) (λ c. search needs) returns)

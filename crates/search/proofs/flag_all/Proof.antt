@@ -1,47 +1,41 @@
--- `flag_all`: the targets passed are flagged, and no flag is lost.
+-- `flag_all`: the places passed are flagged, and no flag is lost.
 use Prim.Native.Nat.{ℕ, _-_, _≤_, _<_, _+_, _*_}
 use mathlib.Core.Path.{_≡_, refl, sym, ap, subst, _∙_}
 use mathlib.Core.Logic.{_≢_}
 use native.Mathlib.Omega.{arith}
-use lib.ListN.{length, getD, length-set}
+use lib.ListN.{length, getD}
 use borrow.Author.Count.{below-more}
-use Rattle.search.specs.Flags.{flags, Grown, AllFlagged}
-use Rattle.search.proofs.Flags.{set-flag, grown-set, flagged-set}
+use Rattle.search.specs.Flags.{flags, Raising, AllFlagged}
+use Rattle.search.proofs.Flags.{raising-none, raising-more, raising-keeps}
 use borrow.Author.Needs.{needs}
 use Rattle.search.proofs.flag_all.Statement.{statement}
 use Rattle.search.proofs.flag_all.Tie as tie
 
 abbrev Inv-loop : tie.InvT-loop
-Inv-loop may₀ kind m base t₀ may t = (t ≤ m) × ((length may ≡ length may₀) × (Grown may₀ may × AllFlagged may kind t))
+Inv-loop may₀ row top i₀ may i = (i ≤ top) × (Raising may₀ may row top × AllFlagged may row i)
 
 abbrev μ-loop : tie.MeasureT-loop
-μ-loop may₀ kind m base t₀ may t = m - t
+μ-loop may₀ row top i₀ may i = top - i
 
 loop-holds : tie.Need-loop-holds Inv-loop μ-loop
-loop-holds c = (search needs, (refl, ((λ i e. e), λ t l. absurd (omega arith))))
+loop-holds c = (search needs, (raising-none _ _ _, λ i l. absurd (omega arith)))
 
-slice-write-may : tie.Need-slice-write-may Inv-loop μ-loop
-slice-write-may c = omega (arith, c .before .before .pre, c .before .loop .inv)
+flag-requires : tie.Need-flag-requires Inv-loop μ-loop
+flag-requires c κs = (c .before .before .before .before .pre .0, (omega (arith, c .before .loop-test .taken, c .before .before .before .before .pre .1 .0), c .before .before .loop .inv .1 .0 .long ∙ c .before .before .before .before .pre .1 .1))
 
 loop-again : tie.Need-loop-again Inv-loop μ-loop
 loop-again c =
-    let inv = c .before .loop .inv in
-    let j = c .before .before .args .kind * 2048 + c .before .loop .t in
-    let l : j < length (c .before .loop .may) = omega (arith, c .before .before .pre, c .before .loop .inv) in (
-      search needs,
-      (
-        simp length-set (inv .1 .0),
-        (
-          grown-set (c .before .loop .may) j l (c .before .before .args .may .now) (inv .1 .1 .0),
-          below-more (λ t. flags (lib.ListN.set (c .before .loop .may) j 1) (c .before .before .args .kind) t ≢ 0) (c .before .loop .t) (λ t k. flagged-set (c .before .loop .may) j l (c .before .before .args .kind * 2048 + t) (inv .1 .1 .1 t k)) (set-flag (c .before .loop .may) j l),
-        ),
-      ),
-    )
+    let inv = c .before .before .before .before .before .loop .inv in
+    let g = c .before .before .flag .ensures .0 in
+    let h = c .before .before .before .before .before .before .before .pre in
+    let l = c .before .before .before .before .loop-test .taken in
+    (search needs, (raising-more _ _ _ _ _ _ _ (omega arith) (omega arith) (inv .1 .0) g, below-more _ _ (λ i k. raising-keeps _ _ _ _ g _ i (h .0) (omega (arith, h)) (inv .1 .1 i k)) (c .before .before .flag .ensures .1)))
+
+same-length : tie.Need-same-length Inv-loop μ-loop
+same-length c = c .before .loop .inv .1 .0 .long
 
 returns : tie.Need-returns Inv-loop μ-loop
-returns c = let inv = c .before .loop .inv in (inv .1 .1 .0, λ t l. inv .1 .1 .1 t (omega arith))
+returns c = let inv = c .before .loop .inv in (inv .1 .0, λ i l. inv .1 .1 i (omega (arith, c .loop-test .left)))
 
 pub flag-all-spec : {M : Type 1} → statement M
-flag-all-spec =
-    tie.close
-    (tie.spec Inv-loop μ-loop (λ c. search needs) loop-holds (λ c. search needs) slice-write-may (λ c. search needs) (λ c. search needs) loop-again (λ c. search needs) returns)
+flag-all-spec = tie.close (tie.spec Inv-loop μ-loop loop-holds flag-requires (λ c. search needs) (λ c. search needs) loop-again same-length returns)

@@ -1,67 +1,53 @@
--- `settle`: the keys passed are settled, and the state stays.
+-- `settle`: the keys passed are fresh no more, and the state stays.
 use Prim.Native.Nat.{ℕ, _-_, _≤_, _<_, _+_, _*_}
 use mathlib.Core.Path.{_≡_, refl, sym, ap, subst, _∙_}
-use mathlib.Core.Bool.{false≢true}
-use mathlib.Core.Logic.{inr}
 use native.Mathlib.Omega.{arith}
-use lib.ListN.{length, getD, length-set}
-use Rattle.rewriting.specs.Steps.{subsumed}
-use Rattle.search.specs.Flags.{flags}
+use lib.ListN.{length, getD}
+use Rattle.search.specs.Flags.{flags, lowest, highest, Inside, Fenced}
 use Rattle.search.specs.State.{State, Settled}
-use Rattle.search.proofs.States.{few-clauses, known-of, state-spread}
-use Rattle.search.proofs.Spreads.{settled-more, settled-past}
+use Rattle.search.proofs.States.{Settling, settling-none, settling-on, settling-end}
 use borrow.Author.Needs.{needs}
 use Rattle.search.proofs.settle.Statement.{statement}
 use Rattle.search.proofs.settle.Tie as tie
 
 abbrev Inv-loop : tie.InvT-loop
-Inv-loop words marks start heads reach may₀ m p₀ may p = (p ≤ m) × ((length may ≡ length may₀) × (State words marks start heads reach may × Settled may p))
+Inv-loop words marks start heads reach may₀ kind m row low end x₀ may x = (row ≡ 8 + kind) × ((end ≤ 2048) × Settling words marks start heads reach may₀ may kind x end)
 
 abbrev μ-loop : tie.MeasureT-loop
-μ-loop words marks start heads reach may₀ m p₀ may p = m - p
+μ-loop words marks start heads reach may₀ kind m row low end x₀ may x = end - x
 
--- there are few clauses, and this is one of them
-few : (c : tie.In-loop Inv-loop μ-loop) → (c .before .loop .p < 2048) × (c .before .loop .p < getD (c .before .before .before .before .before .before .before .before .args .words .now) 1 0)
-few c = (omega (arith, c .loop-test .taken, c .before .before .before .before .before .before .before .before .pre .1, few-clauses _ _ _ _ _ _ (c .before .before .before .before .before .before .before .before .pre .0)), omega (arith, c .loop-test .taken, c .before .before .before .before .before .before .before .before .pre .1))
+lowest-of-requires : tie.Need-lowest-of-requires Inv-loop μ-loop
+lowest-of-requires c κs = (omega (arith, c .before .wide .ensures .0, c .before .before .before .before .before .before .before .before .pre .1 .1), c .before .before .before .before .before .before .before .before .pre .0 .rows .long)
+
+highest-of-requires : tie.Need-highest-of-requires Inv-loop μ-loop
+highest-of-requires c κs = (omega (arith, c .before .before .before .wide .ensures .0, c .before .before .before .before .before .before .before .before .before .before .pre .1 .1), c .before .before .before .before .before .before .before .before .before .before .pre .0 .rows .long)
 
 loop-holds : tie.Need-loop-holds Inv-loop μ-loop
-loop-holds c = (search needs, (refl, (c .before .before .before .before .before .before .pre .0, λ i l. absurd (omega arith))))
+loop-holds c =
+    let r : 8 + c .before .before .before .before .before .before .before .before .before .before .before .args .kind ≤ 16 = omega (arith, c .before .before .before .before .before .before .before .before .before .before .before .pre .1 .1) in
+    let e : 8 + c .before .before .before .before .wide .result ≡ 8 + c .before .before .before .before .before .before .before .before .before .before .before .args .kind = ap (λ x. 8 + x) (c .before .before .before .before .wide .ensures .0) in
+    let w = c .before .before .before .before .before .before .before .before .before .before .before .pre .0 .rows in
+    let h = c .highest-of .ensures ∙ ap (λ r. highest (c .before .before .before .before .before .before .before .before .before .before .before .args .may .now) r) e in
+    let l = c .before .before .lowest-of .ensures ∙ ap (λ r. lowest (c .before .before .before .before .before .before .before .before .before .before .before .args .may .now) r) e in
+    (e, (subst (λ x. x ≤ 2048) (sym h) (w .high (8 + c .before .before .before .before .before .before .before .before .before .before .before .args .kind) (omega arith) r), settling-none _ _ _ _ _ _ _ _ _ (c .before .before .before .before .before .before .before .before .before .before .before .pre .0)
+    (rw (h, l) (w .inside (8 + c .before .before .before .before .before .before .before .before .before .before .before .args .kind) (omega arith) r))))
 
-add-if1 : tie.Need-add-if1 Inv-loop μ-loop
-add-if1 c = omega (arith, few (c))
-
-slice-read-if1 : tie.Need-slice-read-if1 Inv-loop μ-loop
-slice-read-if1 c = omega (arith, few (c .before), c .before .before .loop .inv .1 .1 .0 .long)
+pass-key-requires : tie.Need-pass-key-requires Inv-loop μ-loop
+pass-key-requires c κs = (c .before .before .loop .inv .1 .1 .state, (c .before .before .before .before .before .before .before .before .before .before .before .before .before .before .pre .1 .0, (c .before .before .before .before .before .before .before .before .before .before .before .before .before .before .pre .1 .1, omega (arith, c .before .loop-test .taken, c .before .before .loop .inv .1 .0))))
 
 loop-again : tie.Need-loop-again Inv-loop μ-loop
-loop-again c = (search needs, (c .before .before .before .loop .inv .1 .0, (c .before .before .before .loop .inv .1 .1 .0, settled-past (c .before .before .before .loop .may) _ (c .before .before .before .loop .inv .1 .1 .1) (c .if1 .taken))))
+loop-again c = (c .before .before .before .before .before .loop .inv .0, (c .before .before .before .before .before .loop .inv .1 .0, settling-on _ _ _ _ _ _ _ _ _ _ (c .before .before .before .before .before .loop .inv .1 .1) _ (c .before .before .pass-key .ensures)))
 
-spread-requires : tie.Need-spread-requires Inv-loop μ-loop
-spread-requires c κs =
-    let z = c .before .before .before .before .loop .inv .1 .1 .0 in
-    (z .ready, (c .before .before .before .before .before .before .before .before .before .before .before .pre .1, (few (c .before .before .before) .1, ((omega arith, omega arith), (known-of _ _ _ _ _ _ z subsumed (λ h. absurd (false≢true h)), z .long)))))
-
-add-may : tie.Need-add-may Inv-loop μ-loop
-add-may c = omega (arith, few (c .before .before .before .before .before .before))
-
-slice-write-may : tie.Need-slice-write-may Inv-loop μ-loop
-slice-write-may c = omega (arith, few (c .before .before .before .before .before .before), c .before .before .before .before .before .before .before .loop .inv .1 .1 .0 .long, c .before .before .spread .ensures .long)
-
-loop-again-2 : tie.Need-loop-again-2 Inv-loop μ-loop
-loop-again-2 c =
-    let z = c .before .before .before .before .before .before .before .loop .inv .1 .1 .0 in
-    let s = c .before .before .spread .ensures in
-    let may' = c .before .before .spread .last .1 .1 .1 .1 .1 .0 in
-    let l : 18432 + c .before .before .before .before .before .before .before .loop .p < length may' = omega (arith, few (c .before .before .before .before .before .before), z .long, s .long) in
-    (search needs, (simp length-set (s .long ∙ c .before .before .before .before .before .before .before .loop .inv .1 .0), (state-spread _ _ _ _ _ _ z may' _ s, settled-more (c .before .before .before .before .before .before .before .loop .may) may' _ l (c .before .before .before .before .before .before .before .loop .inv .1 .1 .1) (λ i k. s .frame (9 * 2048 + i) (inr (omega arith))))))
+fence-requires : tie.Need-fence-requires Inv-loop μ-loop
+fence-requires c κs = let e = c .before .before .loop .inv .0 in let p = c .before .before .before .before .before .before .before .before .before .before .before .before .before .before .pre .1 .1 in (omega arith, (c .before .before .loop .inv .1 .1 .state .rows .long, c .before .before .loop .inv .1 .0))
 
 same-length : tie.Need-same-length Inv-loop μ-loop
-same-length c = c .before .loop .inv .1 .0
+same-length c = c .before .before .fence .ensures .long ∙ c .before .before .before .before .before .loop .inv .1 .1 .long
 
 returns : tie.Need-returns Inv-loop μ-loop
-returns c = (c .before .loop .inv .1 .1 .0, λ p l. c .before .loop .inv .1 .1 .1 p (omega arith))
+returns c = settling-end _ _ _ _ _ _ _ _ _ _ (c .before .before .before .before .before .loop .inv .1 .1) (c .before .before .before .before .before .before .before .before .before .before .before .before .before .before .before .before .before .pre .1 .1 .0) (c .before .before .before .before .before .before .before .before .before .before .before .before .before .before .before .before .before .pre .1 .1 .1) (c .before .before .before .before .before .loop .inv .1 .0) (c .before .before .before .before .loop-test .left) (c .before .before .fence .last .0) (subst (λ r. Fenced (c .before .before .before .before .before .loop .may) (c .before .before .fence .last .0) r (c .before .before .before .before .before .before .highest-of .result) (c .before .before .before .before .before .before .highest-of .result)) (c .before .before .before .before .before .loop .inv .0) (c .before .before .fence .ensures))
 
 pub settle-spec : {M : Type 1} → statement M
 settle-spec =
     tie.close
-    (tie.spec Inv-loop μ-loop loop-holds add-if1 slice-read-if1 (λ c. search needs) (λ c. search needs) loop-again spread-requires add-may slice-write-may (λ c. search needs) (λ c. search needs) loop-again-2 same-length returns)
+    (tie.spec Inv-loop μ-loop (λ c κs. search needs) (λ c. search needs) lowest-of-requires highest-of-requires loop-holds pass-key-requires (λ c. search needs) (λ c. search needs) loop-again fence-requires same-length returns)
