@@ -23,8 +23,8 @@ use Rattle.table.specs.View.{view, kept-of}
 use Rattle.table.proofs.View.{length-view}
 use Rattle.table.proofs.Parts.{scan-end, view-straight}
 use Rattle.parts.specs.Parts.{Ascends}
-use Rattle.parts.proofs.Laws.{kept-on, kept-some, kept-place}
-use Rattle.conditions.specs.Known.{headCount, Heads, Tallied}
+use Rattle.parts.proofs.Laws.{kept-on, kept-some, kept-place, place-kept}
+use Rattle.conditions.specs.Known.{headCount, Heads, Tallied, Positive}
 
 -- "in the head of no kept clause" by the count
 pub no-head-count : (cs : List Clause) (a : ℕ) → So (inNoHead cs a) ↔ (headCount cs a ≡ 0)
@@ -96,6 +96,50 @@ module _ (part marks s₀ s : List ℕ) (i : ℕ) (h : i < length part) (l : len
 
       there : (a : ℕ) → a < length s₀ → (a ≡ w → ⊥) → getD s′ a 0 + bit (mem a (Rest (i + 1))) ≡ getD s₀ a 0 + bit (mem a (kept-of part marks))
       there a k q = rw (d, getD-set-other s w a (getD s w 0 + 1) 0 q) (rw (ne-eqb a w q) at (before a k))
+
+-- The other way: the counts now, with what the whole gives, are those at first with what is left of the part.
+module _ (part marks s s₀ : List ℕ) (i : ℕ) (h : i < length part) (l : length part ≤ length marks) (up : Ascends part) (t : Tallying part marks s s₀ i) (e : getD marks i 0 ≡ 1) where
+  abbrev w : ℕ
+  w = getD part i 0
+
+  here-less : (a : ℕ) → a < length s → a ≡ w → getD s₀ a 0 + 1 ≡ getD s a 0 + bit (mem a (kept-of part marks))
+  here-less a k q =
+      let z : mem a (kept-of (drop i part) (drop i marks)) ≡ true = ap (mem a) (kept-some part marks i h l e) ∙ rw (eq-eqb a w q) in
+      ap (λ r. getD s₀ a 0 + bit r) (sym z) ∙ t .at a k
+
+  -- the atom is counted as it was at first
+  pub untally-room : Positive (kept-of part marks) s₀ → 0 < getD s w 0
+  untally-room p = by-cases (decLt w (length s))
+      (λ k. omega (arith, here-less w k refl, p .above w within, bit-bound (mem w (kept-of part marks))))
+      (λ k. let z = t .past w (omega arith) in absurd (omega (arith, p .above w within)))
+    where
+      within : w ∈ kept-of part marks
+      within = place-kept part marks i h l e
+
+  pub untally-on : 0 < getD s w 0 → (s′ : List ℕ) → s′ ≡ set s w (getD s w 0 - 1) → Tallying part marks s′ s₀ (i + 1)
+  untally-on b s′ d = record {
+    same = t .same ∙ sym (ap length d ∙ length-set s w (getD s w 0 - 1));
+    at = λ a k. by-cases (ℕ-discrete a w) (here a (omega (arith, long, k))) (there a (omega (arith, long, k)));
+    past = λ a k. t .past a (omega (arith, long));
+  }
+    where
+      long : length s′ ≡ length s
+      long = ap length d ∙ length-set s w (getD s w 0 - 1)
+
+      here : (a : ℕ) → a < length s → a ≡ w → getD s₀ a 0 + bit (mem a (kept-of (drop (i + 1) part) (drop (i + 1) marks))) ≡ getD s′ a 0 + bit (mem a (kept-of part marks))
+      here a k q = rw (d, q, getD-set-same s w (getD s w 0 - 1) 0 (omega arith), alone part marks s s₀ i h l up t) (omega (arith, here-less w (omega arith) refl, b))
+
+      there : (a : ℕ) → a < length s → (a ≡ w → ⊥) → getD s₀ a 0 + bit (mem a (kept-of (drop (i + 1) part) (drop (i + 1) marks))) ≡ getD s′ a 0 + bit (mem a (kept-of part marks))
+      there a k q = rw (d, getD-set-other s w a (getD s w 0 - 1) 0 q)
+          (rw (ne-eqb a w q) at (ap (λ r. getD s₀ a 0 + bit (mem a r)) (sym (kept-some part marks i h l e)) ∙ t .at a k))
+
+-- an atom of a kept clause's head is counted
+pub heads-positive : (ws ms hs : List ℕ) (t : ℕ) → Heads ws ms hs → So (entry (view ws ms) t .kept) → Positive (entry (view ws ms) t .clause .head) hs
+heads-positive ws ms hs t h k = record {
+  above = λ a m. by-cases (ℕ-discrete (getD hs a 0) 0)
+      (λ e. absurd (left-each (λ c. ¬ (a ∈ c .head)) (view ws ms) .0 (inNoHead-iff (left (view ws ms)) a .0 (no-head-count (left (view ws ms)) a .1 (sym (h .is a) ∙ e))) t k m))
+      (λ e. omega arith);
+}
 
 pub tally-end : (part marks s₀ s : List ℕ) (i : ℕ) → length part ≤ i → Tallying part marks s₀ s i → Tallied (kept-of part marks) s₀ s
 tally-end part marks s₀ s i h t = record { same = t .same; at = λ a k. omega (arith, rw (scan-end part (drop i marks) i h) at (t .at a k)) }

@@ -4,7 +4,7 @@ use mathlib.Core.Bool.{Bool, true, false, So}
 use mathlib.Core.List.{List}
 use Prim.Native.Nat.{ℕ, _+_, _-_, _≤_, _<_}
 use lib.ListN.{length, getD}
-use Rattle.semantics.specs.Lists.{count, mem, bit}
+use Rattle.semantics.specs.Lists.{_∈_, count, mem, bit}
 use Rattle.semantics.specs.Programs.{Clause}
 use Rattle.rewriting.specs.Marked.{left}
 use Rattle.rewriting.specs.Steps.{Kind, tautology, contradiction, success, noHead, blocked, failure, loop, subsumed, kindOf, step}
@@ -27,6 +27,10 @@ pub record Heads (ws ms heads : List ℕ) : Type 0 where
 pub record Tallied (l s s′ : List ℕ) : Type 0 where
   pub same : length s′ ≡ length s
   pub at : (a : ℕ) → a < length s → getD s′ a 0 ≡ getD s a 0 + bit (mem a l)
+
+-- The count of each atom of a list is above 0.
+pub record Positive (l s : List ℕ) : Type 0 where
+  pub above : (a : ℕ) → a ∈ l → 0 < getD s a 0
 
 -- kinds 4 and 6 ask for "the head of no kept clause", kind 7 for the reach
 abbrev pub asksHeads : Kind → Bool

@@ -12,7 +12,7 @@ ghost use Rattle.table.specs.Places.{startOf};
 ghost use Rattle.table.specs.View.{view, allKept, find, clears, marksAfter, kept-of};
 ghost use Rattle.parts.specs.Parts.{partOf, Placed, Ready, Ascends};
 ghost use Rattle.reach.specs.Bytes.{Reached};
-ghost use Rattle.conditions.specs.Known.{headCount, Heads, Tallied, Known, placeIn, stepOf};
+ghost use Rattle.conditions.specs.Known.{headCount, Heads, Tallied, Positive, Known, placeIn, stepOf};
 use parts::Part;
 use parts::Single;
 
@@ -104,6 +104,41 @@ pub fn count_heads(words: &[u16], marks: &[u8], start: &[u16], heads: &mut [u16]
         }
         tally_head(words, marks, start, t, heads);
     }
+}
+
+// One less at the atom.
+fn lower(heads: &mut [u16], atom: u16)
+    requires { ⌜ 0 < getD (now heads) atom 0 ⌝ }
+    ensures { λ _. ⌜ now (heads .exit) ≡ set (now (heads .entry)) atom (getD (now (heads .entry)) atom 0 - 1) ⌝ }
+{
+    let a = table::wide(atom);
+    if a < heads.len() {
+        heads[a] = heads[a] - 1;
+    }
+}
+
+// One less at each kept atom of the part.
+fn lower_part(part: &[u16], marks: &[u8], heads: &mut [u16])
+    requires { ⌜ (length (now part) ≤ length (now marks)) × ((Ascends (now part)) × Positive (kept-of (now part) (now marks)) (now heads)) ⌝ }
+    ensures { λ _. ⌜ Tallied (kept-of (now (part .entry)) (now (marks .entry))) (now (heads .exit)) (now (heads .entry)) ⌝ }
+{
+    for i in 0..part.len() {
+        if marks[i] != 1 {
+            continue;
+        }
+        lower(heads, part[i]);
+    }
+}
+
+// One less at each head atom of clause t, which is about to be deleted.
+pub fn lower_heads(words: &[u16], marks: &[u8], start: &[u16], t: usize, heads: &mut [u16])
+    requires { ⌜ (Ready (now words) (now marks) (now start)) × ((t < getD (now words) 1 0) × ((Heads (now words) (now marks) (now heads)) × So (entry (view (now words) (now marks)) t .kept))) ⌝ }
+    ensures { λ _. ⌜ Tallied (entry (view (now (words .entry)) (now (marks .entry))) t .clause .head) (now (heads .exit)) (now (heads .entry)) ⌝ }
+{
+    let s = parts::span(words, start, t, Part::Head);
+    let a = s.from;
+    let b = s.end;
+    lower_part(&words[a..b], &marks[a..b], heads);
 }
 
 // Whether no kept clause has the atom in its head.

@@ -6,13 +6,10 @@ use mathlib.Core.List.{List, [], _∷_, _++_}
 use Prim.Native.Nat.{ℕ, zero, suc, _+_, _*_, _≤_, _<_}
 use native.Mathlib.Omega.{arith}
 use lib.Dec.{leb, eqb}
-use lib.ListN.{length, getD, drop, replicate, length-replicate, getD-replicate, List·getD-append}
+use lib.ListN.{length, getD, drop, replicate, length-replicate}
 use lib.Seq.{sets, take-at}
 use borrow.Author.Tests.{le-leb, lt-leb}
 use Rattle.semantics.specs.Lists.{count}
-use Rattle.rewriting.specs.Steps.{number, Step}
-use Rattle.rewriting.proofs.Search.{number-bounds}
-use Rattle.rewriting.proofs.Quiet.{quiet-all}
 use Rattle.table.specs.declared.Checked.the-variants as checked
 use Rattle.table.specs.declared.Refusal.{Refusal}
 use Rattle.table.specs.declared.Refusal.the-variants.{Call}
@@ -22,36 +19,11 @@ use Rattle.table.specs.Questions.{tableOf, numbers, Passed}
 use Rattle.table.specs.View.{view, allKept, marksAfterAll, zeros}
 use Rattle.table.proofs.Encoding.{valid-inv, passed-limits}
 use Rattle.table.proofs.Parts.{view-allKept, length-allKept}
-use Rattle.parts.specs.Parts.{Ready}
-use Rattle.conditions.specs.Known.{Heads}
-use Rattle.search.specs.Flags.{flags}
-use Rattle.search.specs.State.{State, freshOf}
-use Rattle.search.proofs.States.{target-lt}
 use Rattle.reducer.specs.declared.ReduceAnswer.the-variants.{Accepted, Refused}
 use Rattle.reducer.specs.Reductions.{room, stepsOf, wordsOf, Reduction, refused, onTable, reduction, Answered}
 use Rattle.reducer.specs.Opened.{Begun, Reduced}
 
 -- ---- the start
-
-flag-one : (rest : List ℕ) (i : ℕ) → i < 18432 → getD (replicate 18432 1 ++ rest) i 0 ≢ 0
-flag-one rest i l e = omega (arith, List·getD-append (replicate 18432 1) rest 0 i (subst (λ k. i < k) (sym (length-replicate {A = ℕ} 18432 1)) l), getD-replicate {A = ℕ} 18432 i 1 0 l)
-
--- every target is flagged, and the reach is not known
-pub state-begun : (ws ms start hs rs may rest : List ℕ) → Ready ws ms start → Heads ws ms hs → getD ws 0 0 ≤ length hs → getD ws 0 0 ≤ length rs → length may ≡ 20480
-    → may ≡ replicate 18432 1 ++ rest → State ws ms start hs rs may
-state-begun ws ms start hs rs may rest r h a b l e = record {
-  ready = r;
-  counted = h;
-  atoms = a;
-  bytes = b;
-  long = l;
-  reached = λ q. absurd (flagged 0 (omega arith) q);
-  quiet = λ k _. quiet-all (getD ws 0 0) (view ws ms) k (flags may (number k)) (freshOf k may) (λ u x. flagged (number k * 2048 + u .target)
-      (omega (arith, number-bounds k, target-lt ws ms u x, passed-limits ws (r .placed .passed) .fewClauses)));
-}
-  where
-    flagged : (i : ℕ) → i < 18432 → getD may i 0 ≢ 0
-    flagged i k = subst (λ x. getD x i 0 ≢ 0) (sym e) (flag-one rest i k)
 
 none-gone : (n : ℕ) → count (λ x. eqb x 0) (replicate n 1) ≡ 0
 none-gone zero = refl

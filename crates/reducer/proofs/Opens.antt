@@ -23,115 +23,66 @@ use Rattle.parts.specs.declared.Part.the-variants.{Head, Pos}
 use Rattle.parts.specs.declared.Bounds.{Bounds}
 use Rattle.parts.specs.Parts.{Ready, Spanned}
 use Rattle.parts.proofs.Laws.{part-is}
-use Rattle.table.proofs.Parts.{part-slice}
+use Rattle.table.proofs.Encoding.{passed-limits}
+use Rattle.table.proofs.Parts.{part-slice, view-straight}
 use Rattle.conditions.specs.Known.{Heads, Known}
-use Rattle.search.specs.Flags.{flags, Grown}
-use Rattle.search.specs.State.{Spread}
-use Rattle.search.proofs.Flags.{set-flag, grown-set}
-use Rattle.search.proofs.Walks.{bare-test}
-use Rattle.reducer.specs.Opened.{Dropped, OpenAt, Bared, Lost}
+use Rattle.search.specs.Flags.{flags, Rows, Grown, Raising}
+use Rattle.reducer.specs.Opened.{Opened, AtomFresh, AllFresh, Lost}
 
--- ---- a drop
+-- ---- rows
 
-module _ (ws ms may : List ℕ) (t : ℕ) (l : 18432 + t < length may) where
-  abbrev one : List ℕ
-  one = set may (18432 + t) 1
+pub opened-by : (may may' : List ℕ) (row top : ℕ) → Raising may may' row top → (row ≡ 0) ⊎ (9 ≤ row) → Opened may may'
+opened-by may may' row top g o = record { long = g .long; grown = g .grown; rows = λ m w. g .rows m (λ a b. ⊎-elim (λ x. absurd (omega arith)) (λ x. absurd (omega arith)) o) w }
 
-  pub dropped-plain : fact (entry (view ws ms) t .clause) ≡ false → Dropped ws ms may one t
-  dropped-plain f = record {
-    grown = grown-set may (18432 + t) l may (λ i e. e);
-    long = simp length-set;
-    fresh = set-flag may (18432 + t) l;
-    success = λ h. absurd (not-so f h);
-    blocked = λ h. absurd (not-so f h);
-  }
+pub opened-none : (may : List ℕ) → Opened may may
+opened-none may = record { long = refl; grown = λ r i a b e. e; rows = λ m w. w }
 
-  pub dropped-fact : (two three : List ℕ) → Spread ws ms one two 3 t 0 → Spread ws ms two three 5 t 0 → Dropped ws ms may three t
-  dropped-fact two three a b = record {
-    grown = λ i e. grown-set may (18432 + t) l may (λ i e. e) i (a .grown i (b .grown i e));
-    long = b .long ∙ a .long ∙ simp length-set;
-    fresh = λ e. set-flag may (18432 + t) l (a .grown (9 * 2048 + t) (b .grown (9 * 2048 + t) e));
-    success = λ h j k c e. a .flagged j k c (b .grown (3 * 2048 + j) e);
-    blocked = λ h j k c. b .flagged j k c;
-  }
+pub opened-more : (one two three : List ℕ) → Opened one two → Opened two three → Opened one three
+opened-more one two three p q = record { long = q .long ∙ p .long; grown = λ r i a b e. p .grown r i a b (q .grown r i a b e); rows = λ m w. q .rows m (p .rows m w) }
 
--- ---- an atom in no head
-
--- the one atom
-only : (ws ms may : List ℕ) (a : ℕ) → OpenAt ws ms may a → (b : ℕ) → b ∈ a ∷ [] → OpenAt ws ms may b
-only ws ms may a h b m = ⊎-elim (λ e. subst (OpenAt ws ms may) (sym e) h) (λ k. absurd (List·Memᴰ·not-nil k)) (List·Memᴰ·cases-cons m)
-
-pub bared-not : (ws ms may hs : List ℕ) (a : ℕ) → Heads ws ms hs → eqb (getD hs a 0) 0 ≡ false → Bared ws ms may may (a ∷ [])
-bared-not ws ms may hs a h e = record { grown = λ i q. q; long = refl; each = only ws ms may a (λ q. absurd (not-so (sym (bare-test (view ws ms) (getD hs a 0) a (h .is a)) ∙ e) q)) }
-
-pub bared-atom : (ws ms may two three : List ℕ) (a : ℕ) → Spread ws ms may two 4 0 a → Spread ws ms two three 6 0 a → Bared ws ms may three (a ∷ [])
-bared-atom ws ms may two three a x y = record {
-  grown = λ i e. x .grown i (y .grown i e);
-  long = y .long ∙ x .long;
-  each = only ws ms three a (λ q j l. (λ c e. x .flagged j l c (y .grown (4 * 2048 + j) e), λ c. y .flagged j l c));
-}
+pub fresh-more : (may may' : List ℕ) (a : ℕ) → a < 2048 → Opened may may' → AtomFresh may a → AtomFresh may' a
+fresh-more may may' a l o f = record { noHead = λ e. f .noHead (o .grown 12 a (omega arith) l e); failure = λ e. f .failure (o .grown 14 a (omega arith) l e) }
 
 -- ---- the atoms of a head, one after the other
 
-open-grown : (ws ms may may' : List ℕ) (a : ℕ) → Grown may may' → OpenAt ws ms may a → OpenAt ws ms may' a
-open-grown ws ms may may' a g h q j l = (λ c e. h q j l .0 c (g (4 * 2048 + j) e), λ c e. h q j l .1 c (g (6 * 2048 + j) e))
-
 -- the atoms that are not in the words from i up to e are done
-pub record Baring (ws ms may may' l : List ℕ) (i e : ℕ) : Type 0 where
-  pub grown : Grown may may'
-  pub long : length may' ≡ length may
-  pub each : (a : ℕ) → a ∈ l → (a ∈ part ws ms i (e - i)) ⊎ OpenAt ws ms may' a
+pub record Opening (ws ms may may' l : List ℕ) (i e : ℕ) : Type 0 where
+  pub opened : Opened may may'
+  pub below : (a : ℕ) → a ∈ l → a < 2048
+  pub each : (a : ℕ) → a ∈ l → (a ∈ part ws ms i (e - i)) ⊎ AtomFresh may' a
 
-pub baring-none : (ws ms start may : List ℕ) (t : ℕ) → Ready ws ms start → t < getD ws 1 0 → (s : Bounds) → Spanned ws t Head s → Baring ws ms may may (entry (view ws ms) t .clause .head) (s .from) (s .end)
-baring-none ws ms start may t r h s q = record {
-  grown = λ i e. e;
-  long = refl;
+pub opening-none : (ws ms start may : List ℕ) (t : ℕ) → Ready ws ms start → t < getD ws 1 0 → (s : Bounds) → Spanned ws t Head s → Opening ws ms may may (entry (view ws ms) t .clause .head) (s .from) (s .end)
+opening-none ws ms start may t r h s q = record {
+  opened = opened-none may;
+  below = λ a m. omega (arith, view-straight ws ms (r .placed .passed) t .headBelow a m, passed-limits ws (r .placed .passed) .fewAtoms);
   each = λ a m. inl (subst (λ l. a ∈ l) (part-is ws ms start r t h Head s q ∙ sym (part-slice ws ms (s .from) (s .end - s .from) (omega (arith, q .order, q .fits)) (omega (arith, q .order, q .fits, r .marks)))) m);
 }
 
-module _ (ws ms may may' l : List ℕ) (i e : ℕ) (b : Baring ws ms may may' l i e) (h : i < e) where
+module _ (ws ms may may' l : List ℕ) (i e : ℕ) (b : Opening ws ms may may' l i e) (h : i < e) where
   part-here : part ws ms i (e - i) ≡ cond (eqb (getD ms i 0) 1) (getD ws i 0 ∷ part ws ms (i + 1) (e - (i + 1))) (part ws ms (i + 1) (e - (i + 1)))
   unfolding part
   part-here = let z : e - i ≡ suc (e - (i + 1)) = omega arith in rw (z, add-one)
 
-  pub baring-past : getD ms i 0 ≢ 1 → Baring ws ms may may' l (i + 1) e
-  baring-past d = record {
-    grown = b .grown;
-    long = b .long;
+  pub opening-past : getD ms i 0 ≢ 1 → Opening ws ms may may' l (i + 1) e
+  opening-past d = record {
+    opened = b .opened;
+    below = b .below;
     each = λ a m. ⊎-elim (λ k. inl (subst (λ l. a ∈ l) (part-here ∙ ap (λ t. cond t (getD ws i 0 ∷ part ws ms (i + 1) (e - (i + 1))) (part ws ms (i + 1) (e - (i + 1)))) (ne-eqb _ _ d)) k)) inr (b .each a m);
   }
 
-  pub baring-on : (may'' : List ℕ) → getD ms i 0 ≡ 1 → Bared ws ms may' may'' (getD ws i 0 ∷ []) → Baring ws ms may may'' l (i + 1) e
-  baring-on may'' k c = record {
-    grown = λ j q. b .grown j (c .grown j q);
-    long = c .long ∙ b .long;
+  pub opening-on : (may'' : List ℕ) → getD ms i 0 ≡ 1 → Opened may' may'' → AtomFresh may'' (getD ws i 0) → Opening ws ms may may'' l (i + 1) e
+  opening-on may'' k o f = record {
+    opened = opened-more may may' may'' (b .opened) o;
+    below = b .below;
     each = λ a m. ⊎-elim
-        (λ x. ⊎-elim (λ q. inr (subst (OpenAt ws ms may'') (sym q) (c .each (getD ws i 0) (List·Memᴰ·head refl)))) inl
+        (λ x. ⊎-elim (λ q. inr (subst (AtomFresh may'') (sym q) f)) inl
         (List·Memᴰ·cases-cons (subst (λ l. a ∈ l) (part-here ∙ ap (λ t. cond t (getD ws i 0 ∷ part ws ms (i + 1) (e - (i + 1))) (part ws ms (i + 1) (e - (i + 1)))) (eq-eqb _ _ k)) x)))
-        (λ x. inr (open-grown ws ms may' may'' a (c .grown) x)) (b .each a m);
+        (λ x. inr (fresh-more may' may'' a (b .below a m) o x)) (b .each a m);
   }
 
-pub baring-all : (ws ms may may' l : List ℕ) (i e : ℕ) → Baring ws ms may may' l i e → e ≤ i → Bared ws ms may may' l
+pub opening-all : (ws ms may may' l : List ℕ) (i e : ℕ) → Opening ws ms may may' l i e → e ≤ i → Opened may may' × AllFresh may' l
 unfolding part
-baring-all ws ms may may' l i e b h = record {
-  grown = b .grown;
-  long = b .long;
-  each = λ a m. ⊎-elim (λ k. absurd (List·Memᴰ·not-nil (let z : e - i ≡ 0 = omega arith in subst (λ n. a ∈ part ws ms i n) z k))) (λ k. k) (b .each a m);
-}
-
--- ---- what a spread key asks to be known
-
-pub idle-success : (ws ms hs rs : List ℕ) → Known success ws ms hs rs
-idle-success ws ms hs rs = record { heads = λ h. absurd (false≢true h); reached = λ h. absurd (false≢true h) }
-
-pub idle-blocked : (ws ms hs rs : List ℕ) → Known blocked ws ms hs rs
-idle-blocked ws ms hs rs = record { heads = λ h. absurd (false≢true h); reached = λ h. absurd (false≢true h) }
-
-pub heads-noHead : (ws ms hs rs : List ℕ) → Heads ws ms hs → Known noHead ws ms hs rs
-heads-noHead ws ms hs rs h = record { heads = λ _. h; reached = λ h. absurd (false≢true h) }
-
-pub heads-failure : (ws ms hs rs : List ℕ) → Heads ws ms hs → Known failure ws ms hs rs
-heads-failure ws ms hs rs h = record { heads = λ _. h; reached = λ h. absurd (false≢true h) }
+opening-all ws ms may may' l i e b h = (b .opened, λ a m. ⊎-elim (λ k. absurd (List·Memᴰ·not-nil (let z : e - i ≡ 0 = omega arith in subst (λ n. a ∈ part ws ms i n) z k))) (λ k. k) (b .each a m))
 
 -- ---- the reach after a deletion
 
@@ -169,14 +120,13 @@ firing-end ws ms rs t i e f l = let z : e - i ≡ 0 = omega arith in subst (λ k
 
 module _ (ws ms start hs rs may : List ℕ) (s : Step) (z : State ws ms start hs rs may) where
   pub lost-idle : false ≡ all (inBytes rs) (entry (view ws ms) (s .target) .clause .pos) → Lost ws ms may may s
-  lost-idle e = record { grown = λ i q. q; long = refl; keeps = λ k. inl (λ g. not-so (sym e) (all-iff (inBytes rs) (entry (view ws ms) (s .target) .clause .pos) .1 (λ a m. z .reached k .is a ∙ g a m))) }
+  lost-idle e = record { opened = opened-none may; keeps = λ k. inl (λ g. not-so (sym e) (all-iff (inBytes rs) (entry (view ws ms) (s .target) .clause .pos) .1 (λ a m. z .reached k .is a ∙ g a m))) }
 
   pub lost-twin : Twin (view ws ms) s → Lost ws ms may may s
-  lost-twin t = record { grown = λ i q. q; long = refl; keeps = λ _. inr t }
+  lost-twin t = record { opened = opened-none may; keeps = λ _. inr t }
 
-  pub lost-all : Lost ws ms may (set may 0 1) s
-  lost-all = let l : 0 < length may = omega (arith, z .long) in
-      record { grown = grown-set may 0 l may (λ i e. e); long = simp length-set; keeps = λ e. absurd (set-flag may 0 l e) }
+  pub lost-all : (may' : List ℕ) → Raising may may' 0 1 → flags may' 0 0 ≢ 0 → Lost ws ms may may' s
+  lost-all may' g f = record { opened = opened-by may may' 0 1 g (inl refl); keeps = λ e. absurd (f e) }
 
 pub twin-by : (P : Marked) (s : Step) → s .kind ≡ subsumed → within (entry P (s .target) .clause .head) (entry P (s .partner) .clause .head) ≡ true → Twin P s
 twin-by P s e w = (e, within-iff _ _ .0 w)

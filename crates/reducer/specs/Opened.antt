@@ -12,34 +12,44 @@ use Rattle.rewriting.specs.Reach.{reach}
 use Rattle.rewriting.specs.Steps as steps
 use Rattle.rewriting.proofs.Reopen.{Twin}
 use Rattle.rewriting.specs.Marked.{entry, left, whole}
-use Rattle.rewriting.specs.Steps.{success, noHead, blocked, failure, fact, inNoHead, condition, applies, kindOf}
+use Rattle.rewriting.specs.Steps.{applies, kindOf}
 use Rattle.table.specs.Questions.{Passed}
 use Rattle.table.specs.Places.{programOf}
 use Rattle.table.specs.View.{view, marksAfterAll, zeros}
 use Rattle.conditions.specs.declared.Step.{Step}
 use Rattle.conditions.specs.Known.{stepOf}
-use Rattle.search.specs.Flags.{flags, Grown}
+use Rattle.search.specs.Flags.{flags, Rows, Grown, AllFlagged}
 use Rattle.reducer.specs.Reductions.{room, stepsOf, wordsOf}
 
--- Clause t lost a literal: it is a key of kind 8, and where it is a fact, every target of kinds 3 and 5 that it serves is flagged.
-pub record Dropped (ws ms may may' : List ℕ) (t : ℕ) : Type 0 where
-  pub grown : Grown may may'
+-- No flag is lost.
+pub record Opened (may may' : List ℕ) : Type 0 where
   pub long : length may' ≡ length may
-  pub fresh : flags may' 9 t ≢ 0
-  pub success : So (fact (entry (view ws ms) t .clause)) → (j : ℕ) → j < getD ws 1 0 → So (condition success (left (view ws ms)) (entry (view ws ms) j .clause) (entry (view ws ms) t .clause) 0) → flags may' 3 j ≢ 0
-  pub blocked : So (fact (entry (view ws ms) t .clause)) → (j : ℕ) → j < getD ws 1 0 → So (condition blocked (left (view ws ms)) (entry (view ws ms) j .clause) (entry (view ws ms) t .clause) 0) → flags may' 5 j ≢ 0
-
--- Where the atom is in no kept head, every target of kinds 4 and 6 that has it is flagged.
-abbrev pub OpenAt : List ℕ → List ℕ → List ℕ → ℕ → Type 0
-OpenAt ws ms may a = So (inNoHead (left (view ws ms)) a) → (j : ℕ) → j < getD ws 1 0
-    → (So (condition noHead (left (view ws ms)) (entry (view ws ms) j .clause) (entry (view ws ms) 0 .clause) a) → flags may 4 j ≢ 0)
-    × (So (condition failure (left (view ws ms)) (entry (view ws ms) j .clause) (entry (view ws ms) 0 .clause) a) → flags may 6 j ≢ 0)
-
--- The same at every atom of a list.
-pub record Bared (ws ms may may' l : List ℕ) : Type 0 where
   pub grown : Grown may may'
-  pub long : length may' ≡ length may
-  pub each : (a : ℕ) → a ∈ l → OpenAt ws ms may' a
+  pub rows : (m : ℕ) → Rows m may → Rows m may'
+
+-- The clause is a fresh key of kinds 3, 5 and 8.
+pub record PartnerFresh (may : List ℕ) (t : ℕ) : Type 0 where
+  pub success : flags may 11 t ≢ 0
+  pub blocked : flags may 13 t ≢ 0
+  pub subsumed : flags may 16 t ≢ 0
+
+-- The atom is a fresh key of kinds 4 and 6.
+pub record AtomFresh (may : List ℕ) (a : ℕ) : Type 0 where
+  pub noHead : flags may 12 a ≢ 0
+  pub failure : flags may 14 a ≢ 0
+
+-- So is every atom of a list.
+abbrev pub AllFresh : List ℕ → List ℕ → Type 0
+AllFresh may l = (a : ℕ) → a ∈ l → AtomFresh may a
+
+-- Every target of kinds 1 and 2 is flagged, every key of the others is fresh, and the reach is not known.
+pub record AllOpen (may : List ℕ) (m : ℕ) : Type 0 where
+  pub rows : Rows m may
+  pub reach : flags may 0 0 ≢ 0
+  pub tautology : AllFlagged may 1 m
+  pub contradiction : AllFlagged may 2 m
+  pub partner : (t : ℕ) → t < 2048 → PartnerFresh may t
+  pub atom : (a : ℕ) → a < 2048 → AtomFresh may a
 
 -- The step applies.
 pub record Taken (ws ms : List ℕ) (s : Step) : Type 0 where
@@ -49,9 +59,8 @@ pub record Taken (ws ms : List ℕ) (s : Step) : Type 0 where
 
 -- Where the first flag stays 0, the deletion leaves the reach as it is: the clause did not fire, or its partner fires in its place.
 pub record Lost (ws ms may may' : List ℕ) (s : steps.Step) : Type 0 where
-  pub grown : Grown may may'
-  pub long : length may' ≡ length may
-  pub keeps : getD may' 0 0 ≡ 0 → (¬ All (reach (left (view ws ms))) (entry (view ws ms) (s .target) .clause .pos)) ⊎ Twin (view ws ms) s
+  pub opened : Opened may may'
+  pub keeps : flags may' 0 0 ≡ 0 → (¬ All (reach (left (view ws ms))) (entry (view ws ms) (s .target) .clause .pos)) ⊎ Twin (view ws ms) s
 
 -- All marks are 1, and the list has room.
 pub record Begun (ws ms ls : List ℕ) : Type 0 where

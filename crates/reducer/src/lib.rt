@@ -19,7 +19,7 @@ ghost use Rattle.rewriting.proofs.Reopen.{drops, Twin};
 ghost use Rattle.semantics.specs.Lists.{all};
 ghost use Rattle.reach.specs.Bytes.{inBytes};
 ghost use mathlib.Core.Bool.{true};
-ghost use Rattle.reducer.specs.Opened.{Dropped, Bared, Taken, Lost, Begun, Reduced};
+ghost use Rattle.reducer.specs.Opened.{Opened, PartnerFresh, AtomFresh, AllFresh, AllOpen, Taken, Lost, Begun, Reduced};
 use conditions::Step;
 use parts::Part;
 use search::Found;
@@ -53,62 +53,29 @@ fn most_steps(words: &[u16]) -> usize
 
 // ---- what a step opens
 
-// A clause lost a literal: it may be a partner of kind 8 now and, as a fact, of kinds 3 and 5.
-fn open_partner(
-    words: &[u16],
-    marks: &[u8],
-    start: &[u16],
-    heads: &[u16],
-    reach: &[u8],
-    may: &mut [u8],
-    t: usize,
-    m: usize,
-)
-    requires { ⌜ (Ready (now words) (now marks) (now start)) × ((m ≡ getD (now words) 1 0) × ((t < getD (now words) 1 0) × (length (now may) ≡ 20480))) ⌝ }
-    ensures { λ _. ⌜ Dropped (now (words .entry)) (now (marks .entry)) (now (may .entry)) (now (may .exit)) t ⌝ }
+// A clause lost a literal: it is a fresh key of the kinds with a partner, 3, 5 and 8.
+fn open_partner(may: &mut [u16], t: usize)
+    requires { ⌜ (t < 2048) × (length (now may) ≡ 34850) ⌝ }
+    ensures { λ _. ⌜ Opened (now (may .entry)) (now (may .exit)) × PartnerFresh (now (may .exit)) t ⌝ }
 {
-    may[18432 + t] = 1;
-    if !conditions::is_fact(words, marks, start, t) {
-        return;
-    }
-    search::spread(words, marks, start, heads, reach, may, 3, t, 0, m);
-    search::spread(words, marks, start, heads, reach, may, 5, t, 0, m);
+    search::flag(may, 11, t);
+    search::flag(may, 13, t);
+    search::flag(may, 16, t);
 }
 
-// Steps of kinds 4 and 6 at an atom that is in no kept head.
-fn open_atom(
-    words: &[u16],
-    marks: &[u8],
-    start: &[u16],
-    heads: &[u16],
-    reach: &[u8],
-    may: &mut [u8],
-    atom: u16,
-    m: usize,
-)
-    requires { ⌜ (Ready (now words) (now marks) (now start)) × ((m ≡ getD (now words) 1 0) × ((0 < m) × ((Heads (now words) (now marks) (now heads)) × (length (now may) ≡ 20480)))) ⌝ }
-    ensures { λ _. ⌜ Bared (now (words .entry)) (now (marks .entry)) (now (may .entry)) (now (may .exit)) (atom ∷ []) ⌝ }
+// An atom lost a head: it is a fresh key of kinds 4 and 6.
+fn open_atom(may: &mut [u16], atom: usize)
+    requires { ⌜ (atom < 2048) × (length (now may) ≡ 34850) ⌝ }
+    ensures { λ _. ⌜ Opened (now (may .entry)) (now (may .exit)) × AtomFresh (now (may .exit)) atom ⌝ }
 {
-    if !conditions::no_head(heads, atom) {
-        return;
-    }
-    search::spread(words, marks, start, heads, reach, may, 4, 0, atom, m);
-    search::spread(words, marks, start, heads, reach, may, 6, 0, atom, m);
+    search::flag(may, 12, atom);
+    search::flag(may, 14, atom);
 }
 
-// The same at every head atom of a clause that was deleted.
-fn open_head(
-    words: &[u16],
-    marks: &[u8],
-    start: &[u16],
-    heads: &[u16],
-    reach: &[u8],
-    may: &mut [u8],
-    t: usize,
-    m: usize,
-)
-    requires { ⌜ (Ready (now words) (now marks) (now start)) × ((m ≡ getD (now words) 1 0) × ((t < getD (now words) 1 0) × ((Heads (now words) (now marks) (now heads)) × (length (now may) ≡ 20480)))) ⌝ }
-    ensures { λ _. ⌜ Bared (now (words .entry)) (now (marks .entry)) (now (may .entry)) (now (may .exit)) (entry (view (now (words .entry)) (now (marks .entry))) t .clause .head) ⌝ }
+// So is every head atom of a clause that was deleted.
+fn open_head(words: &[u16], marks: &[u8], start: &[u16], may: &mut [u16], t: usize)
+    requires { ⌜ (Ready (now words) (now marks) (now start)) × ((t < getD (now words) 1 0) × (length (now may) ≡ 34850)) ⌝ }
+    ensures { λ _. ⌜ Opened (now (may .entry)) (now (may .exit)) × AllFresh (now (may .exit)) (entry (view (now (words .entry)) (now (marks .entry))) t .clause .head) ⌝ }
 {
     let s = parts::span(words, start, t, Part::Head);
     let e = s.end;
@@ -116,7 +83,7 @@ fn open_head(
         if marks[i] != 1 {
             continue;
         }
-        open_atom(words, marks, start, heads, reach, may, words[i], m);
+        open_atom(may, table::wide(words[i]));
     }
 }
 
@@ -166,7 +133,7 @@ fn lose_reach(
     start: &[u16],
     heads: &[u16],
     reach: &[u8],
-    may: &mut [u8],
+    may: &mut [u16],
     step: Step,
 )
     requires { ⌜ (State (now words) (now marks) (now start) (now heads) (now reach) (now may)) × (Taken (now words) (now marks) step) ⌝ }
@@ -178,7 +145,7 @@ fn lose_reach(
     if has_twin(words, marks, start, step) {
         return;
     }
-    may[0] = 1;
+    search::flag(may, 0, 0);
 }
 
 // Kinds 3 and 4: a literal is dropped.
@@ -188,24 +155,14 @@ fn drop_literal(
     start: &[u16],
     heads: &[u16],
     reach: &[u8],
-    may: &mut [u8],
+    may: &mut [u16],
     step: Step,
-    m: usize,
 )
-    requires { ⌜ (State (now words) (now marks) (now start) (now heads) (now reach) (now may)) × ((m ≡ getD (now words) 1 0) × ((Taken (now words) (now marks) step) × So (drops (kindOf (step .kind))))) ⌝ }
+    requires { ⌜ (State (now words) (now marks) (now start) (now heads) (now reach) (now may)) × ((Taken (now words) (now marks) step) × So (drops (kindOf (step .kind)))) ⌝ }
     ensures { λ _. ⌜ (now (marks .exit) ≡ marksAfter (now (words .entry)) (now (marks .entry)) (stepOf step)) × State (now (words .entry)) (now (marks .exit)) (now (start .entry)) (now (heads .entry)) (now (reach .entry)) (now (may .exit)) ⌝ }
 {
     conditions::make_step(words, marks, start, step);
-    open_partner(
-        words,
-        marks,
-        start,
-        heads,
-        reach,
-        may,
-        table::wide(step.target),
-        m,
-    );
+    open_partner(may, table::wide(step.target));
 }
 
 // The other kinds: the clause is deleted.
@@ -215,26 +172,17 @@ fn delete_clause(
     start: &[u16],
     heads: &mut [u16],
     reach: &[u8],
-    may: &mut [u8],
+    may: &mut [u16],
     step: Step,
-    m: usize,
 )
-    requires { ⌜ (State (now words) (now marks) (now start) (now heads) (now reach) (now may)) × ((m ≡ getD (now words) 1 0) × ((Taken (now words) (now marks) step) × ¬ So (drops (kindOf (step .kind))))) ⌝ }
+    requires { ⌜ (State (now words) (now marks) (now start) (now heads) (now reach) (now may)) × ((Taken (now words) (now marks) step) × ¬ So (drops (kindOf (step .kind)))) ⌝ }
     ensures { λ _. ⌜ (now (marks .exit) ≡ marksAfter (now (words .entry)) (now (marks .entry)) (stepOf step)) × State (now (words .entry)) (now (marks .exit)) (now (start .entry)) (now (heads .exit)) (now (reach .entry)) (now (may .exit)) ⌝ }
 {
+    let t = table::wide(step.target);
     lose_reach(words, marks, start, heads, reach, may, step);
+    conditions::lower_heads(words, marks, start, t, heads);
     conditions::make_step(words, marks, start, step);
-    conditions::count_heads(words, marks, start, heads);
-    open_head(
-        words,
-        marks,
-        start,
-        heads,
-        reach,
-        may,
-        table::wide(step.target),
-        m,
-    );
+    open_head(words, marks, start, may, t);
 }
 
 // A step is made, and what it opens is flagged.
@@ -244,23 +192,22 @@ fn apply_step(
     start: &[u16],
     heads: &mut [u16],
     reach: &[u8],
-    may: &mut [u8],
+    may: &mut [u16],
     step: Step,
-    m: usize,
 )
-    requires { ⌜ (State (now words) (now marks) (now start) (now heads) (now reach) (now may)) × ((m ≡ getD (now words) 1 0) × Taken (now words) (now marks) step) ⌝ }
+    requires { ⌜ (State (now words) (now marks) (now start) (now heads) (now reach) (now may)) × Taken (now words) (now marks) step ⌝ }
     ensures { λ _. ⌜ (now (marks .exit) ≡ marksAfter (now (words .entry)) (now (marks .entry)) (stepOf step)) × State (now (words .entry)) (now (marks .exit)) (now (start .entry)) (now (heads .exit)) (now (reach .entry)) (now (may .exit)) ⌝ }
 {
     let kind = step.kind;
     if kind == 3 {
-        drop_literal(words, marks, start, heads, reach, may, step, m);
+        drop_literal(words, marks, start, heads, reach, may, step);
         return;
     }
     if kind == 4 {
-        drop_literal(words, marks, start, heads, reach, may, step, m);
+        drop_literal(words, marks, start, heads, reach, may, step);
         return;
     }
-    delete_clause(words, marks, start, heads, reach, may, step, m);
+    delete_clause(words, marks, start, heads, reach, may, step);
 }
 
 // The step number s is written to the list.
@@ -285,7 +232,7 @@ fn run_steps(
     start: &[u16],
     heads: &mut [u16],
     reach: &mut [u8],
-    may: &mut [u8],
+    may: &mut [u16],
     m: usize,
 ) -> usize
     requires { ⌜ (State (now words) (now marks) (now start) (now heads) (now reach) (now may)) × ((m ≡ getD (now words) 1 0) × Begun (now words) (now marks) (now list)) ⌝ }
@@ -298,19 +245,24 @@ fn run_steps(
             return s;
         };
         write_step(list, s, step);
-        apply_step(words, marks, start, heads, reach, may, step, m);
+        apply_step(words, marks, start, heads, reach, may, step);
         s += 1;
     }
 }
 
-// Every target of every kind is flagged, and the reach is to be found.
-fn flag_kinds(may: &mut [u8])
-    requires { ⌜ 18432 ≤ length (now may) ⌝ }
-    ensures { λ _. ⌜ now (may .exit) ≡ replicate 18432 1 ++ drop 18432 (now (may .entry)) ⌝ }
+// Every target of kinds 1 and 2 is flagged, every key of kinds 3, 4, 5, 6 and 8 is fresh, and the reach is to be found.
+fn flag_kinds(may: &mut [u16], m: usize)
+    requires { ⌜ (now may ≡ replicate 34850 0) × (m ≤ 2048) ⌝ }
+    ensures { λ _. ⌜ AllOpen (now (may .exit)) m ⌝ }
 {
-    for i in 0usize..18432 {
-        may[i] = 1;
-    }
+    search::flag(may, 0, 0);
+    search::flag_all(may, 1, m);
+    search::flag_all(may, 2, m);
+    search::flag_all(may, 11, 2048);
+    search::flag_all(may, 12, 2048);
+    search::flag_all(may, 13, 2048);
+    search::flag_all(may, 14, 2048);
+    search::flag_all(may, 16, 2048);
 }
 
 // The reduction of a table all of whose marks are 1.
@@ -322,10 +274,10 @@ fn reduce_kept(words: &[u16], marks: &mut [u8], list: &mut [u16]) -> usize
     let mut start = [0u16; 2049];
     let mut heads = [0u16; 1024];
     let mut reach = [0u8; 1024];
-    let mut may = [0u8; 20480];
+    let mut may = [0u16; 34850];
     parts::clause_starts(words, &mut start);
     conditions::count_heads(words, marks, &start, &mut heads);
-    flag_kinds(&mut may);
+    flag_kinds(&mut may, m);
     run_steps(
         words,
         marks,

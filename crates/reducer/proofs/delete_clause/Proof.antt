@@ -1,55 +1,61 @@
--- `delete_clause`: the reach, the mark, the heads, then what the step opens.
-use Prim.Native.Nat.{ℕ, _≤_, _<_, _+_, _*_}
+-- `delete_clause`: the reach, the heads, the mark, then what the step opens.
+use Prim.Native.Nat.{ℕ, _≤_, _<_}
 use mathlib.Core.Path.{_≡_, refl, sym, ap, subst, _∙_}
+use mathlib.Core.Bool.{So}
 use native.Mathlib.Omega.{arith}
-use lib.ListN.{length, getD}
+use lib.ListN.{getD}
 use Rattle.rewriting.specs.Marked.{entry}
+use Rattle.rewriting.proofs.Reopen.{target-kept}
 use Rattle.table.specs.View.{view}
 use Rattle.parts.specs.Parts.{Ready}
-use Rattle.search.proofs.States.{target-lt}
+use Rattle.conditions.specs.Known.{stepOf, Tallied}
 use Rattle.search.specs.State.{State}
-use Rattle.conditions.specs.Known.{Heads, stepOf}
-use Rattle.reducer.specs.Opened.{Bared}
-use Rattle.reducer.proofs.Keeps.{state-deleted, ready-after}
+use Rattle.search.proofs.States.{target-lt}
+use Rattle.reducer.specs.Opened.{AllFresh}
+use Rattle.reducer.proofs.Opens.{opened-more}
+use Rattle.reducer.proofs.Keeps.{ready-after, state-deleted}
 use borrow.Author.Needs.{needs}
 use Rattle.reducer.proofs.delete_clause.Statement.{statement}
 use Rattle.reducer.proofs.delete_clause.Tie as tie
 
 lose-reach-requires : tie.Need-lose-reach-requires
-lose-reach-requires c κs = (c .before .before .before .before .before .before .before .before .before .pre .0, c .before .before .before .before .before .before .before .before .before .pre .1 .1 .0)
+lose-reach-requires c κs = (c .before .before .before .before .before .before .before .before .before .before .pre .0, c .before .before .before .before .before .before .before .before .before .before .pre .1 .0)
+
+lower-heads-requires : tie.Need-lower-heads-requires
+lower-heads-requires c κs =
+    let t = c .before .before .before .before .before .before .before .before .before .before .before .before .before .before .before .pre .1 .0 .applies in
+    let u = stepOf (c .before .before .before .before .before .before .before .before .before .before .before .before .before .before .before .args .step) in
+    (c .before .before .before .before .before .before .before .before .before .before .before .before .before .before .before .pre .0 .ready, (omega (arith, c .before .before .before .before .before .before .before .before .wide .ensures .0, target-lt (c .before .before .before .before .before .before .before .before .before .before .before .before .before .before .before .args .words .now) (c .before .before .before .before .before .before .before .before .before .before .before .before .before .before .before .args .marks .now) u t), (c .before .before .before .before .before .before .before .before .before .before .before .before .before .before .before .pre .0 .counted,
+    subst (λ i. So (entry (view (c .before .before .before .before .before .before .before .before .before .before .before .before .before .before .before .args .words .now) (c .before .before .before .before .before .before .before .before .before .before .before .before .before .before .before .args .marks .now)) i .kept)) (sym (c .before .before .before .before .before .before .before .before .wide .ensures .0)) (target-kept (getD (c .before .before .before .before .before .before .before .before .before .before .before .before .before .before .before .args .words .now) 0 0) (view (c .before .before .before .before .before .before .before .before .before .before .before .before .before .before .before .args .words .now) (c .before .before .before .before .before .before .before .before .before .before .before .before .before .before .before .args .marks .now)) u t))))
 
 make-step-requires : tie.Need-make-step-requires
-make-step-requires c κs =
-    let t = c .before .before .before .before .before .before .before .before .before .before .before .before .before .pre .1 .1 .0 in
-    (c .before .before .before .before .before .before .before .before .before .before .before .before .before .pre .0 .ready, ((t .low, t .high), t .applies))
-
-count-heads-requires : tie.Need-count-heads-requires
-count-heads-requires c κs =
-    let t = c .before .before .before .before .before .before .before .before .before .before .before .before .before .before .before .before .before .before .pre .1 .1 .0 in
-    let k = subst (λ k. Ready (c .before .before .before .before .before .before .before .before .before .before .before .before .before .before .before .before .before .before .args .words .now) k (c .before .before .before .before .before .before .before .before .before .before .before .before .before .before .before .before .before .before .args .start .now)) (sym (c .before .before .before .before .make-step .ensures)) (ready-after _ _ _ _ _ _ (c .before .before .before .before .before .before .before .before .before .before .before .before .before .before .before .before .before .before .pre .0) (stepOf (c .before .before .before .before .before .before .before .before .before .before .before .before .before .before .before .before .before .before .args .step)) (t .applies)) in
-    (k, c .before .before .before .before .before .before .before .before .before .before .before .before .before .before .before .before .before .before .pre .0 .atoms)
+make-step-requires c κs = let t = c .before .before .before .before .before .before .before .before .before .before .before .before .before .before .before .before .before .before .before .pre .1 .0 in (c .before .before .before .before .before .before .before .before .before .before .before .before .before .before .before .before .before .before .before .pre .0 .ready, ((t .low, t .high), t .applies))
 
 open-head-requires : tie.Need-open-head-requires
 open-head-requires c κs =
-    let t = c .before .before .before .before .before .before .before .before .before .before .before .before .before .before .before .before .before .before .before .before .before .before .before .before .before .pre .1 .1 .0 in
-    let k = subst (λ k. Ready (c .before .before .before .before .before .before .before .before .before .before .before .before .before .before .before .before .before .before .before .before .before .before .before .before .before .args .words .now) k (c .before .before .before .before .before .before .before .before .before .before .before .before .before .before .before .before .before .before .before .before .before .before .before .before .before .args .start .now)) (sym (c .before .before .before .before .before .before .before .before .before .before .before .make-step .ensures)) (ready-after _ _ _ _ _ _ (c .before .before .before .before .before .before .before .before .before .before .before .before .before .before .before .before .before .before .before .before .before .before .before .before .before .pre .0) (stepOf (c .before .before .before .before .before .before .before .before .before .before .before .before .before .before .before .before .before .before .before .before .before .before .before .before .before .args .step)) (t .applies)) in
-    (k, (c .before .before .before .before .before .before .before .before .before .before .before .before .before .before .before .before .before .before .before .before .before .before .before .before .before .pre .1 .0, (omega (arith, c .wide .ensures .0, target-lt (c .before .before .before .before .before .before .before .before .before .before .before .before .before .before .before .before .before .before .before .before .before .before .before .before .before .args .words .now) (c .before .before .before .before .before .before .before .before .before .before .before .before .before .before .before .before .before .before .before .before .before .before .before .before .before .args .marks .now) (stepOf (c .before .before .before .before .before .before .before .before .before .before .before .before .before .before .before .before .before .before .before .before .before .before .before .before .before .args .step)) (t .applies)), (c .before .before .before .before .before .before .count-heads .ensures, c .before .before .before .before .before .before .before .before .before .before .before .before .before .before .before .lose-reach .ensures .long ∙ c .before .before .before .before .before .before .before .before .before .before .before .before .before .before .before .before .before .before .before .before .before .before .before .before .before .pre .0 .long))))
+    let t = c .before .before .before .before .before .before .before .before .before .before .before .before .before .before .before .before .before .before .before .before .before .before .before .before .pre .1 .0 .applies in
+    let u = stepOf (c .before .before .before .before .before .before .before .before .before .before .before .before .before .before .before .before .before .before .before .before .before .before .before .before .args .step) in
+    (subst (λ k. Ready (c .before .before .before .before .before .before .before .before .before .before .before .before .before .before .before .before .before .before .before .before .before .before .before .before .args .words .now) k (c .before .before .before .before .before .before .before .before .before .before .before .before .before .before .before .before .before .before .before .before .before .before .before .before .args .start .now)) (sym (c .before .before .before .before .make-step .ensures)) (ready-after _ _ _ _ _ _ (c .before .before .before .before .before .before .before .before .before .before .before .before .before .before .before .before .before .before .before .before .before .before .before .before .pre .0) u t),
+    (omega (arith, c .before .before .before .before .before .before .before .before .before .before .before .before .before .before .before .before .before .wide .ensures .0, target-lt (c .before .before .before .before .before .before .before .before .before .before .before .before .before .before .before .before .before .before .before .before .before .before .before .before .args .words .now) (c .before .before .before .before .before .before .before .before .before .before .before .before .before .before .before .before .before .before .before .before .before .before .before .before .args .marks .now) u t), c .before .before .before .before .before .before .before .before .before .before .before .before .before .lose-reach .ensures .opened .long ∙ c .before .before .before .before .before .before .before .before .before .before .before .before .before .before .before .before .before .before .before .before .before .before .before .before .pre .0 .rows .long))
 
 same-length-3 : tie.Need-same-length-3
-same-length-3 c = c .before .before .open-head .ensures .long ∙ c .before .before .before .before .before .before .before .before .before .before .before .before .before .before .before .before .before .before .lose-reach .ensures .long
+same-length-3 c = c .before .before .open-head .ensures .0 .long ∙ c .before .before .before .before .before .before .before .before .before .before .before .before .before .before .before .before .lose-reach .ensures .opened .long
 
 returns : tie.Need-returns
 returns c =
-    let t = c .before .before .before .before .before .before .before .before .before .before .before .before .before .before .before .before .before .before .before .before .before .before .before .before .before .before .before .before .pre .1 .1 .0 in
-    let may₁ = c .before .before .before .before .before .before .before .before .before .before .before .before .before .before .before .before .before .before .lose-reach .last .1 .1 .1 .1 .1 .0 in
-    let may' = c .before .before .open-head .last .1 .1 .1 .1 .1 .0 in
-    let hs' = c .before .before .before .before .before .before .before .before .before .count-heads .last .1 .1 .1 .0 in
-    let a = subst (λ x. Bared (c .before .before .before .before .before .before .before .before .before .before .before .before .before .before .before .before .before .before .before .before .before .before .before .before .before .before .before .before .args .words .now) (c .before .before .before .before .before .before .before .before .before .before .before .before .before .before .make-step .last .1 .0) may₁ may' (entry (view (c .before .before .before .before .before .before .before .before .before .before .before .before .before .before .before .before .before .before .before .before .before .before .before .before .before .before .before .before .args .words .now) (c .before .before .before .before .before .before .before .before .before .before .before .before .before .before .make-step .last .1 .0)) x .clause .head)) (c .before .before .before .wide .ensures .0) (c .before .before .open-head .ensures) in
-    let b = subst (λ k. Bared (c .before .before .before .before .before .before .before .before .before .before .before .before .before .before .before .before .before .before .before .before .before .before .before .before .before .before .before .before .args .words .now) k may₁ may' (entry (view (c .before .before .before .before .before .before .before .before .before .before .before .before .before .before .before .before .before .before .before .before .before .before .before .before .before .before .before .before .args .words .now) k) (c .before .before .before .before .before .before .before .before .before .before .before .before .before .before .before .before .before .before .before .before .before .before .before .before .before .before .before .before .args .step .target) .clause .head)) (c .before .before .before .before .before .before .before .before .before .before .before .before .before .before .make-step .ensures) a in
-    let h = subst (λ k. Heads (c .before .before .before .before .before .before .before .before .before .before .before .before .before .before .before .before .before .before .before .before .before .before .before .before .before .before .before .before .args .words .now) k hs') (c .before .before .before .before .before .before .before .before .before .before .before .before .before .before .make-step .ensures) (c .before .before .before .before .before .before .before .before .before .count-heads .ensures) in
-    (c .before .before .before .before .before .before .before .before .before .before .before .before .before .before .make-step .ensures, subst (λ k. State (c .before .before .before .before .before .before .before .before .before .before .before .before .before .before .before .before .before .before .before .before .before .before .before .before .before .before .before .before .args .words .now) k (c .before .before .before .before .before .before .before .before .before .before .before .before .before .before .before .before .before .before .before .before .before .before .before .before .before .before .before .before .args .start .now) hs' (c .before .before .before .before .before .before .before .before .before .before .before .before .before .before .before .before .before .before .before .before .before .before .before .before .before .before .before .before .args .reach .now) may') (sym (c .before .before .before .before .before .before .before .before .before .before .before .before .before .before .make-step .ensures)) (state-deleted _ _ _ _ _ _ (c .before .before .before .before .before .before .before .before .before .before .before .before .before .before .before .before .before .before .before .before .before .before .before .before .before .before .before .before .pre .0) (stepOf (c .before .before .before .before .before .before .before .before .before .before .before .before .before .before .before .before .before .before .before .before .before .before .before .before .before .before .before .before .args .step)) (t .applies) hs' may₁ may' (c .before .before .before .before .before .before .before .before .before .before .before .before .before .before .before .before .before .before .before .before .before .before .before .before .before .before .before .before .pre .1 .1 .1) h (c .before .before .before .before .before .before .before .before .before .count-heads .kept .1 .1 .1 .0) (c .before .before .before .before .before .before .before .before .before .before .before .before .before .before .before .before .before .before .lose-reach .ensures) b))
+    let t = c .before .before .before .before .before .before .before .before .before .before .before .before .before .before .before .before .before .before .before .before .before .before .before .before .before .before .before .pre .1 .0 .applies in
+    let u = stepOf (c .before .before .before .before .before .before .before .before .before .before .before .before .before .before .before .before .before .before .before .before .before .before .before .before .before .before .before .args .step) in
+    let may' = c .before .before .open-head .last .1 .1 .1 .0 in
+    let hs' = c .before .before .before .before .before .before .before .before .before .before .before .lower-heads .last .1 .1 .1 .1 .0 in
+    let g = c .before .before .before .before .before .before .before .before .before .before .before .before .before .before .before .before .lose-reach .ensures in
+    let o = c .before .before .open-head .ensures in
+    let l = subst (λ i. Tallied (entry (view (c .before .before .before .before .before .before .before .before .before .before .before .before .before .before .before .before .before .before .before .before .before .before .before .before .before .before .before .args .words .now) (c .before .before .before .before .before .before .before .before .before .before .before .before .before .before .before .before .before .before .before .before .before .before .before .before .before .before .before .args .marks .now)) i .clause .head) hs' (c .before .before .before .before .before .before .before .before .before .before .before .before .before .before .before .before .before .before .before .before .before .before .before .before .before .before .before .args .heads .now)) (c .before .before .before .before .before .before .before .before .before .before .before .before .before .before .before .before .before .before .before .before .wide .ensures .0) (c .before .before .before .before .before .before .before .before .before .before .before .lower-heads .ensures) in
+    let a = subst (λ i. AllFresh may' (entry (view (c .before .before .before .before .before .before .before .before .before .before .before .before .before .before .before .before .before .before .before .before .before .before .before .before .before .before .before .args .words .now) (c .before .before .before .before .before .before .before .make-step .last .1 .0)) i .clause .head)) (c .before .before .before .before .before .before .before .before .before .before .before .before .before .before .before .before .before .before .before .before .wide .ensures .0) (o .1) in
+    let b = subst (λ k. AllFresh may' (entry (view (c .before .before .before .before .before .before .before .before .before .before .before .before .before .before .before .before .before .before .before .before .before .before .before .before .before .before .before .args .words .now) k) (c .before .before .before .before .before .before .before .before .before .before .before .before .before .before .before .before .before .before .before .before .before .before .before .before .before .before .before .args .step .target) .clause .head)) (c .before .before .before .before .before .before .before .make-step .ensures) a in
+    (c .before .before .before .before .before .before .before .make-step .ensures, subst (λ k. State (c .before .before .before .before .before .before .before .before .before .before .before .before .before .before .before .before .before .before .before .before .before .before .before .before .before .before .before .args .words .now) k (c .before .before .before .before .before .before .before .before .before .before .before .before .before .before .before .before .before .before .before .before .before .before .before .before .before .before .before .args .start .now) hs' (c .before .before .before .before .before .before .before .before .before .before .before .before .before .before .before .before .before .before .before .before .before .before .before .before .before .before .before .args .reach .now) may') (sym (c .before .before .before .before .before .before .before .make-step .ensures))
+    (state-deleted _ _ _ _ _ _ (c .before .before .before .before .before .before .before .before .before .before .before .before .before .before .before .before .before .before .before .before .before .before .before .before .before .before .before .pre .0) u t may' (opened-more _ _ _ (g .opened) (o .0)) hs' (c .before .before .before .before .before .before .before .before .before .before .before .before .before .before .before .before .before .before .before .before .before .before .before .before .before .before .before .pre .1 .1) l (λ e. g .keeps (o .0 .grown 0 0 (omega arith) (omega arith) e)) b))
 
 pub delete-clause-spec : {M : Type 1} → statement M
 delete-clause-spec =
     tie.close
-    (tie.spec lose-reach-requires make-step-requires count-heads-requires (λ c κs. search needs) open-head-requires (λ c. search needs) (λ c. search needs) same-length-3 returns)
+    (tie.spec (λ c κs. search needs) lose-reach-requires lower-heads-requires make-step-requires open-head-requires (λ c. search needs) (λ c. search needs) same-length-3 returns)

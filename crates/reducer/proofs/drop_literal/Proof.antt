@@ -1,38 +1,28 @@
 -- `drop_literal`: the mark, then what the step opens.
-use Prim.Native.Nat.{ℕ, _≤_, _<_, _+_, _*_}
+use Prim.Native.Nat.{ℕ, _≤_, _<_}
 use mathlib.Core.Path.{_≡_, refl, sym, ap, subst, _∙_}
 use native.Mathlib.Omega.{arith}
-use lib.ListN.{length, getD}
-use Rattle.parts.specs.Parts.{Ready}
-use Rattle.search.proofs.States.{target-lt}
-use Rattle.search.specs.State.{State}
 use Rattle.conditions.specs.Known.{stepOf}
-use Rattle.reducer.specs.Opened.{Dropped}
-use Rattle.reducer.proofs.Keeps.{state-dropped, ready-after}
+use Rattle.search.specs.State.{State}
+use Rattle.search.proofs.States.{target-lt, few-clauses}
+use Rattle.reducer.specs.Opened.{PartnerFresh}
+use Rattle.reducer.proofs.Keeps.{state-dropped}
 use borrow.Author.Needs.{needs}
 use Rattle.reducer.proofs.drop_literal.Statement.{statement}
 use Rattle.reducer.proofs.drop_literal.Tie as tie
 
 make-step-requires : tie.Need-make-step-requires
-make-step-requires c κs =
-    let t = c .before .before .before .before .before .before .before .pre .1 .1 .0 in
-    (c .before .before .before .before .before .before .before .pre .0 .ready, ((t .low, t .high), t .applies))
+make-step-requires c κs = let t = c .before .before .before .before .before .before .before .pre .1 .0 in (c .before .before .before .before .before .before .before .pre .0 .ready, ((t .low, t .high), t .applies))
 
 open-partner-requires : tie.Need-open-partner-requires
-open-partner-requires c κs =
-    let t = c .before .before .before .before .before .before .before .before .before .before .before .before .before .pre .1 .1 .0 in
-    let k = subst (λ k. Ready (c .before .before .before .before .before .before .before .before .before .before .before .before .before .args .words .now) k (c .before .before .before .before .before .before .before .before .before .before .before .before .before .args .start .now)) (sym (c .before .before .before .before .before .make-step .ensures)) (ready-after _ _ _ _ _ _ (c .before .before .before .before .before .before .before .before .before .before .before .before .before .pre .0) (stepOf (c .before .before .before .before .before .before .before .before .before .before .before .before .before .args .step)) (t .applies)) in
-    (k, (c .before .before .before .before .before .before .before .before .before .before .before .before .before .pre .1 .0, (omega (arith, c .wide .ensures .0, target-lt (c .before .before .before .before .before .before .before .before .before .before .before .before .before .args .words .now) (c .before .before .before .before .before .before .before .before .before .before .before .before .before .args .marks .now) (stepOf (c .before .before .before .before .before .before .before .before .before .before .before .before .before .args .step)) (t .applies)), c .before .before .before .before .before .before .before .before .before .before .before .before .before .pre .0 .long)))
+open-partner-requires c κs = (omega (arith, c .wide .ensures .0, target-lt (c .before .before .before .before .before .before .before .before .before .before .before .before .args .words .now) (c .before .before .before .before .before .before .before .before .before .before .before .before .args .marks .now) (stepOf (c .before .before .before .before .before .before .before .before .before .before .before .before .args .step)) (c .before .before .before .before .before .before .before .before .before .before .before .before .pre .1 .0 .applies), few-clauses _ _ _ _ _ _ (c .before .before .before .before .before .before .before .before .before .before .before .before .pre .0)), c .before .before .before .before .before .before .before .before .before .before .before .before .pre .0 .rows .long)
 
 returns : tie.Need-returns
 returns c =
-    let t = c .before .before .before .before .before .before .before .before .before .before .before .before .before .before .before .before .pre .1 .1 .0 in
-    let may' = c .before .before .open-partner .last .1 .1 .1 .1 .1 .0 in
-    let a = subst (λ x. Dropped (c .before .before .before .before .before .before .before .before .before .before .before .before .before .before .before .before .args .words .now) (c .before .before .before .before .before .before .before .before .make-step .last .1 .0) (c .before .before .before .before .before .before .before .before .before .before .before .before .before .before .before .before .args .may .now) may' x) (c .before .before .before .wide .ensures .0) (c .before .before .open-partner .ensures) in
-    let b = subst (λ k. Dropped (c .before .before .before .before .before .before .before .before .before .before .before .before .before .before .before .before .args .words .now) k (c .before .before .before .before .before .before .before .before .before .before .before .before .before .before .before .before .args .may .now) may' (c .before .before .before .before .before .before .before .before .before .before .before .before .before .before .before .before .args .step .target)) (c .before .before .before .before .before .before .before .before .make-step .ensures) a in
-    (c .before .before .before .before .before .before .before .before .make-step .ensures, subst (λ k. State (c .before .before .before .before .before .before .before .before .before .before .before .before .before .before .before .before .args .words .now) k (c .before .before .before .before .before .before .before .before .before .before .before .before .before .before .before .before .args .start .now) (c .before .before .before .before .before .before .before .before .before .before .before .before .before .before .before .before .args .heads .now) (c .before .before .before .before .before .before .before .before .before .before .before .before .before .before .before .before .args .reach .now) may') (sym (c .before .before .before .before .before .before .before .before .make-step .ensures)) (state-dropped _ _ _ _ _ _ (c .before .before .before .before .before .before .before .before .before .before .before .before .before .before .before .before .pre .0) (stepOf (c .before .before .before .before .before .before .before .before .before .before .before .before .before .before .before .before .args .step)) (t .applies) may' (c .before .before .before .before .before .before .before .before .before .before .before .before .before .before .before .before .pre .1 .1 .1) b))
+    let may' = c .before .before .open-partner .last .0 in
+    let f = subst (PartnerFresh may') (c .before .before .before .wide .ensures .0) (c .before .before .open-partner .ensures .1) in
+    (c .before .before .before .before .before .before .before .make-step .ensures, subst (λ k. State (c .before .before .before .before .before .before .before .before .before .before .before .before .before .before .before .args .words .now) k (c .before .before .before .before .before .before .before .before .before .before .before .before .before .before .before .args .start .now) (c .before .before .before .before .before .before .before .before .before .before .before .before .before .before .before .args .heads .now) (c .before .before .before .before .before .before .before .before .before .before .before .before .before .before .before .args .reach .now) may') (sym (c .before .before .before .before .before .before .before .make-step .ensures))
+    (state-dropped _ _ _ _ _ _ (c .before .before .before .before .before .before .before .before .before .before .before .before .before .before .before .pre .0) (stepOf (c .before .before .before .before .before .before .before .before .before .before .before .before .before .before .before .args .step)) (c .before .before .before .before .before .before .before .before .before .before .before .before .before .before .before .pre .1 .0 .applies) may' (c .before .before .open-partner .ensures .0) (c .before .before .before .before .before .before .before .before .before .before .before .before .before .before .before .pre .1 .1) f))
 
 pub drop-literal-spec : {M : Type 1} → statement M
-drop-literal-spec =
-    tie.close
-    (tie.spec make-step-requires (λ c κs. search needs) open-partner-requires (λ c. search needs) (λ c. search needs) returns)
+drop-literal-spec = tie.close (tie.spec make-step-requires (λ c κs. search needs) open-partner-requires (λ c. search needs) (λ c. search needs) returns)

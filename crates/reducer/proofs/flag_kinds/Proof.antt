@@ -1,36 +1,41 @@
--- `flag_kinds`: the flags passed are 1, the others as they were.
-use Prim.Native.Nat.{_-_, _≤_, _<_, _+_}
+-- `flag_kinds`: from no flag, row after row.
+use Prim.Native.Nat.{ℕ, _≤_, _<_}
 use mathlib.Core.Path.{_≡_, refl, sym, ap, _∙_}
-use mathlib.Core.List.{_++_}
 use native.Mathlib.Omega.{arith}
-use lib.ListN.{length, drop, replicate, length-set}
-use borrow.Author.Fill.{fill-more}
+use lib.ListN.{length, length-replicate}
+use Rattle.reducer.proofs.Begins.{all-open}
 use borrow.Author.Needs.{needs}
 use Rattle.reducer.proofs.flag_kinds.Statement.{statement}
 use Rattle.reducer.proofs.flag_kinds.Tie as tie
 
-abbrev Inv-loop : tie.InvT-loop
-Inv-loop may₀ i₀ may i = (i ≤ 18432) × ((length may ≡ length may₀) × (may ≡ replicate i 1 ++ drop i may₀))
+flag-requires : tie.Need-flag-requires
+flag-requires c κs = (omega arith, (omega arith, ap length (c .before .before .pre .0) ∙ length-replicate {A = ℕ} 34850 0))
 
-abbrev μ-loop : tie.MeasureT-loop
-μ-loop may₀ i₀ may i = 18432 - i
+flag-all-requires : tie.Need-flag-all-requires
+flag-all-requires c κs = (omega arith, (c .before .before .before .before .before .before .pre .1, c .before .before .before .flag .kept .0 ∙ ap length (c .before .before .before .before .before .before .pre .0) ∙ length-replicate {A = ℕ} 34850 0))
 
-loop-holds : tie.Need-loop-holds Inv-loop μ-loop
-loop-holds c = (search needs, (refl, refl))
+flag-all-requires-2 : tie.Need-flag-all-requires-2
+flag-all-requires-2 c κs = (omega arith, (c .before .before .before .before .before .before .before .before .before .before .pre .1, c .before .before .before .flag-all .kept .0 ∙ c .before .before .before .before .before .before .before .flag .kept .0 ∙ ap length (c .before .before .before .before .before .before .before .before .before .before .pre .0) ∙ length-replicate {A = ℕ} 34850 0))
 
-slice-write-may : tie.Need-slice-write-may Inv-loop μ-loop
-slice-write-may c = omega (arith, c .before .before .pre, c .before .loop .inv .1 .0)
+flag-all-requires-3 : tie.Need-flag-all-requires-3
+flag-all-requires-3 c κs = (omega arith, (omega arith, c .before .before .before .flag-all2 .kept .0 ∙ c .before .before .before .before .before .before .before .flag-all .kept .0 ∙ c .before .before .before .before .before .before .before .before .before .before .before .flag .kept .0 ∙ ap length (c .before .before .before .before .before .before .before .before .before .before .before .before .before .before .pre .0) ∙ length-replicate {A = ℕ} 34850 0))
 
-loop-again : tie.Need-loop-again Inv-loop μ-loop
-loop-again c = (search needs, (simp length-set (c .before .loop .inv .1 .0), rw (c .before .loop .inv .1 .1) (fill-more (c .before .loop .i) 1 (c .before .before .args .may .now) (omega (arith, c .before .before .pre)))))
+flag-all-requires-4 : tie.Need-flag-all-requires-4
+flag-all-requires-4 c κs = (omega arith, (omega arith, c .before .before .before .flag-all3 .kept .0 ∙ c .before .before .before .before .before .before .before .flag-all2 .kept .0 ∙ c .before .before .before .before .before .before .before .before .before .before .before .flag-all .kept .0 ∙ c .before .before .before .before .before .before .before .before .before .before .before .before .before .before .before .flag .kept .0 ∙ ap length (c .before .before .before .before .before .before .before .before .before .before .before .before .before .before .before .before .before .before .pre .0) ∙ length-replicate {A = ℕ} 34850 0))
 
-same-length : tie.Need-same-length Inv-loop μ-loop
-same-length c = c .before .loop .inv .1 .0
+flag-all-requires-5 : tie.Need-flag-all-requires-5
+flag-all-requires-5 c κs = (omega arith, (omega arith, c .before .before .before .flag-all4 .kept .0 ∙ c .before .before .before .before .before .before .before .flag-all3 .kept .0 ∙ c .before .before .before .before .before .before .before .before .before .before .before .flag-all2 .kept .0 ∙ c .before .before .before .before .before .before .before .before .before .before .before .before .before .before .before .flag-all .kept .0 ∙ c .before .before .before .before .before .before .before .before .before .before .before .before .before .before .before .before .before .before .before .flag .kept .0 ∙ ap length (c .before .before .before .before .before .before .before .before .before .before .before .before .before .before .before .before .before .before .before .before .before .before .pre .0) ∙ length-replicate {A = ℕ} 34850 0))
 
-returns : tie.Need-returns Inv-loop μ-loop
-returns c = let q : c .before .loop .i ≡ 18432 = omega arith in rw q at (c .before .loop .inv .1 .1)
+flag-all-requires-6 : tie.Need-flag-all-requires-6
+flag-all-requires-6 c κs = (omega arith, (omega arith, c .before .before .before .flag-all5 .kept .0 ∙ c .before .before .before .before .before .before .before .flag-all4 .kept .0 ∙ c .before .before .before .before .before .before .before .before .before .before .before .flag-all3 .kept .0 ∙ c .before .before .before .before .before .before .before .before .before .before .before .before .before .before .before .flag-all2 .kept .0 ∙ c .before .before .before .before .before .before .before .before .before .before .before .before .before .before .before .before .before .before .before .flag-all .kept .0 ∙ c .before .before .before .before .before .before .before .before .before .before .before .before .before .before .before .before .before .before .before .before .before .before .before .flag .kept .0 ∙ ap length (c .before .before .before .before .before .before .before .before .before .before .before .before .before .before .before .before .before .before .before .before .before .before .before .before .before .before .pre .0) ∙ length-replicate {A = ℕ} 34850 0))
+
+flag-all-requires-7 : tie.Need-flag-all-requires-7
+flag-all-requires-7 c κs = (omega arith, (omega arith, c .before .before .before .flag-all6 .kept .0 ∙ c .before .before .before .before .before .before .before .flag-all5 .kept .0 ∙ c .before .before .before .before .before .before .before .before .before .before .before .flag-all4 .kept .0 ∙ c .before .before .before .before .before .before .before .before .before .before .before .before .before .before .before .flag-all3 .kept .0 ∙ c .before .before .before .before .before .before .before .before .before .before .before .before .before .before .before .before .before .before .before .flag-all2 .kept .0 ∙ c .before .before .before .before .before .before .before .before .before .before .before .before .before .before .before .before .before .before .before .before .before .before .before .flag-all .kept .0 ∙ c .before .before .before .before .before .before .before .before .before .before .before .before .before .before .before .before .before .before .before .before .before .before .before .before .before .before .before .flag .kept .0 ∙ ap length (c .before .before .before .before .before .before .before .before .before .before .before .before .before .before .before .before .before .before .before .before .before .before .before .before .before .before .before .before .before .before .pre .0) ∙ length-replicate {A = ℕ} 34850 0))
+
+returns : tie.Need-returns
+returns c = all-open _ _ _ _ _ _ _ _ _ _ (c .before .before .before .before .before .before .before .before .before .before .before .before .before .before .before .before .before .before .before .before .before .before .before .before .before .before .before .before .before .before .before .before .before .pre .0) (c .before .before .before .before .before .before .before .before .before .before .before .before .before .before .before .before .before .before .before .before .before .before .before .before .before .before .before .before .before .before .before .before .before .pre .1) (c .before .before .before .before .before .before .before .before .before .before .before .before .before .before .before .before .before .before .before .before .before .before .before .before .before .before .before .before .before .before .flag .ensures) (c .before .before .before .before .before .before .before .before .before .before .before .before .before .before .before .before .before .before .before .before .before .before .before .before .before .before .flag-all .ensures) (c .before .before .before .before .before .before .before .before .before .before .before .before .before .before .before .before .before .before .before .before .before .before .flag-all2 .ensures) (c .before .before .before .before .before .before .before .before .before .before .before .before .before .before .before .before .before .before .flag-all3 .ensures) (c .before .before .before .before .before .before .before .before .before .before .before .before .before .before .flag-all4 .ensures) (c .before .before .before .before .before .before .before .before .before .before .flag-all5 .ensures) (c .before .before .before .before .before .before .flag-all6 .ensures) (c .before .before .flag-all7 .ensures)
 
 pub flag-kinds-spec : {M : Type 1} → statement M
 flag-kinds-spec =
     tie.close
-    (tie.spec Inv-loop μ-loop loop-holds slice-write-may (λ c. search needs) (λ c. search needs) loop-again same-length returns)
+    (tie.spec flag-requires flag-all-requires flag-all-requires-2 flag-all-requires-3 flag-all-requires-4 flag-all-requires-5 flag-all-requires-6 flag-all-requires-7 (λ c. search needs) returns)

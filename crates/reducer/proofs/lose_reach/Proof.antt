@@ -28,13 +28,13 @@ has-twin-requires c κs = (c .before .before .before .before .before .before .be
 returns-2 : tie.Need-returns-2
 returns-2 c = lost-twin _ _ _ _ _ _ (stepOf (c .before .before .before .before .before .before .before .before .before .before .before .args .step)) (c .before .before .before .before .before .before .before .before .before .before .before .pre .0) (c .before .has-twin .ensures (c .if2 .taken))
 
-slice-write-may : tie.Need-slice-write-may
-slice-write-may c = omega (arith, c .before .before .before .before .before .before .before .before .before .before .before .pre .0 .long)
+flag-requires : tie.Need-flag-requires
+flag-requires c κs = (omega arith, (omega arith, c .before .before .before .before .before .before .before .before .before .before .before .before .pre .0 .rows .long))
 
 returns-3 : tie.Need-returns-3
-returns-3 c = lost-all _ _ _ _ _ _ (stepOf (c .before .before .before .before .before .before .before .before .before .before .before .args .step)) (c .before .before .before .before .before .before .before .before .before .before .before .pre .0)
+returns-3 c = lost-all _ _ _ _ _ _ (stepOf (c .before .before .before .before .before .before .before .before .before .before .before .before .before .before .before .args .step)) (c .before .before .before .before .before .before .before .before .before .before .before .before .before .before .before .pre .0) _ (c .before .before .flag .ensures .0) (c .before .before .flag .ensures .1)
 
 pub lose-reach-spec : {M : Type 1} → statement M
 lose-reach-spec =
     tie.close
-    (tie.spec (λ c κs. search needs) fires-requires returns has-twin-requires returns-2 slice-write-may (λ c. search needs) returns-3)
+    (tie.spec (λ c κs. search needs) fires-requires returns has-twin-requires returns-2 flag-requires (λ c. search needs) returns-3)

@@ -1,27 +1,26 @@
--- `open_atom`: an atom in no head is spread for kinds 4 and 6.
-use Prim.Native.Nat.{ℕ, _≤_, _<_, _+_, _*_}
+-- `open_atom`: two flags.
+use Prim.Native.Nat.{ℕ, _≤_, _<_}
 use mathlib.Core.Path.{_≡_, refl, sym, ap, _∙_}
+use mathlib.Core.Logic.{inr}
 use native.Mathlib.Omega.{arith}
-use lib.ListN.{length, getD}
-use borrow.Author.Tests.{not-true, not-false}
-use Rattle.reducer.proofs.Opens.{bared-not, bared-atom, heads-noHead, heads-failure}
+use Rattle.reducer.proofs.Opens.{opened-by, opened-more}
 use borrow.Author.Needs.{needs}
 use Rattle.reducer.proofs.open_atom.Statement.{statement}
 use Rattle.reducer.proofs.open_atom.Tie as tie
 
+flag-requires : tie.Need-flag-requires
+flag-requires c κs = (omega arith, c .before .before .pre)
+
+flag-requires-2 : tie.Need-flag-requires-2
+flag-requires-2 c κs = (omega arith, (c .before .before .before .before .before .before .pre .0, c .before .before .before .flag .ensures .0 .long ∙ c .before .before .before .before .before .before .pre .1))
+
 returns : tie.Need-returns
-returns c = bared-not _ _ _ _ _ (c .before .before .before .before .before .before .before .before .pre .1 .1 .1 .0) (sym (c .before .no-head .ensures) ∙ not-true _ (c .if1 .taken))
-
-spread-requires : tie.Need-spread-requires
-spread-requires c κs = (c .before .before .before .before .before .before .before .before .before .pre .0, (c .before .before .before .before .before .before .before .before .before .pre .1 .0, (omega (arith, c .before .before .before .before .before .before .before .before .before .pre .1 .0, c .before .before .before .before .before .before .before .before .before .pre .1 .1 .0), ((omega arith, omega arith), (heads-noHead _ _ _ _ (c .before .before .before .before .before .before .before .before .before .pre .1 .1 .1 .0), c .before .before .before .before .before .before .before .before .before .pre .1 .1 .1 .1)))))
-
-spread-requires-2 : tie.Need-spread-requires-2
-spread-requires-2 c κs = (c .before .before .before .before .before .before .before .before .before .before .before .before .before .pre .0, (c .before .before .before .before .before .before .before .before .before .before .before .before .before .pre .1 .0, (omega (arith, c .before .before .before .before .before .before .before .before .before .before .before .before .before .pre .1 .0, c .before .before .before .before .before .before .before .before .before .before .before .before .before .pre .1 .1 .0), ((omega arith, omega arith), (heads-failure _ _ _ _ (c .before .before .before .before .before .before .before .before .before .before .before .before .before .pre .1 .1 .1 .0), c .before .before .before .spread .ensures .long ∙ c .before .before .before .before .before .before .before .before .before .before .before .before .before .pre .1 .1 .1 .1)))))
-
-returns-2 : tie.Need-returns-2
-returns-2 c = bared-atom _ _ _ _ _ _ (c .before .before .before .before .before .before .spread .ensures) (c .before .before .spread2 .ensures)
+returns c =
+    let one = c .before .before .before .before .before .before .flag .ensures in
+    let two = c .before .before .flag2 .ensures in (
+      opened-more _ _ _ (opened-by _ _ _ _ (one .0) (inr (omega arith))) (opened-by _ _ _ _ (two .0) (inr (omega arith))),
+      record { noHead = λ e. one .1 (two .0 .grown 12 (c .before .before .before .before .before .before .before .before .before .args .atom) (omega arith) (c .before .before .before .before .before .before .before .before .before .pre .0) e); failure = two .1 },
+    )
 
 pub open-atom-spec : {M : Type 1} → statement M
-open-atom-spec =
-    tie.close
-    (tie.spec (λ c κs. search needs) returns spread-requires spread-requires-2 (λ c. search needs) returns-2)
+open-atom-spec = tie.close (tie.spec flag-requires flag-requires-2 (λ c. search needs) returns)

@@ -4,7 +4,8 @@ use mathlib.Core.Path.{_≡_, refl, sym, ap, subst, _∙_}
 use native.Mathlib.Omega.{arith}
 use lib.ListN.{length, getD, length-replicate}
 use Rattle.table.proofs.Encoding.{passed-limits}
-use Rattle.reducer.proofs.Answers.{state-begun}
+use Rattle.reducer.specs.Opened.{AllOpen}
+use Rattle.reducer.proofs.Begins.{state-begun}
 use borrow.Author.Needs.{needs}
 use Rattle.reducer.proofs.reduce_kept.Statement.{statement}
 use Rattle.reducer.proofs.reduce_kept.Tie as tie
@@ -23,14 +24,14 @@ count-heads-requires c κs =
     (record { placed = c .before .before .before .before .clause-starts .ensures; marks = c .before .before .before .before .before .before .before .before .before .before .before .pre .1 .0 }, omega (arith, l, passed-limits _ (c .before .before .before .before .before .before .before .before .before .before .before .pre .0) .fewAtoms))
 
 flag-kinds-requires : tie.Need-flag-kinds-requires
-flag-kinds-requires c κs = let l = length-replicate {A = ℕ} 20480 0 in omega (arith, l)
+flag-kinds-requires c κs = (refl, omega (arith, c .before .before .before .before .before .before .before .before .before .wide .ensures .0, passed-limits _ (c .before .before .before .before .before .before .before .before .before .before .before .before .before .before .pre .0) .fewClauses))
 
 run-steps-requires : tie.Need-run-steps-requires
 run-steps-requires c κs =
     let l = passed-limits _ (c .before .before .before .before .before .before .before .before .before .before .before .before .before .before .before .before .before .before .before .before .before .before .pre .0) .fewAtoms in
     let h = length-replicate {A = ℕ} 1024 0 in
-    let y = length-replicate {A = ℕ} 20480 0 in
-    (state-begun _ _ _ _ _ _ _ (record { placed = c .before .before .before .before .before .before .before .before .before .before .before .before .before .before .before .clause-starts .ensures; marks = c .before .before .before .before .before .before .before .before .before .before .before .before .before .before .before .before .before .before .before .before .before .before .pre .1 .0 }) (c .before .before .before .before .before .before .before .before .before .before .count-heads .ensures) (omega (arith, c .before .before .before .before .before .before .before .before .before .before .count-heads .kept .1 .1 .1 .0)) (omega (arith, h)) (c .before .before .before .before .before .before .before .flag-kinds .kept .0 ∙ y) (c .before .before .before .before .before .before .before .flag-kinds .ensures), (c .before .before .before .before .before .before .before .before .before .before .before .before .before .before .before .before .before .wide .ensures .0, c .before .before .before .before .before .before .before .before .before .before .before .before .before .before .before .before .before .before .before .before .before .before .pre .1 .1))
+    (state-begun _ _ _ _ _ _ (record { placed = c .before .before .before .before .before .before .before .before .before .before .before .before .before .before .before .clause-starts .ensures; marks = c .before .before .before .before .before .before .before .before .before .before .before .before .before .before .before .before .before .before .before .before .before .before .pre .1 .0 }) (c .before .before .before .before .before .before .before .before .before .before .count-heads .ensures) (omega (arith, c .before .before .before .before .before .before .before .before .before .before .count-heads .kept .1 .1 .1 .0)) (omega (arith, h))
+    (subst (λ x. AllOpen (c .before .before .before .before .before .before .before .flag-kinds .last .0) x) (c .before .before .before .before .before .before .before .before .before .before .before .before .before .before .before .before .before .wide .ensures .0) (c .before .before .before .before .before .before .before .flag-kinds .ensures)), (c .before .before .before .before .before .before .before .before .before .before .before .before .before .before .before .before .before .wide .ensures .0, c .before .before .before .before .before .before .before .before .before .before .before .before .before .before .before .before .before .before .before .before .before .before .pre .1 .1))
 
 returns : tie.Need-returns
 returns c = c .before .before .before .before .before .before .before .run-steps .ensures

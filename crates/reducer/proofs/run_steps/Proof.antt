@@ -53,7 +53,7 @@ apply-step-requires : tie.Need-apply-step-requires Inv-loop μ-loop
 apply-step-requires c κs =
     let e = sym (c .before .before .before .before .before .before .before .before .before .found .given .1) ∙ c .before .before .before .before .before .before .before .before .before .before .before .before .before .before .before .first-step .ensures .0 in
     let t = taken (c .before .before .before .before .before .before .before .before .before .before .before .before .before .before .before .before .before .before .before .before .before .before .before .before .before .before .before .before .args .words .now) (c .before .before .before .before .before .before .before .before .before .before .before .before .before .before .before .before .before .before .before .before .loop .marks) _ e in
-    (c .before .before .before .before .before .before .before .before .before .before .before .before .before .before .before .first-step .ensures .1, (c .before .before .before .before .before .before .before .before .before .before .before .before .before .before .before .before .before .before .before .before .before .before .before .before .before .before .before .before .pre .1 .0, t .0))
+    (c .before .before .before .before .before .before .before .before .before .before .before .before .before .before .before .first-step .ensures .1, t .0)
 
 add-s : tie.Need-add-s Inv-loop μ-loop
 add-s c =

@@ -37,9 +37,11 @@ returns : tie.Need-returns
 returns c =
     let k = c .before .before .before .before .before .before .before .before .before .before .before .before .before .before .before .before .before .before .before .before .before .before .before .before .before .before .before .before .pre .1 .1 in
     let h = c .before .before .before .before .before .before .before .before .before .before .highest-of .ensures ∙ ap (λ r. highest (c .before .before .before .before .before .before .before .before .before .before .before .before .before .before .before .before .before .before .before .prepare .last .1 .1 .1 .1 .1 .0) r) (c .before .before .before .before .before .before .before .before .before .before .before .before .before .before .wide .ensures .0) in
-    let f = subst (λ r. Fenced (c .before .before .before .before .before .before .before .search-row .last .1 .1 .1 .1 .1 .0) (c .before .before .fence .last .0) r (c .before .before .before .stopped-at .result) (c .before .before .before .before .before .before .before .before .before .before .highest-of .result)) (c .before .before .before .before .before .before .before .before .before .before .before .before .before .before .wide .ensures .0) (c .before .before .fence .ensures) in
-    (c .before .before .before .before .before .before .before .search-row .ensures .0, prepared-swept _ _ _ _ _ _ _ (c .before .before .before .before .before .before .before .before .before .before .before .before .before .before .before .before .before .before .before .prepare .ensures) (k .0) (k .1) _ _ _ _ (c .before .before .before .before .before .before .before .search-row .ensures .1 .0) (c .before .before .before .before .before .before .before .search-row .ensures .1 .1) h
-    (subst (λ x. Fenced (c .before .before .before .before .before .before .before .search-row .last .1 .1 .1 .1 .1 .0) (c .before .before .fence .last .0) (c .before .before .before .before .before .before .before .before .before .before .before .before .before .before .before .before .before .before .before .before .before .before .before .before .before .before .before .before .args .kind) x (c .before .before .before .before .before .before .before .before .before .before .highest-of .result)) (c .before .before .before .stopped-at .ensures) f))
+    let f = subst (λ r. Fenced (c .before .before .before .before .before .before .before .search-row .last .1 .1 .1 .1 .1 .0) (c .before .before .fence .last .0) r (c .before .before .before .stopped-at .result) (c .before .before .before .before .before .before .before .before .before .before .highest-of .result)) (c .before .before .before .before .before .before .before .before .before .before .before .before .before .before .wide .ensures .0) (c .before .before .fence .ensures) in (
+      c .before .before .before .before .before .before .before .search-row .ensures .0,
+      prepared-swept _ _ _ _ _ _ _ (c .before .before .before .before .before .before .before .before .before .before .before .before .before .before .before .before .before .before .before .prepare .ensures) (k .0) (k .1) _ _ _ _ (c .before .before .before .before .before .before .before .search-row .ensures .1 .0) (c .before .before .before .before .before .before .before .search-row .ensures .1 .1) h
+          (subst (λ x. Fenced (c .before .before .before .before .before .before .before .search-row .last .1 .1 .1 .1 .1 .0) (c .before .before .fence .last .0) (c .before .before .before .before .before .before .before .before .before .before .before .before .before .before .before .before .before .before .before .before .before .before .before .before .before .before .before .before .args .kind) x (c .before .before .before .before .before .before .before .before .before .before .highest-of .result)) (c .before .before .before .stopped-at .ensures) f),
+    )
 
 pub first-of-kind-spec : {M : Type 1} → statement M
 first-of-kind-spec =

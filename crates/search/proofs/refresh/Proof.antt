@@ -30,9 +30,10 @@ slice-write-may c = omega (arith, c .before .before .flag-all .kept .0, c .befor
 
 returns-3 : tie.Need-returns-3
 returns-3 c =
-    let may' = c .before .before .flag-all .last .0 in
-    (state-reached _ _ _ _ _ _ (c .before .before .before .before .before .before .before .before .before .before .before .before .before .before .before .before .before .pre .0) _ may' (c .before .before .before .before .before .before .find-reach .ensures) (c .before .before .before .before .before .before .find-reach .kept .1 .1 .1 .0) (subst (Raising (c .before .before .before .before .before .before .before .before .before .before .before .before .before .before .before .before .before .args .may .now) may' 7) (c .before .before .before .before .before .before .before .before .before .before .before .before .before .before .before .before .before .pre .1) (c .before .before .flag-all .ensures .0)) (subst (AllFlagged may' 7) (c .before .before .before .before .before .before .before .before .before .before .before .before .before .before .before .before .before .pre .1) (c .before .before .flag-all .ensures .1)),
-    λ _. getD-set-same may' 0 0 0 (omega (arith, c .before .before .flag-all .kept .0, c .before .before .before .before .before .before .before .before .before .before .before .before .before .before .before .before .before .pre .0 .rows .long)))
+    let may' = c .before .before .flag-all .last .0 in (
+      state-reached _ _ _ _ _ _ (c .before .before .before .before .before .before .before .before .before .before .before .before .before .before .before .before .before .pre .0) _ may' (c .before .before .before .before .before .before .find-reach .ensures) (c .before .before .before .before .before .before .find-reach .kept .1 .1 .1 .0) (subst (Raising (c .before .before .before .before .before .before .before .before .before .before .before .before .before .before .before .before .before .args .may .now) may' 7) (c .before .before .before .before .before .before .before .before .before .before .before .before .before .before .before .before .before .pre .1) (c .before .before .flag-all .ensures .0)) (subst (AllFlagged may' 7) (c .before .before .before .before .before .before .before .before .before .before .before .before .before .before .before .before .before .pre .1) (c .before .before .flag-all .ensures .1)),
+      λ _. getD-set-same may' 0 0 0 (omega (arith, c .before .before .flag-all .kept .0, c .before .before .before .before .before .before .before .before .before .before .before .before .before .before .before .before .before .pre .0 .rows .long)),
+    )
 
 pub refresh-spec : {M : Type 1} → statement M
 refresh-spec =

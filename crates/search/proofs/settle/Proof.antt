@@ -28,9 +28,14 @@ loop-holds c =
     let e : 8 + c .before .before .before .before .wide .result ≡ 8 + c .before .before .before .before .before .before .before .before .before .before .before .args .kind = ap (λ x. 8 + x) (c .before .before .before .before .wide .ensures .0) in
     let w = c .before .before .before .before .before .before .before .before .before .before .before .pre .0 .rows in
     let h = c .highest-of .ensures ∙ ap (λ r. highest (c .before .before .before .before .before .before .before .before .before .before .before .args .may .now) r) e in
-    let l = c .before .before .lowest-of .ensures ∙ ap (λ r. lowest (c .before .before .before .before .before .before .before .before .before .before .before .args .may .now) r) e in
-    (e, (subst (λ x. x ≤ 2048) (sym h) (w .high (8 + c .before .before .before .before .before .before .before .before .before .before .before .args .kind) (omega arith) r), settling-none _ _ _ _ _ _ _ _ _ (c .before .before .before .before .before .before .before .before .before .before .before .pre .0)
-    (rw (h, l) (w .inside (8 + c .before .before .before .before .before .before .before .before .before .before .before .args .kind) (omega arith) r))))
+    let l = c .before .before .lowest-of .ensures ∙ ap (λ r. lowest (c .before .before .before .before .before .before .before .before .before .before .before .args .may .now) r) e in (
+      e,
+      (
+        subst (λ x. x ≤ 2048) (sym h) (w .high (8 + c .before .before .before .before .before .before .before .before .before .before .before .args .kind) (omega arith) r),
+        settling-none _ _ _ _ _ _ _ _ _ (c .before .before .before .before .before .before .before .before .before .before .before .pre .0)
+            (rw (h, l) (w .inside (8 + c .before .before .before .before .before .before .before .before .before .before .before .args .kind) (omega arith) r)),
+      ),
+    )
 
 pass-key-requires : tie.Need-pass-key-requires Inv-loop μ-loop
 pass-key-requires c κs = (c .before .before .loop .inv .1 .1 .state, (c .before .before .before .before .before .before .before .before .before .before .before .before .before .before .pre .1 .0, (c .before .before .before .before .before .before .before .before .before .before .before .before .before .before .pre .1 .1, omega (arith, c .before .loop-test .taken, c .before .before .loop .inv .1 .0))))

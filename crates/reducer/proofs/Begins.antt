@@ -1,0 +1,112 @@
+-- The state in which the reducer begins: every step is open.
+use mathlib.Core.Path.{_≡_, refl, sym, ap, subst, _∙_}
+use mathlib.Core.Logic.{_≢_, by-cases}
+use mathlib.Core.List.{List}
+use Prim.Native.Nat.{ℕ, _+_, _*_, _≤_, _<_}
+use native.Mathlib.Omega.{arith}
+use native.Mathlib.Decide.{decLt}
+use lib.ListN.{length, getD, replicate, length-replicate, getD-replicate, List·getD-eq-default}
+use Rattle.rewriting.specs.Steps.{Kind, tautology, contradiction, success, noHead, blocked, failure, loop, subsumed, number, Step}
+use Rattle.rewriting.proofs.Quiet.{Quiet, key, quiet-all}
+use Rattle.table.specs.View.{view}
+use Rattle.parts.specs.Parts.{Ready}
+use Rattle.conditions.specs.Known.{Heads}
+use Rattle.search.specs.Flags.{flags, lowest, highest, Rows, Grown, Raising, AllFlagged}
+use Rattle.search.specs.State.{State}
+use Rattle.search.proofs.States.{target-lt, key-lt}
+use Rattle.reducer.specs.Opened.{AllOpen}
+
+-- ---- no flag
+
+all-zero : (k i : ℕ) → _≡_ {A = ℕ} (getD (replicate k 0) i 0) 0
+all-zero k i = by-cases (decLt i k) (λ l. getD-replicate {A = ℕ} k i 0 0 l) (λ l. List·getD-eq-default (replicate k 0) 0 (omega (arith, length-replicate {A = ℕ} k 0)))
+
+rows-none : (m : ℕ) (may : List ℕ) → may ≡ replicate 34850 0 → Rows m may
+rows-none m may e = record {
+  long = ap length e ∙ length-replicate {A = ℕ} 34850 0;
+  inside = λ r a b i l f. absurd (f (none (r * 2048 + i)));
+  high = λ r a b. omega (arith, none (34833 + r));
+  few = λ r a b. omega (arith, none (34833 + r));
+}
+  where
+    none : (i : ℕ) → getD may i 0 ≡ 0
+    none i = ap (λ l. getD l i 0) e ∙ all-zero 34850 i
+
+-- ---- row after row
+
+then : (a b c : List ℕ) → Grown a b → Grown b c → Grown a c
+then a b c f g r i x y e = f r i x y (g r i x y e)
+
+kept : (a b : List ℕ) (row top : ℕ) → row ≤ 16 → top ≤ 2048 → Grown a b → AllFlagged a row top → AllFlagged b row top
+kept a b row top x y g f i l e = f i l (g row i x (omega arith) e)
+
+module _ (m : ℕ) (l0 l1 l2 l3 l4 l5 l6 l7 l8 : List ℕ) (z : l0 ≡ replicate 34850 0) (few : m ≤ 2048)
+    (r1 : Raising l0 l1 0 1 × (flags l1 0 0 ≢ 0)) (r2 : Raising l1 l2 1 m × AllFlagged l2 1 m) (r3 : Raising l2 l3 2 m × AllFlagged l3 2 m)
+    (r4 : Raising l3 l4 11 2048 × AllFlagged l4 11 2048) (r5 : Raising l4 l5 12 2048 × AllFlagged l5 12 2048) (r6 : Raising l5 l6 13 2048 × AllFlagged l6 13 2048)
+    (r7 : Raising l6 l7 14 2048 × AllFlagged l7 14 2048) (r8 : Raising l7 l8 16 2048 × AllFlagged l8 16 2048) where
+  after6 : Grown l6 l8
+  after6 = then l6 l7 l8 (r7 .0 .grown) (r8 .0 .grown)
+
+  after5 : Grown l5 l8
+  after5 = then l5 l6 l8 (r6 .0 .grown) after6
+
+  after4 : Grown l4 l8
+  after4 = then l4 l5 l8 (r5 .0 .grown) after5
+
+  after3 : Grown l3 l8
+  after3 = then l3 l4 l8 (r4 .0 .grown) after4
+
+  after2 : Grown l2 l8
+  after2 = then l2 l3 l8 (r3 .0 .grown) after3
+
+  after1 : Grown l1 l8
+  after1 = then l1 l2 l8 (r2 .0 .grown) after2
+
+  rows3 : Rows m l3
+  rows3 = r3 .0 .rows m (λ a b. omega arith) (r2 .0 .rows m (λ a b. omega arith) (r1 .0 .rows m (λ a b. absurd (omega arith)) (rows-none m l0 z)))
+
+  rows6 : Rows m l6
+  rows6 = r6 .0 .rows m (λ a b. absurd (omega arith)) (r5 .0 .rows m (λ a b. absurd (omega arith)) (r4 .0 .rows m (λ a b. absurd (omega arith)) rows3))
+
+  pub all-open : AllOpen l8 m
+  all-open = record {
+    rows = r8 .0 .rows m (λ a b. absurd (omega arith)) (r7 .0 .rows m (λ a b. absurd (omega arith)) rows6);
+    reach = λ e. r1 .1 (after1 0 0 (omega arith) (omega arith) e);
+    tautology = kept l2 l8 1 m (omega arith) few after2 (r2 .1);
+    contradiction = kept l3 l8 2 m (omega arith) few after3 (r3 .1);
+    partner = λ t l. record {
+      success = kept l4 l8 11 2048 (omega arith) (omega arith) after4 (r4 .1) t l;
+      blocked = kept l6 l8 13 2048 (omega arith) (omega arith) after6 (r6 .1) t l;
+      subsumed = r8 .1 t l;
+    };
+    atom = λ a l. record {
+      noHead = kept l5 l8 12 2048 (omega arith) (omega arith) after5 (r5 .1) a l;
+      failure = kept l7 l8 14 2048 (omega arith) (omega arith) (r8 .0 .grown) (r7 .1) a l;
+    };
+  }
+
+-- ---- the state
+
+pub state-begun : (ws ms start hs rs may : List ℕ) → Ready ws ms start → Heads ws ms hs → getD ws 0 0 ≤ length hs → getD ws 0 0 ≤ length rs → AllOpen may (getD ws 1 0) → State ws ms start hs rs may
+state-begun ws ms start hs rs may r h a b o = record {
+  ready = r;
+  counted = h;
+  atoms = a;
+  bytes = b;
+  rows = o .rows;
+  reached = λ q. absurd (o .reach q);
+  quiet = go;
+}
+  where
+    by-key : (k : Kind) → ((x : ℕ) → x < 2048 → flags may (8 + number k) x ≢ 0) → Quiet (getD ws 0 0) (view ws ms) k (flags may (number k)) (flags may (8 + number k))
+    by-key k f = record { calm = λ u e m x y. f (key u) (key-lt ws ms (r .placed .passed) u y) x }
+
+    go : (k : Kind) → (k ≡ loop → flags may 0 0 ≡ 0) → Quiet (getD ws 0 0) (view ws ms) k (flags may (number k)) (flags may (8 + number k))
+    go tautology e = quiet-all (getD ws 0 0) (view ws ms) tautology (flags may 1) (flags may 9) (λ u x. o .tautology (u .target) (target-lt ws ms u x))
+    go contradiction e = quiet-all (getD ws 0 0) (view ws ms) contradiction (flags may 2) (flags may 10) (λ u x. o .contradiction (u .target) (target-lt ws ms u x))
+    go loop e = absurd (o .reach (e refl))
+    go success e = by-key success (λ x l. o .partner x l .success)
+    go blocked e = by-key blocked (λ x l. o .partner x l .blocked)
+    go subsumed e = by-key subsumed (λ x l. o .partner x l .subsumed)
+    go noHead e = by-key noHead (λ x l. o .atom x l .noHead)
+    go failure e = by-key failure (λ x l. o .atom x l .failure)
