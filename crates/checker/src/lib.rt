@@ -315,7 +315,7 @@ pub fn check_steps(words: &[u16], marks: &mut [u8], list: &[u16]) -> CheckAnswer
     requires { ⌜ (Passed (now words)) × (length (now words) ≤ length (now marks)) ⌝ }
     ensures { λ r. ⌜ Leaves (stepsFrom (now (words .entry)) (now (marks .entry)) (now (list .entry)) 0 (length (now (list .entry)) / 4)) r (now (marks .exit)) ⌝ }
 {
-    let mut start = [0u16; 2049];
+    let mut start = [0u16; parts::INDEX];
     let mut heads = [0u16; 1024];
     let mut reached = [0u8; 1024];
     parts::clause_starts(words, &mut start);

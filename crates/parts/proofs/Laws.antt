@@ -8,8 +8,8 @@ use native.Mathlib.Omega.{arith}
 use native.Mathlib.Decide.{decLt, ℕ-discrete}
 use native.Mathlib.Numerals.{add-one}
 use lib.Dec.{eqb}
-use lib.ListN.{length, getD, take, drop, length-take, length-drop, set, length-set}
-use lib.Seq.{drop-cons, getD-take, getD-drop, getD-set-same, getD-set-other}
+use lib.ListN.{length, getD, take, drop, length-take, length-drop}
+use lib.Seq.{drop-cons, getD-take, getD-drop}
 use borrow.Author.Tests.{eqb-true, eqb-false, eq-eqb, ne-eqb}
 use Rattle.semantics.specs.Lists.{_∈_, all, null, mem, within}
 use Rattle.semantics.specs.Programs.{Clause}
@@ -113,20 +113,6 @@ kept-entry ws ms start r t at h e = rw e (sym (ap (λ x. x .kept) (entry-view ws
 pub start-next : (ws : List ℕ) (t at r : ℕ) → at ≡ startOf ws t → r ≡ nextAt ws at → r ≡ startOf ws (t + 1)
 start-next ws t at r e q = q ∙ ap (nextAt ws) e ∙ sym (start-suc ws 2 t) ∙ ap (startOf ws) (sym (add-one t))
 
--- one start more
-pub starts-more : (ws start : List ℕ) (t at : ℕ) → t < length start → at ≡ startOf ws t → ((k : ℕ) → k < t → getD start k 0 ≡ startOf ws k)
-    → (k : ℕ) → k < t + 1 → getD (set start t at) k 0 ≡ startOf ws k
-starts-more ws start t at l e f k h = by-cases (decLt k t)
-    (λ q. getD-set-other start t k at 0 (λ z. omega arith) ∙ f k q)
-    (λ q. let z : k ≡ t = omega arith in rw (z, getD-set-same start t at 0 l) e)
-
-pub starts-placed : (ws start : List ℕ) (m t at : ℕ) → Passed ws → m ≡ getD ws 1 0 → m < length start → t ≡ m → at ≡ startOf ws t → ((k : ℕ) → k < t → getD start k 0 ≡ startOf ws k) → Placed ws (set start m at)
-starts-placed ws start m t at p d l q e f = record {
-  passed = p;
-  room = rw (length-set start m at) (omega arith);
-  at = λ k h. starts-more ws start m at l (e ∙ ap (startOf ws) q) (λ k h. f k (omega arith)) k (omega arith);
-}
-
 -- a table's places are small
 pub start-short : (ws : List ℕ) (t : ℕ) → Passed ws → t ≤ getD ws 1 0 → (startOf ws t ≤ length ws) × (length ws ≤ 8192)
 unfolding startFrom
@@ -150,19 +136,19 @@ start-end ws p = let l = passed-limits ws p in omega (arith, clauses-to ws (getD
 
 -- ---- a clause's part as slices of the words and the marks
 
-abbrev From : List ℕ → ℕ → Part → ℕ
+abbrev pub From : List ℕ → ℕ → Part → ℕ
 From ws at x = spanOf ws at x .from
 
-abbrev Size : List ℕ → ℕ → Part → ℕ
+abbrev pub Size : List ℕ → ℕ → Part → ℕ
 Size ws at x = spanOf ws at x .end - spanOf ws at x .from
 
-part-at : (ws ms : List ℕ) (at : ℕ) (x : Part) → partOf x (entryAt ws ms at .clause) ≡ part ws ms (From ws at x) (Size ws at x)
+pub part-at : (ws ms : List ℕ) (at : ℕ) (x : Part) → partOf x (entryAt ws ms at .clause) ≡ part ws ms (From ws at x) (Size ws at x)
 unfolding entryAt
 part-at ws ms at Head = let e : getD ws at 0 ≡ posAt ws at - headAt at = omega arith in ap (part ws ms (headAt at)) e
 part-at ws ms at Pos = let e : getD ws (at + 1) 0 ≡ negAt ws at - posAt ws at = omega arith in ap (part ws ms (posAt ws at)) e
 part-at ws ms at Neg = let e : getD ws (at + 2) 0 ≡ nextAt ws at - negAt ws at = omega arith in ap (part ws ms (negAt ws at)) e
 
-span-rises : (ws : List ℕ) (n at : ℕ) → Good ws n at → (x : Part) → Rises ws (From ws at x) (Size ws at x)
+pub span-rises : (ws : List ℕ) (n at : ℕ) → Good ws n at → (x : Part) → Rises ws (From ws at x) (Size ws at x)
 span-rises ws n at g Head = let e : getD ws at 0 ≡ posAt ws at - headAt at = omega arith in subst (Rises ws (headAt at)) e (g .headRises)
 span-rises ws n at g Pos = let e : getD ws (at + 1) 0 ≡ negAt ws at - posAt ws at = omega arith in subst (Rises ws (posAt ws at)) e (g .posRises)
 span-rises ws n at g Neg = let e : getD ws (at + 2) 0 ≡ nextAt ws at - negAt ws at = omega arith in subst (Rises ws (negAt ws at)) e (g .negRises)

@@ -1,4 +1,4 @@
--- The parts of a clause by name, where their words stand, and what the array of starts holds.
+-- The parts of a clause by name, where their words stand, and what the index of a table holds.
 use mathlib.Core.Path.{_≡_}
 use mathlib.Core.List.{List, [], _∷_}
 use Prim.Native.Nat.{ℕ, _+_, _≤_, _<_}
@@ -25,11 +25,45 @@ spanOf ws at Head = record { from = headAt at; end = posAt ws at }
 spanOf ws at Pos = record { from = posAt ws at; end = negAt ws at }
 spanOf ws at Neg = record { from = negAt ws at; end = nextAt ws at }
 
--- Every clause's first word, and at m the end of the last clause, for a table that passed.
-pub record Placed (ws start : List ℕ) : Type 0 where
+-- Atom a stands at place i, in part x of clause t.
+pub record Stands (ws : List ℕ) (x : Part) (a t i : ℕ) : Type 0 where
+  pub clause : t < getD ws 1 0
+  pub from : spanOf ws (startOf ws t) x .from ≤ i
+  pub to : i < spanOf ws (startOf ws t) x .end
+  pub atom : getD ws i 0 ≡ a
+
+-- The index of a table, one array: first the clauses' first words; then
+-- by part and atom, the last place where the atom stands in such a part, 0 for none;
+abbrev pub lastAt : Part → ℕ → ℕ
+lastAt Head a = 2049 + a
+lastAt Pos a = 3073 + a
+lastAt Neg a = 4097 + a
+
+-- by place, the place before it of the same atom in the same part, 0 for none;
+abbrev pub beforeAt : ℕ → ℕ
+beforeAt i = 5121 + i
+
+-- by place, its clause.
+abbrev pub ownerAt : ℕ → ℕ
+ownerAt i = 13313 + i
+
+-- i is the last place before k where atom a stands in part x, and has its clause, or it is 0 and there is none
+pub record Latest (ws index : List ℕ) (x : Part) (a k i : ℕ) : Type 0 where
+  pub some : 0 < i → (i < k) × Stands ws x a (getD index (ownerAt i) 0) i
+  pub none : (t j : ℕ) → Stands ws x a t j → i < j → j < k → ⊥
+
+-- A table that passed, with its starts up to clause t's and the chains of the places before k.
+pub record Indexed (ws index : List ℕ) (t k : ℕ) : Type 0 where
   pub passed : Passed ws
-  pub room : getD ws 1 0 < length start
-  pub at : (t : ℕ) → t ≤ getD ws 1 0 → getD start t 0 ≡ startOf ws t
+  pub room : getD ws 1 0 < length index
+  pub long : 21505 ≤ length index
+  pub at : (s : ℕ) → s ≤ t → getD index s 0 ≡ startOf ws s
+  pub last : (x : Part) (a : ℕ) → a < 1024 → Latest ws index x a k (getD index (lastAt x a) 0)
+  pub before : (x : Part) (a t i : ℕ) → Stands ws x a t i → i < k → Latest ws index x a i (getD index (beforeAt i) 0)
+
+-- The whole index: at m the end of the last clause.
+abbrev pub Placed : List ℕ → List ℕ → Type 0
+Placed ws start = Indexed ws start (getD ws 1 0) (length ws)
 
 -- The same with a mark for each word.
 pub record Ready (ws ms start : List ℕ) : Type 0 where

@@ -7,7 +7,8 @@ ghost use Rattle.rewriting.specs.Marked.{entry};
 ghost use Rattle.table.specs.Questions.{Passed};
 ghost use Rattle.table.specs.Places.{nextAt, startOf};
 ghost use Rattle.table.specs.View.{view, kept-of};
-ghost use Rattle.parts.specs.Parts.{partOf, Spanned, Placed, Ready, Ascends, Sought, FirstKept, singleOf};
+ghost use Rattle.parts.specs.Parts.{partOf, spanOf, Spanned, Stands, lastAt, ownerAt, Latest, Indexed, Placed, Ready, Ascends, Sought, FirstKept, singleOf};
+ghost use Rattle.parts.specs.declared.Part.{Part};
 
 // A part of a clause.
 pub enum Part {
@@ -28,21 +29,131 @@ pub enum Single {
     Other,
 }
 
-// ---- where clauses start
+// ---- the index
 
-// Every clause's first word, and at m the end of the table.
+// The words of a part of the clause whose first word is at `at`.
+fn part_at(words: &[u16], at: usize, part: Part) -> Bounds
+    requires { ⌜ nextAt (now words) at ≤ length (now words) ⌝ }
+    ensures { λ r. ⌜ r ≡ spanOf (now (words .entry)) at part ⌝ }
+{
+    let a = at + 3;
+    let b = a + table::wide(words[at]);
+    let c = b + table::wide(words[at + 1]);
+    match part {
+        Part::Head => Bounds { from: a, end: b },
+        Part::Pos => Bounds { from: b, end: c },
+        Part::Neg => Bounds {
+            from: c,
+            end: c + table::wide(words[at + 2]),
+        },
+    }
+}
+
+// The words of an index. The first are the clauses' starts; then, by part and atom, the last place where it stands; by place, the one before
+// it of the same atom and part; by place, its clause.
+pub const INDEX: usize = 21505;
+
+const LAST: usize = 2049;
+
+const BEFORE: usize = 5121;
+
+const OWNER: usize = 13313;
+
+// Where the last place of an atom in a part is kept.
+fn last_at(part: Part, atom: u16) -> usize
+    ensures { λ r. ⌜ r ≡ lastAt part atom ⌝ }
+{
+    let a = table::wide(atom);
+    match part {
+        Part::Head => LAST + a,
+        Part::Pos => LAST + 1024 + a,
+        Part::Neg => LAST + 2048 + a,
+    }
+}
+
+// No atom stands anywhere yet.
+fn clear_last(index: &mut [u16])
+    requires { ⌜ 21505 ≤ length (now index) ⌝ }
+    ensures { λ _. ⌜ ((i : ℕ) → 2049 ≤ i → i < 5121 → getD (now (index .exit)) i 0 ≡ 0) ⌝ }
+{
+    for i in LAST..BEFORE {
+        index[i] = 0;
+    }
+}
+
+// Place i, in a part of clause t, is the last of its atom there.
+fn link(words: &[u16], index: &mut [u16], part: Part, t: usize, i: usize)
+    requires { ⌜ (Indexed (now words) (now index) t i) × (Stands (now words) part (getD (now words) i 0) t i) ⌝ }
+    ensures { λ _. ⌜ Indexed (now (words .entry)) (now (index .exit)) t (i + 1) ⌝ }
+{
+    let at = last_at(part, words[i]);
+    index[BEFORE + i] = index[at];
+    index[at] = i as u16;
+    index[OWNER + i] = t as u16;
+}
+
+// Every place of a part of clause t, whose first word is at `at`.
+fn link_part(words: &[u16], index: &mut [u16], part: Part, t: usize, at: usize)
+    requires { ⌜ (Indexed (now words) (now index) t (spanOf (now words) at part .from)) × ((t < getD (now words) 1 0) × (at ≡ startOf (now words) t)) ⌝ }
+    ensures { λ _. ⌜ Indexed (now (words .entry)) (now (index .exit)) t (spanOf (now (words .entry)) at part .end) ⌝ }
+{
+    let s = part_at(words, at, part);
+    for i in s.from..s.end {
+        link(words, index, part, t, i);
+    }
+}
+
+// Clause t, whose first word is at `at`. The first word of the next.
+fn index_clause(words: &[u16], index: &mut [u16], t: usize, at: usize) -> usize
+    requires { ⌜ (Indexed (now words) (now index) t at) × ((t < getD (now words) 1 0) × (at ≡ startOf (now words) t)) ⌝ }
+    ensures { λ r. ⌜ (r ≡ startOf (now (words .entry)) (t + 1)) × (Indexed (now (words .entry)) (now (index .exit)) (t + 1) r) ⌝ }
+{
+    link_part(words, index, Part::Head, t, at);
+    link_part(words, index, Part::Pos, t, at);
+    link_part(words, index, Part::Neg, t, at);
+    let next = table::next_clause(words, at);
+    index[t + 1] = next as u16;
+    next
+}
+
+// The index of a table.
 pub fn clause_starts(words: &[u16], start: &mut [u16])
-    requires { ⌜ (Passed (now words)) × (getD (now words) 1 0 < length (now start)) ⌝ }
+    requires { ⌜ (Passed (now words)) × (21505 ≤ length (now start)) ⌝ }
     ensures { λ _. ⌜ Placed (now (words .entry)) (now (start .exit)) ⌝ }
 {
-    let m = table::wide(words[1]);
+    clear_last(start);
+    start[0] = 2;
     let mut at: usize = 2;
-    for t in 0..m {
-        start[t] = at as u16;
-        at = table::next_clause(words, at);
+    for t in 0..table::wide(words[1]) {
+        at = index_clause(words, start, t, at);
     }
-    start[m] = at as u16;
 }
+
+// The last place where the atom stands in such a part, 0 for none.
+pub fn last_place(words: &[u16], start: &[u16], part: Part, atom: u16) -> usize
+    requires { ⌜ (Placed (now words) (now start)) × (atom < 1024) ⌝ }
+    ensures { λ r. ⌜ Latest (now (words .entry)) (now (start .entry)) part atom (length (now (words .entry))) r ⌝ }
+{
+    table::wide(start[last_at(part, atom)])
+}
+
+// The place before place i of the same atom in the same part, 0 for none.
+pub fn place_before(words: &[u16], start: &[u16], i: usize) -> usize
+    requires { ⌜ (Placed (now words) (now start)) × (i < length (now words)) ⌝ }
+    ensures { λ r. ⌜ ((x : Part) (a t : ℕ) → Stands (now (words .entry)) x a t i → Latest (now (words .entry)) (now (start .entry)) x a i r) ⌝ }
+{
+    table::wide(start[BEFORE + i])
+}
+
+// The clause of place i.
+pub fn owner(words: &[u16], start: &[u16], i: usize) -> usize
+    requires { ⌜ (Placed (now words) (now start)) × (i < length (now words)) ⌝ }
+    ensures { λ r. ⌜ r ≡ getD (now (start .entry)) (ownerAt i) 0 ⌝ }
+{
+    table::wide(start[OWNER + i])
+}
+
+// ---- where clauses start
 
 // The first word of clause t.
 pub fn first_word(words: &[u16], start: &[u16], t: usize) -> usize
@@ -58,17 +169,7 @@ pub fn span(words: &[u16], start: &[u16], t: usize, part: Part) -> Bounds
     ensures { λ r. ⌜ Spanned (now (words .entry)) t part r ⌝ }
 {
     let at = first_word(words, start, t);
-    let a = at + 3;
-    let b = a + table::wide(words[at]);
-    let c = b + table::wide(words[at + 1]);
-    match part {
-        Part::Head => Bounds { from: a, end: b },
-        Part::Pos => Bounds { from: b, end: c },
-        Part::Neg => Bounds {
-            from: c,
-            end: c + table::wide(words[at + 2]),
-        },
-    }
+    part_at(words, at, part)
 }
 
 // Whether clause t is kept.

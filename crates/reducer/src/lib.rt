@@ -271,7 +271,7 @@ fn reduce_kept(words: &[u16], marks: &mut [u8], list: &mut [u16]) -> usize
     ensures { λ r. ⌜ Reduced (now (words .entry)) (now (marks .entry)) (now (list .entry)) (now (marks .exit)) (now (list .exit)) r ⌝ }
 {
     let m = table::wide(words[1]);
-    let mut start = [0u16; 2049];
+    let mut start = [0u16; parts::INDEX];
     let mut heads = [0u16; 1024];
     let mut reach = [0u8; 1024];
     let mut may = [0u16; 34850];

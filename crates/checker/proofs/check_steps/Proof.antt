@@ -6,7 +6,7 @@ use Rattle.checker.proofs.check_steps.Statement.{statement}
 use Rattle.checker.proofs.check_steps.Tie as tie
 
 clause-starts-requires : tie.Need-clause-starts-requires
-clause-starts-requires c κs = (c .before .before .before .before .pre .0, omega (arith, passed-limits _ (c .before .before .before .before .pre .0) .fewClauses))
+clause-starts-requires c κs = (c .before .before .before .before .pre .0, omega arith)
 
 take-steps-requires : tie.Need-take-steps-requires
 take-steps-requires c κs = (record { placed = c .before .before .before .before .before .clause-starts .ensures; marks = c .before .before .before .before .before .before .before .before .before .before .pre .1 }, (omega (arith, passed-limits _ (c .before .before .before .before .before .before .before .before .before .before .pre .0) .fewAtoms), omega (arith, passed-limits _ (c .before .before .before .before .before .before .before .before .before .before .pre .0) .fewAtoms)))

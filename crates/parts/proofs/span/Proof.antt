@@ -1,20 +1,11 @@
 -- `parts::span` meets its contract.
 use Rattle.parts.proofs.Laws.{spanned}
-use Rattle.parts.specs.declared.Part.the-variants.{Head, Pos, Neg}
 use borrow.Author.Needs.{needs}
 use Rattle.parts.proofs.span.Statement.{statement}
 use Rattle.parts.proofs.span.Tie as tie
 
 returns : tie.Need-returns
-returns c = rw (c .enum-told .given .1) (spanned _ _ _ Head _ (c .before .before .before .before .before .before .first-word .ensures .0) (c .before .before .before .before .before .before .first-word .ensures .1) (rw (c .before .before .before .before .wide .ensures .0)))
-
-returns-2 : tie.Need-returns-2
-returns-2 c = rw (c .enum-told2 .given .1) (spanned _ _ _ Pos _ (c .before .before .before .before .before .before .first-word .ensures .0) (c .before .before .before .before .before .before .first-word .ensures .1) (rw (c .before .before .before .before .wide .ensures .0, c .before .before .wide2 .ensures .0)))
-
-returns-3 : tie.Need-returns-3
-returns-3 c = rw (c .before .before .enum-told3 .given .1) (spanned _ _ _ Neg _ (c .before .before .before .before .before .before .before .before .first-word .ensures .0) (c .before .before .before .before .before .before .before .before .first-word .ensures .1) (rw (c .before .before .before .before .before .before .wide .ensures .0, c .before .before .before .before .wide2 .ensures .0, c .wide3 .ensures .0)))
+returns c = spanned _ _ _ (c .before .before .before .before .args .part) _ (c .before .first-word .ensures .0) (c .before .first-word .ensures .1) (c .part-at .ensures)
 
 pub span-spec : {M : Type 1} → statement M
-span-spec =
-    tie.close
-    (tie.spec (λ c κs. search needs) (λ c. search needs) (λ c. search needs) (λ c. search needs) (λ c κs. search needs) (λ c. search needs) (λ c. search needs) (λ c. search needs) (λ c. search needs) (λ c κs. search needs) (λ c. search needs) (λ c. search needs) (λ c. search needs) (λ c. search needs) (λ c. search needs) (λ c. search needs) (λ c. search needs) (λ c κs. search needs) (λ c. search needs) returns returns-2 returns-3)
+span-spec = tie.close (tie.spec (λ c κs. search needs) (λ c κs. search needs) returns)

@@ -15,8 +15,8 @@ shared-slice-read-wide c = omega (arith, passed-limits _ (c .before .before .bef
 
 clause-starts-requires : tie.Need-clause-starts-requires
 clause-starts-requires c κs =
-    let l = length-replicate {A = ℕ} 2049 0 in
-    (c .before .before .before .before .before .before .pre .0, omega (arith, l, passed-limits _ (c .before .before .before .before .before .before .pre .0) .fewClauses))
+    let l = length-replicate {A = ℕ} 21505 0 in
+    (c .before .before .before .before .before .before .pre .0, omega (arith, l))
 
 count-heads-requires : tie.Need-count-heads-requires
 count-heads-requires c κs =
