@@ -311,12 +311,12 @@ pub fn place_of(words: &[u16], start: &[u16], t: usize, part: Part, atom: u16) -
     find_word(words, a, b, atom)
 }
 
-// The first head atom of clause p, as left.
-pub fn head_atom(words: &[u16], marks: &[u8], start: &[u16], p: usize) -> u16
+// The first atom of a part of clause p, as left.
+pub fn first_atom(words: &[u16], marks: &[u8], start: &[u16], p: usize, part: Part) -> u16
     requires { ⌜ (Ready (now words) (now marks) (now start)) × (p < getD (now words) 1 0) ⌝ }
-    ensures { λ r. ⌜ r ≡ getD (entry (view (now (words .entry)) (now (marks .entry))) p .clause .head) 0 0 ⌝ }
+    ensures { λ r. ⌜ r ≡ getD (partOf part (entry (view (now (words .entry)) (now (marks .entry))) p .clause)) 0 0 ⌝ }
 {
-    let s = parts::span(words, start, p, Part::Head);
+    let s = parts::span(words, start, p, part);
     let a = s.from;
     let b = s.end;
     first_of(&words[a..b], &marks[a..b])
@@ -349,7 +349,7 @@ pub fn cleared(
             start,
             t,
             Part::Pos,
-            head_atom(words, marks, start, p),
+            first_atom(words, marks, start, p, Part::Head),
         ),
         4 => place_of(words, start, t, Part::Neg, atom),
         _ => parts::first_word(words, start, t),

@@ -4,3 +4,4 @@ pub mod Fits
 pub mod Walks
 pub mod States
 pub mod Spreads
+pub mod Clues

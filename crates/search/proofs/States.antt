@@ -31,7 +31,7 @@ use Rattle.conditions.specs.declared.Step as row
 use Rattle.search.specs.declared.Found.{Found}
 use Rattle.search.specs.declared.Found.the-variants.{One, Nothing}
 use Rattle.search.specs.Flags.{flags, highest, Inside, Rows, Raising, AllFlagged, Fenced}
-use Rattle.search.specs.Kinds.{PartnerKind, AtomKind}
+use Rattle.search.specs.Kinds.{PartnerKind, AtomKind, HeadsKind}
 use Rattle.search.specs.State.{foundOf, Arrays, Calm, Swept, KeySpread, KeyPassed, Settled, State, Prepared}
 use Rattle.search.proofs.Fits.{kind-number}
 use Rattle.search.proofs.Flags.{apart, outside, rows-clear}
@@ -206,18 +206,41 @@ module _ (ws ms start hs rs may : List ℕ) (z : State ws ms start hs rs may) wh
       other j l = getD-set-other may' 0 j 0 0 (λ e. omega arith)
 
 -- what a kind with a partner asks of the whole program: nothing
-pub partner-known : (ws ms start hs rs may : List ℕ) → State ws ms start hs rs may → (kind : ℕ) → So (usesPartner (kindOf kind)) → Known (kindOf kind) ws ms hs rs
-partner-known ws ms start hs rs may z kind p = known-of ws ms start hs rs may z (kindOf kind) (λ h. absurd (no (kindOf kind) p h))
+pub partner-known : (ws ms hs rs : List ℕ) (k : Kind) → So (usesPartner k) → Known k ws ms hs rs
+partner-known ws ms hs rs k p = record { heads = λ h. absurd (no-heads k p h); reached = λ h. absurd (no-reach k p h) }
   where
-    no : (k : Kind) → So (usesPartner k) → ¬ So (Rattle.conditions.specs.Known.asksReach k)
-    no loop a b = false≢true a
-    no tautology a b = false≢true b
-    no contradiction a b = false≢true b
-    no success a b = false≢true b
-    no noHead a b = false≢true b
-    no blocked a b = false≢true b
-    no failure a b = false≢true b
-    no subsumed a b = false≢true b
+    no-heads : (k : Kind) → So (usesPartner k) → ¬ So (Rattle.conditions.specs.Known.asksHeads k)
+    no-heads success a b = false≢true b
+    no-heads blocked a b = false≢true b
+    no-heads subsumed a b = false≢true b
+    no-heads tautology a b = false≢true b
+    no-heads contradiction a b = false≢true b
+    no-heads loop a b = false≢true b
+    no-heads noHead a b = false≢true a
+    no-heads failure a b = false≢true a
+
+    no-reach : (k : Kind) → So (usesPartner k) → ¬ So (Rattle.conditions.specs.Known.asksReach k)
+    no-reach loop a b = false≢true a
+    no-reach tautology a b = false≢true b
+    no-reach contradiction a b = false≢true b
+    no-reach success a b = false≢true b
+    no-reach noHead a b = false≢true b
+    no-reach blocked a b = false≢true b
+    no-reach failure a b = false≢true b
+    no-reach subsumed a b = false≢true b
+
+-- kinds 4 and 6 ask for heads alone, and have an atom
+pub heads-known : (ws ms hs rs : List ℕ) (kind : ℕ) → HeadsKind kind → Heads ws ms hs → Known (kindOf kind) ws ms hs rs
+heads-known ws ms hs rs kind (inl e) h = subst (λ k. Known (kindOf k) ws ms hs rs) (sym e) (record { heads = λ _. h; reached = λ x. absurd (false≢true x) })
+heads-known ws ms hs rs kind (inr e) h = subst (λ k. Known (kindOf k) ws ms hs rs) (sym e) (record { heads = λ _. h; reached = λ x. absurd (false≢true x) })
+
+pub heads-atom : (kind : ℕ) → HeadsKind kind → So (usesAtom (kindOf kind))
+heads-atom kind (inl e) = subst (λ k. So (usesAtom (kindOf k))) (sym e) refl
+heads-atom kind (inr e) = subst (λ k. So (usesAtom (kindOf k))) (sym e) refl
+
+pub heads-bounds : (kind : ℕ) → HeadsKind kind → (1 ≤ kind) × (kind ≤ 8)
+heads-bounds kind (inl e) = (omega arith, omega arith)
+heads-bounds kind (inr e) = (omega arith, omega arith)
 
 -- ---- the keys of a kind, one after the other
 

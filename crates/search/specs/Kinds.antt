@@ -1,4 +1,6 @@
 -- Kinds by their numbers.
+use mathlib.Core.Path.{_≡_}
+use mathlib.Core.Logic.{_⊎_}
 use mathlib.Core.Bool.{So, cond}
 use Prim.Native.Nat.{ℕ, _≤_}
 use lib.Dec.{eqb}
@@ -16,6 +18,14 @@ pub record AtomKind (kind : ℕ) : Type 0 where
   pub low : 1 ≤ kind
   pub high : kind ≤ 8
   pub uses : So (usesAtom (kindOf kind))
+
+-- kinds 4 and 6 ask for atoms "in the head of no kept clause"
+abbrev pub HeadsKind : ℕ → Type 0
+HeadsKind kind = (kind ≡ 4) ⊎ (kind ≡ 6)
+
+-- the part in which a target of kind 3, 5 or 8 has the partner's head atoms
+abbrev pub targetPart : ℕ → Part
+targetPart kind = cond (eqb kind 3) Pos (cond (eqb kind 5) Neg Head)
 
 -- the part that the search of a kind with an atom walks
 abbrev pub walkedPart : ℕ → Part

@@ -12,7 +12,9 @@ use Rattle.rewriting.specs.Reducer.{firstPartner}
 use Rattle.rewriting.proofs.Order.{firstIn, asked}
 use Rattle.rewriting.proofs.Quiet.{Quiet, stale, key}
 use Rattle.table.specs.View.{view, part}
-use Rattle.parts.specs.Parts.{Ready}
+use Rattle.semantics.specs.Lists.{_∈_}
+use Rattle.parts.specs.declared.Part.{Part}
+use Rattle.parts.specs.Parts.{partOf, Ready}
 use Rattle.reach.specs.Bytes.{Reached}
 use Rattle.conditions.specs.Known.{Heads}
 use Rattle.search.specs.declared.Found.{Found}
@@ -58,6 +60,14 @@ pub record Partners (ws ms : List ℕ) (t e : ℕ) : Type 0 where
   pub most : e ≤ getD ws 1 0
   pub kept : 0 < e → So (entry (view ws ms) t .kept)
   pub all : So (entry (view ws ms) t .kept) → e ≡ getD ws 1 0
+
+-- Every target that has a step with the partner p and the atom has atom a in a part.
+abbrev pub Clue : List ℕ → List ℕ → ℕ → ℕ → ℕ → Part → ℕ → Type 0
+Clue ws ms kind p atom x a = (t : ℕ) → So (applies (getD ws 0 0) (view ws ms) (step (kindOf kind) t p atom)) → a ∈ partOf x (entry (view ws ms) t .clause)
+
+-- No step of the kind has the partner.
+abbrev pub NoPartner : List ℕ → List ℕ → ℕ → ℕ → Type 0
+NoPartner ws ms kind p = (t : ℕ) → ¬ So (applies (getD ws 0 0) (view ws ms) (step (kindOf kind) t p 0))
 
 -- Every target that has a step with the partner p and the atom is flagged.
 pub record Spread (ws ms may may' : List ℕ) (kind p a : ℕ) : Type 0 where

@@ -14,10 +14,11 @@ ghost use mathlib.Core.Logic.{_≢_, _⊎_};
 ghost use Rattle.search.specs.Flags.{flags, lowest, highest, Inside, Raising, AllFlagged, Fenced};
 ghost use Rattle.rewriting.specs.Reducer.{firstTarget};
 ghost use Rattle.rewriting.proofs.Order.{asked, walked};
-ghost use Rattle.search.specs.Kinds.{PartnerKind, AtomKind, walkedPart};
+ghost use mathlib.Core.Bool.{true, false};
+ghost use Rattle.search.specs.Kinds.{PartnerKind, AtomKind, HeadsKind, walkedPart, targetPart};
 ghost use Rattle.rewriting.specs.Reducer.{firstStep};
 ghost use Rattle.conditions.specs.Known.{Known};
-ghost use Rattle.search.specs.State.{Arrays, Walk, Partners, Calm, Swept, Spread, KeySpread, KeyPassed, State, Settled, Prepared, foundOf, stoppedAt};
+ghost use Rattle.search.specs.State.{Arrays, Walk, Partners, Calm, Swept, Clue, NoPartner, Spread, KeySpread, KeyPassed, State, Settled, Prepared, foundOf, stoppedAt};
 use conditions::Step;
 use parts::Bounds;
 use parts::Part;
@@ -205,6 +206,32 @@ fn partner_applies(
         return false;
     }
     partner_fits(words, marks, start, stamps, kind, t, p)
+}
+
+// ---- kinds by their numbers
+
+// Whether a kind has a partner.
+fn uses_partner(kind: u16) -> bool
+    requires { ⌜ (1 ≤ kind) × (kind ≤ 8) ⌝ }
+    ensures { λ r. ⌜ r ≡ usesPartner (kindOf kind) ⌝ }
+{
+    if kind == 3 {
+        return true;
+    }
+    if kind == 5 {
+        return true;
+    }
+    kind == 8
+}
+
+// Whether a kind asks for atoms in no kept head.
+fn asks_heads(kind: u16) -> bool
+    ensures { λ r. ⌜ (r ≡ true → HeadsKind kind) × (HeadsKind kind → r ≡ true) ⌝ }
+{
+    if kind == 4 {
+        return true;
+    }
+    kind == 6
 }
 
 // ---- flags: a row for each kind's targets, then for each kind's keys
@@ -463,6 +490,206 @@ fn spread(
     }
 }
 
+// Flags the target t of the kind, if the condition holds with the partner p and the atom.
+fn spread_one(
+    words: &[u16],
+    marks: &[u8],
+    start: &[u16],
+    heads: &[u16],
+    reach: &[u8],
+    may: &mut [u16],
+    kind: u16,
+    p: usize,
+    atom: u16,
+    t: usize,
+)
+    requires { ⌜ (Ready (now words) (now marks) (now start)) × ((t < getD (now words) 1 0) × ((p < getD (now words) 1 0) × (((1 ≤ kind) × (kind ≤ 8)) × ((Known (kindOf kind) (now words) (now marks) (now heads) (now reach)) × (length (now may) ≡ 34850))))) ⌝ }
+    ensures { λ _. ⌜ Raising (now (may .entry)) (now (may .exit)) kind (t + 1) × (So (condition (kindOf kind) (left (view (now (words .entry)) (now (marks .entry)))) (entry (view (now (words .entry)) (now (marks .entry))) t .clause) (entry (view (now (words .entry)) (now (marks .entry))) p .clause) atom) → flags (now (may .exit)) kind t ≢ 0) ⌝ }
+{
+    let row = table::wide(kind);
+    if may[row * 2048 + t] != 0 {
+        return;
+    }
+    if !conditions::holds(words, marks, start, heads, reach, kind, t, p, atom) {
+        return;
+    }
+    flag(may, row, t);
+}
+
+// The same as `spread`, where every target has atom a in a part: its places are walked.
+fn spread_along(
+    words: &[u16],
+    marks: &[u8],
+    start: &[u16],
+    heads: &[u16],
+    reach: &[u8],
+    may: &mut [u16],
+    kind: u16,
+    p: usize,
+    atom: u16,
+    part: Part,
+    a: u16,
+)
+    requires { ⌜ (Ready (now words) (now marks) (now start)) × ((p < getD (now words) 1 0) × (((1 ≤ kind) × (kind ≤ 8)) × ((Known (kindOf kind) (now words) (now marks) (now heads) (now reach)) × ((length (now may) ≡ 34850) × ((a < 1024) × Clue (now words) (now marks) kind p atom part a))))) ⌝ }
+    ensures { λ _. ⌜ Spread (now (words .entry)) (now (marks .entry)) (now (may .entry)) (now (may .exit)) kind p atom ⌝ }
+{
+    let mut i = parts::last_place(words, start, part, a);
+    while i != 0 {
+        let t = parts::owner(words, start, i);
+        i = parts::place_before(words, start, i);
+        spread_one(words, marks, start, heads, reach, may, kind, p, atom, t);
+    }
+}
+
+// The part in which a target has the head atoms of a partner of the kind.
+fn target_part(kind: u16) -> Part
+    ensures { λ r. ⌜ r ≡ targetPart kind ⌝ }
+{
+    if kind == 3 {
+        return Part::Pos;
+    }
+    if kind == 5 {
+        return Part::Neg;
+    }
+    Part::Head
+}
+
+// Whether clause x may be a partner of the kind: it is kept and, for kinds 3 and 5, a fact.
+fn may_partner(words: &[u16], marks: &[u8], start: &[u16], kind: u16, x: usize) -> bool
+    requires { ⌜ (Ready (now words) (now marks) (now start)) × ((x < getD (now words) 1 0) × PartnerKind kind) ⌝ }
+    ensures { λ r. ⌜ (r ≡ false → NoPartner (now (words .entry)) (now (marks .entry)) kind x) ⌝ }
+{
+    if !parts::kept(words, marks, start, x) {
+        return false;
+    }
+    if kind == 8 {
+        return true;
+    }
+    conditions::is_fact(words, marks, start, x)
+}
+
+// Kind 8: the targets of a partner without a head, by an atom of its body.
+fn spread_body(
+    words: &[u16],
+    marks: &[u8],
+    start: &[u16],
+    heads: &[u16],
+    reach: &[u8],
+    may: &mut [u16],
+    x: usize,
+    m: usize,
+)
+    requires { ⌜ (Ready (now words) (now marks) (now start)) × ((m ≡ getD (now words) 1 0) × ((x < getD (now words) 1 0) × (length (now may) ≡ 34850))) ⌝ }
+    ensures { λ _. ⌜ Spread (now (words .entry)) (now (marks .entry)) (now (may .entry)) (now (may .exit)) 8 x 0 ⌝ }
+{
+    if !parts::empty(words, marks, start, x, Part::Pos) {
+        let a = conditions::first_atom(words, marks, start, x, Part::Pos);
+        spread_along(
+            words,
+            marks,
+            start,
+            heads,
+            reach,
+            may,
+            8,
+            x,
+            0,
+            Part::Pos,
+            a,
+        );
+        return;
+    }
+    if !parts::empty(words, marks, start, x, Part::Neg) {
+        let a = conditions::first_atom(words, marks, start, x, Part::Neg);
+        spread_along(
+            words,
+            marks,
+            start,
+            heads,
+            reach,
+            may,
+            8,
+            x,
+            0,
+            Part::Neg,
+            a,
+        );
+        return;
+    }
+    spread(words, marks, start, heads, reach, may, 8, x, 0, m);
+}
+
+// The targets of a partner, by its first head atom.
+fn spread_partner(
+    words: &[u16],
+    marks: &[u8],
+    start: &[u16],
+    heads: &[u16],
+    reach: &[u8],
+    may: &mut [u16],
+    kind: u16,
+    x: usize,
+    m: usize,
+)
+    requires { ⌜ (Ready (now words) (now marks) (now start)) × ((m ≡ getD (now words) 1 0) × ((x < getD (now words) 1 0) × ((PartnerKind kind) × (length (now may) ≡ 34850)))) ⌝ }
+    ensures { λ _. ⌜ Spread (now (words .entry)) (now (marks .entry)) (now (may .entry)) (now (may .exit)) kind x 0 ⌝ }
+{
+    if !parts::empty(words, marks, start, x, Part::Head) {
+        let a = conditions::first_atom(words, marks, start, x, Part::Head);
+        spread_along(
+            words,
+            marks,
+            start,
+            heads,
+            reach,
+            may,
+            kind,
+            x,
+            0,
+            target_part(kind),
+            a,
+        );
+        return;
+    }
+    if kind == 8 {
+        spread_body(words, marks, start, heads, reach, may, x, m);
+        return;
+    }
+    spread(words, marks, start, heads, reach, may, kind, x, 0, m);
+}
+
+// The targets of kind 4 or 6 that have an atom, where it is in no kept head.
+fn spread_atom(
+    words: &[u16],
+    marks: &[u8],
+    start: &[u16],
+    heads: &[u16],
+    reach: &[u8],
+    may: &mut [u16],
+    kind: u16,
+    atom: u16,
+)
+    requires { ⌜ (State (now words) (now marks) (now start) (now heads) (now reach) (now may)) × ((0 < getD (now words) 1 0) × ((atom < 1024) × HeadsKind kind)) ⌝ }
+    ensures { λ _. ⌜ Spread (now (words .entry)) (now (marks .entry)) (now (may .entry)) (now (may .exit)) kind 0 atom ⌝ }
+{
+    if !conditions::no_head(heads, atom) {
+        return;
+    }
+    spread_along(
+        words,
+        marks,
+        start,
+        heads,
+        reach,
+        may,
+        kind,
+        0,
+        atom,
+        walked_part(kind),
+        atom,
+    );
+}
+
 // Flags every target of the kind that has a step with the key.
 fn spread_key(
     words: &[u16],
@@ -479,12 +706,26 @@ fn spread_key(
     ensures { λ _. ⌜ KeySpread (now (words .entry)) (now (marks .entry)) (now (may .entry)) (now (may .exit)) kind x ⌝ }
 {
     if uses_partner(kind) {
-        if x < m {
-            spread(words, marks, start, heads, reach, may, kind, x, 0, m);
+        if m <= x {
+            return;
         }
+        if !may_partner(words, marks, start, kind, x) {
+            return;
+        }
+        spread_partner(words, marks, start, heads, reach, may, kind, x, m);
         return;
     }
-    flag_all(may, table::wide(kind), m);
+    if !asks_heads(kind) {
+        flag_all(may, table::wide(kind), m);
+        return;
+    }
+    if m == 0 {
+        return;
+    }
+    if 1024 <= x {
+        return;
+    }
+    spread_atom(words, marks, start, heads, reach, may, kind, narrow(x));
 }
 
 // A key that is fresh is spread, and is fresh no more.
@@ -559,20 +800,6 @@ fn refresh(
 }
 
 // ---- the smallest step
-
-// Whether a kind has a partner.
-fn uses_partner(kind: u16) -> bool
-    requires { ⌜ (1 ≤ kind) × (kind ≤ 8) ⌝ }
-    ensures { λ r. ⌜ r ≡ usesPartner (kindOf kind) ⌝ }
-{
-    if kind == 3 {
-        return true;
-    }
-    if kind == 5 {
-        return true;
-    }
-    kind == 8
-}
 
 // What the search of a kind asks for first: no key is fresh, and for kind 7 the reach.
 fn prepare(

@@ -6,7 +6,7 @@ use Rattle.conditions.proofs.cleared.Statement.{statement}
 use Rattle.conditions.proofs.cleared.Tie as tie
 
 returns : tie.Need-returns
-returns c = rw (c .before .before .match .keys1) (clears-pos _ _ _ _ _ _ (c .before .head-atom .ensures) (c .place-of .ensures))
+returns c = rw (c .before .before .match .keys1) (clears-pos _ _ _ _ _ _ (c .before .first-atom .ensures) (c .place-of .ensures))
 
 returns-2 : tie.Need-returns-2
 returns-2 c = rw (c .before .match .keys2) (clears-neg _ _ _ _ _ (c .place-of2 .ensures))

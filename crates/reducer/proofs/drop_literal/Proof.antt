@@ -20,9 +20,11 @@ open-partner-requires c κs = (omega (arith, c .wide .ensures .0, target-lt (c .
 returns : tie.Need-returns
 returns c =
     let may' = c .before .before .open-partner .last .0 in
-    let f = subst (PartnerFresh may') (c .before .before .before .wide .ensures .0) (c .before .before .open-partner .ensures .1) in
-    (c .before .before .before .before .before .before .before .make-step .ensures, subst (λ k. State (c .before .before .before .before .before .before .before .before .before .before .before .before .before .before .before .args .words .now) k (c .before .before .before .before .before .before .before .before .before .before .before .before .before .before .before .args .start .now) (c .before .before .before .before .before .before .before .before .before .before .before .before .before .before .before .args .heads .now) (c .before .before .before .before .before .before .before .before .before .before .before .before .before .before .before .args .reach .now) may') (sym (c .before .before .before .before .before .before .before .make-step .ensures))
-    (state-dropped _ _ _ _ _ _ (c .before .before .before .before .before .before .before .before .before .before .before .before .before .before .before .pre .0) (stepOf (c .before .before .before .before .before .before .before .before .before .before .before .before .before .before .before .args .step)) (c .before .before .before .before .before .before .before .before .before .before .before .before .before .before .before .pre .1 .0 .applies) may' (c .before .before .open-partner .ensures .0) (c .before .before .before .before .before .before .before .before .before .before .before .before .before .before .before .pre .1 .1) f))
+    let f = subst (PartnerFresh may') (c .before .before .before .wide .ensures .0) (c .before .before .open-partner .ensures .1) in (
+      c .before .before .before .before .before .before .before .make-step .ensures,
+      subst (λ k. State (c .before .before .before .before .before .before .before .before .before .before .before .before .before .before .before .args .words .now) k (c .before .before .before .before .before .before .before .before .before .before .before .before .before .before .before .args .start .now) (c .before .before .before .before .before .before .before .before .before .before .before .before .before .before .before .args .heads .now) (c .before .before .before .before .before .before .before .before .before .before .before .before .before .before .before .args .reach .now) may') (sym (c .before .before .before .before .before .before .before .make-step .ensures))
+          (state-dropped _ _ _ _ _ _ (c .before .before .before .before .before .before .before .before .before .before .before .before .before .before .before .pre .0) (stepOf (c .before .before .before .before .before .before .before .before .before .before .before .before .before .before .before .args .step)) (c .before .before .before .before .before .before .before .before .before .before .before .before .before .before .before .pre .1 .0 .applies) may' (c .before .before .open-partner .ensures .0) (c .before .before .before .before .before .before .before .before .before .before .before .before .before .before .before .pre .1 .1) f),
+    )
 
 pub drop-literal-spec : {M : Type 1} → statement M
 drop-literal-spec = tie.close (tie.spec make-step-requires (λ c κs. search needs) open-partner-requires (λ c. search needs) (λ c. search needs) returns)

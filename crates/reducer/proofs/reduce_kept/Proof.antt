@@ -29,9 +29,11 @@ flag-kinds-requires c κs = (refl, omega (arith, c .before .before .before .befo
 run-steps-requires : tie.Need-run-steps-requires
 run-steps-requires c κs =
     let l = passed-limits _ (c .before .before .before .before .before .before .before .before .before .before .before .before .before .before .before .before .before .before .before .before .before .before .pre .0) .fewAtoms in
-    let h = length-replicate {A = ℕ} 1024 0 in
-    (state-begun _ _ _ _ _ _ (record { placed = c .before .before .before .before .before .before .before .before .before .before .before .before .before .before .before .clause-starts .ensures; marks = c .before .before .before .before .before .before .before .before .before .before .before .before .before .before .before .before .before .before .before .before .before .before .pre .1 .0 }) (c .before .before .before .before .before .before .before .before .before .before .count-heads .ensures) (omega (arith, c .before .before .before .before .before .before .before .before .before .before .count-heads .kept .1 .1 .1 .0)) (omega (arith, h))
-    (subst (λ x. AllOpen (c .before .before .before .before .before .before .before .flag-kinds .last .0) x) (c .before .before .before .before .before .before .before .before .before .before .before .before .before .before .before .before .before .wide .ensures .0) (c .before .before .before .before .before .before .before .flag-kinds .ensures)), (c .before .before .before .before .before .before .before .before .before .before .before .before .before .before .before .before .before .wide .ensures .0, c .before .before .before .before .before .before .before .before .before .before .before .before .before .before .before .before .before .before .before .before .before .before .pre .1 .1))
+    let h = length-replicate {A = ℕ} 1024 0 in (
+      state-begun _ _ _ _ _ _ (record { placed = c .before .before .before .before .before .before .before .before .before .before .before .before .before .before .before .clause-starts .ensures; marks = c .before .before .before .before .before .before .before .before .before .before .before .before .before .before .before .before .before .before .before .before .before .before .pre .1 .0 }) (c .before .before .before .before .before .before .before .before .before .before .count-heads .ensures) (omega (arith, c .before .before .before .before .before .before .before .before .before .before .count-heads .kept .1 .1 .1 .0)) (omega (arith, h))
+          (subst (λ x. AllOpen (c .before .before .before .before .before .before .before .flag-kinds .last .0) x) (c .before .before .before .before .before .before .before .before .before .before .before .before .before .before .before .before .before .wide .ensures .0) (c .before .before .before .before .before .before .before .flag-kinds .ensures)),
+      (c .before .before .before .before .before .before .before .before .before .before .before .before .before .before .before .before .before .wide .ensures .0, c .before .before .before .before .before .before .before .before .before .before .before .before .before .before .before .before .before .before .before .before .before .before .pre .1 .1),
+    )
 
 returns : tie.Need-returns
 returns c = c .before .before .before .before .before .before .before .run-steps .ensures
