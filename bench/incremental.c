@@ -123,14 +123,14 @@ static void open_no_head(struct reducer *r, unsigned atom)
     open_at(r, FAILURE, POS + atom);
 }
 
-/* Clause t has become a fact. An atom's first fact opens all that its later ones would. */
+/* Clause t has become a fact. The first without a head, or of an atom, opens all that later ones would. */
 static void open_fact(struct reducer *r, unsigned t)
 {
     const struct clause *c = &r->clause[t];
     if (c->head == c->pos) {
-        add(&r->empty, t);
-        for (unsigned other = 0; other < r->clauses; other++)
+        for (unsigned other = 0; !r->empty.some && other < r->clauses; other++)
             add(&r->may[BLOCKED], other);
+        add(&r->empty, t);
         return;
     }
     unsigned atom = r->words[c->head];
