@@ -1,12 +1,13 @@
-/* A reducer of ground programs, written for speed and not proved: the yardstick of the benchmark. It gives document 01's list, the
- * applicable step that is smallest by kind, target, partner and atom, again and again, and looks only where a step may have been opened.
+/* A reducer of ground programs, written for speed and not proved: the yardstick of the benchmark. It gives document
+ * 01's list, the applicable step that is smallest by kind, target, partner and atom, again and again, and looks only
+ * where a step may have been opened.
  *
  * Kinds 1 and 2 are never opened, so one pass makes them. The others have a set of targets where a step may apply:
  *  - 3 and 5 are opened by a clause that becomes a fact, at the clauses that have its head atom in their body;
  *  - 4 and 6 by a deletion, at the clauses whose body has an atom that is in no head any more;
- *  - 7 by a deletion of a clause that brought an atom into the reach, which is then found again when 7 is next looked for;
- *  - 8 by a drop, at the clauses that have the rarest literal of the clause it shortened.
- * Such clauses are found in chains of the places where a literal stands. */
+ *  - 7 by a deletion of a clause that brought an atom into the reach, which is found again when 7 is next looked for;
+ *  - 8 by a drop, at the clauses that have the rarest literal of the clause that it shortened.
+ * Such clauses are found along chains of the places where a literal stands. */
 #include <stddef.h>
 #include <stdint.h>
 #include <string.h>
@@ -35,29 +36,29 @@ struct reducer {
     uint16_t *list;
     size_t steps;
     unsigned atoms, clauses;
-    struct clause clause[CLAUSES];
 
-    /* places: the literal that stands there, its clause, and the next place of the same literal */
-    uint16_t literal[WORDS], owner[WORDS], next[WORDS];
-    uint16_t chain[LITERALS]; /* the first place of a literal; 0 ends a chain */
-
-    struct set may[KINDS];    /* where a step of a kind may apply */
-    uint16_t heads[ATOMS];    /* how many kept clauses have the atom in their head */
-    uint16_t fact[ATOMS];     /* the smallest fact whose head is this atom alone */
-    struct set empty;         /* facts without a head */
-    struct set partners;      /* of the successes at one target, with the place of each one's literal; otherwise empty */
-    uint16_t place[CLAUSES];
-
-    uint16_t source[ATOMS];   /* a clause that brings the atom into the reach by atoms that are in it without this one */
-    int stale;                /* a source was deleted */
-
-    int indexed;              /* whether the search for subsumed clauses has begun */
-    struct set shortened;     /* clauses that lost a literal since the last such search */
-    uint16_t key[CLAUSES];    /* the rarest literal of a clause */
-    uint16_t keyed[LITERALS], next_keyed[CLAUSES]; /* the clauses of a key, ascending, to NONE */
-    uint16_t count[LITERALS]; /* how often a literal stood in kept clauses when the search began */
-
+    struct set may[KINDS];         /* where a step of a kind may apply */
+    uint16_t chain[LITERALS];      /* the first place of a literal, or 0 */
+    uint16_t heads[ATOMS];         /* how many kept clauses have the atom in their head */
+    uint16_t fact[ATOMS];          /* the smallest fact whose head is this atom alone, or NONE */
+    struct set empty;              /* kept facts without a head */
+    struct set partners;           /* of the successes at one target; empty between searches */
     uint32_t stamp[LITERALS], now; /* the literals stamped with `now` are those of one clause */
+    uint16_t source[ATOMS];        /* a clause that brings the atom into the reach, or NONE outside it */
+    int stale;                     /* whether a source was deleted */
+    int indexed;                   /* whether the search for subsumed clauses has begun */
+    struct set shortened;          /* clauses that lost a literal since the last such search */
+    uint16_t keyed[LITERALS];      /* the first clause whose key is the literal, or NONE */
+    uint16_t count[LITERALS];      /* how often the literal stood in kept clauses when that search began */
+
+    /* from here on written before it is read */
+    struct clause clause[CLAUSES];
+    uint16_t literal[WORDS];      /* the literal at a place */
+    uint16_t owner[WORDS];        /* its clause */
+    uint16_t next[WORDS];         /* the next place of the same literal, or 0 */
+    uint16_t place[CLAUSES];      /* where the literal stands that a partner of a success drops */
+    uint16_t key[CLAUSES];        /* the rarest literal of a clause */
+    uint16_t next_keyed[CLAUSES]; /* the next clause with the same key, or NONE */
 };
 
 /* ---- sets of clauses */
@@ -169,10 +170,10 @@ static void delete(struct reducer *r, unsigned t)
 
 /* ---- kinds 1 and 2 */
 
-/* The first atom of two parts, ascending, or NONE. */
-static unsigned common(const uint16_t *a, const uint16_t *a_end, const uint16_t *b, const uint16_t *b_end)
+/* The first atom that stands both from a to b and from b to the end, two parts; or NONE. */
+static unsigned common(const uint16_t *a, const uint16_t *b, const uint16_t *end)
 {
-    while (a < a_end && b < b_end) {
+    for (const uint16_t *a_end = b; a < a_end && b < end;) {
         if (*a == *b)
             return *a;
         if (*a < *b)
@@ -183,33 +184,22 @@ static unsigned common(const uint16_t *a, const uint16_t *a_end, const uint16_t 
     return NONE;
 }
 
-static void tautologies(struct reducer *r)
+static void delete_overlapping(struct reducer *r, unsigned kind)
 {
-    const uint16_t *w = r->words;
     for (unsigned t = 0; t < r->clauses; t++) {
         const struct clause *c = &r->clause[t];
-        unsigned atom = common(w + c->head, w + c->pos, w + c->pos, w + c->neg);
-        if (atom != NONE) {
-            write_step(r, TAUTOLOGY, t, 0, atom);
-            delete(r, t);
-        }
-    }
-}
-
-static void contradictions(struct reducer *r)
-{
-    const uint16_t *w = r->words;
-    for (unsigned t = 0; t < r->clauses; t++) {
-        const struct clause *c = &r->clause[t];
-        unsigned atom = common(w + c->pos, w + c->neg, w + c->neg, w + c->end);
+        const uint16_t *w = r->words;
+        unsigned atom = kind == TAUTOLOGY ? common(w + c->head, w + c->pos, w + c->neg)
+                                          : common(w + c->pos, w + c->neg, w + c->end);
         if (c->kept && atom != NONE) {
-            write_step(r, CONTRADICTION, t, 0, atom);
+            write_step(r, kind, t, 0, atom);
             delete(r, t);
         }
     }
 }
 
-/* ---- kinds 3 and 4: all drops at a target come one after the other, as only the last can make it a fact and open a smaller step */
+/* ---- kinds 3 and 4: the drops at a target come one after the other, as only the last can make it a fact, and so
+ * open a smaller step */
 
 /* A fact can have been deleted since, but by then no clause has its atom in a positive body. */
 static void success(struct reducer *r, unsigned t)
@@ -316,24 +306,13 @@ static void blocked(struct reducer *r, unsigned t)
 
 /* ---- kinds 6 and 7 */
 
-static void failure(struct reducer *r, unsigned t)
+/* Deletes clause t if a positive atom of it is in no head, or outside the reach. */
+static void fail(struct reducer *r, unsigned kind, unsigned t)
 {
     for (unsigned i = r->clause[t].pos; i < r->clause[t].neg; i++) {
         unsigned atom = r->words[i];
-        if (r->marks[i] && r->heads[atom] == 0) {
-            write_step(r, FAILURE, t, 0, atom);
-            delete(r, t);
-            return;
-        }
-    }
-}
-
-static void loop(struct reducer *r, unsigned t)
-{
-    for (unsigned i = r->clause[t].pos; i < r->clause[t].neg; i++) {
-        unsigned atom = r->words[i];
-        if (r->marks[i] && r->source[atom] == NONE) {
-            write_step(r, LOOP, t, 0, atom);
+        if (r->marks[i] && (kind == FAILURE ? r->heads[atom] == 0 : r->source[atom] == NONE)) {
+            write_step(r, kind, t, 0, atom);
             delete(r, t);
             return;
         }
@@ -376,9 +355,10 @@ static void find_reach(struct reducer *r)
     r->stale = 0;
 }
 
-/* ---- kind 8: a clause stands in the list of its rarest literal, so that the partners of a target are in the lists of its literals */
+/* ---- kind 8: a clause stands in the list of its rarest literal, its key, so that the partners of a target are in the
+ * lists of its literals */
 
-/* Puts clause p, which is not empty, into the list of its rarest literal. */
+/* Puts a clause that is not empty into the list of its key. */
 static void index_clause(struct reducer *r, unsigned p)
 {
     const struct clause *c = &r->clause[p];
@@ -408,7 +388,6 @@ static void unindex_clause(struct reducer *r, unsigned p)
 static void index_clauses(struct reducer *r)
 {
     memset(r->keyed, 0xff, sizeof r->keyed);
-    memset(r->count, 0, sizeof r->count);
     for (unsigned t = 0; t < r->clauses; t++)
         for (unsigned i = r->clause[t].head; r->clause[t].kept && i < r->clause[t].end; i++)
             r->count[r->literal[i]] += r->marks[i];
@@ -497,8 +476,6 @@ static void read_clauses(struct reducer *r)
 /* Chains, from the last clause on so that they ascend, and counts of heads. */
 static void link_places(struct reducer *r)
 {
-    memset(r->chain, 0, sizeof r->chain);
-    memset(r->heads, 0, sizeof r->heads);
     for (unsigned t = r->clauses; t-- > 0;) {
         const struct clause *c = &r->clause[t];
         for (unsigned i = c->head; i < c->end; i++) {
@@ -516,15 +493,7 @@ static void begin(struct reducer *r)
 {
     read_clauses(r);
     link_places(r);
-    memset(r->may, 0, sizeof r->may);
     memset(r->fact, 0xff, sizeof r->fact);
-    memset(r->source, 0, sizeof r->source);
-    memset(r->stamp, 0, sizeof r->stamp);
-    memset(&r->empty, 0, sizeof r->empty);
-    memset(&r->partners, 0, sizeof r->partners);
-    memset(&r->shortened, 0, sizeof r->shortened);
-    r->now = 0;
-    r->indexed = 0;
     r->stale = 1;
     for (unsigned t = 0; t < r->clauses; t++)
         if (r->clause[t].body == 0)
@@ -534,7 +503,7 @@ static void begin(struct reducer *r)
             open_no_head(r, atom);
 }
 
-/* The smallest kind that may have a step; KINDS where there is none. An empty clause blocks all others, and nothing is subsumed then. */
+/* The smallest kind that may have a step, or KINDS. Where there is an empty clause, all others were blocked before 8. */
 static unsigned next_kind(struct reducer *r)
 {
     for (unsigned kind = SUCCESS; kind < KINDS; kind++) {
@@ -548,26 +517,36 @@ static unsigned next_kind(struct reducer *r)
     return KINDS;
 }
 
+/* The steps of target t that may come next. */
+static void search(struct reducer *r, unsigned kind, unsigned t)
+{
+    switch (kind) {
+    case SUCCESS: success(r, t); break;
+    case NO_HEAD: no_head(r, t); break;
+    case BLOCKED: blocked(r, t); break;
+    case SUBSUMED: subsumed(r, t); break;
+    default: fail(r, kind, t);
+    }
+}
+
+/* Writes the list and the marks of a table that passes questions 1 to 8, and returns the number of steps. */
 size_t incremental_reduce(const uint16_t *table, size_t table_len, uint8_t *marks, uint16_t *list)
 {
-    static void (*const search[KINDS])(struct reducer *, unsigned) = {
-        [SUCCESS] = success, [NO_HEAD] = no_head, [BLOCKED] = blocked,
-        [FAILURE] = failure, [LOOP] = loop,       [SUBSUMED] = subsumed};
     struct reducer r;
+    memset(&r, 0, offsetof(struct reducer, clause));
+    memset(marks, 1, table_len);
     r.words = table;
     r.marks = marks;
     r.list = list;
-    r.steps = 0;
     r.atoms = table[0];
     r.clauses = table[1];
-    memset(marks, 1, table_len);
     begin(&r);
-    tautologies(&r);
-    contradictions(&r);
+    delete_overlapping(&r, TAUTOLOGY);
+    delete_overlapping(&r, CONTRADICTION);
     for (unsigned kind; (kind = next_kind(&r)) < KINDS;) {
         unsigned t = take_first(&r.may[kind]);
         if (r.clause[t].kept)
-            search[kind](&r, t);
+            search(&r, kind, t);
     }
     return r.steps;
 }

@@ -3,12 +3,11 @@
 #![deny(warnings)]
 mod calls;
 mod incremental;
-mod rescan;
 mod timing;
 
 use gambrolt_tests::make::shapes::{Shape, SHAPES};
 use gambrolt_tests::paper::program::{words, Clause, Program};
-use rescan::Reducer;
+use gambrolt_tests::rescan::Reducer;
 use timing::{best, once};
 
 /// How often the library and C are run, by turns; the shortest times count.
@@ -23,7 +22,9 @@ fn main() {
         contents(shape);
     }
     println!();
-    println!("| shape | library, ms | C, ms | library / C | rescanning, ms | rescanning / library | checking the list, ms |");
+    println!(
+        "| shape | library, ms | C, ms | library / C | rescanning, ms | rescanning / library | checking the list, ms |"
+    );
     println!("|---|---|---|---|---|---|---|");
     for shape in &SHAPES {
         reduction(shape);
@@ -55,7 +56,10 @@ fn reduction(shape: &Shape) {
     let (mut library, mut c) = (f64::MAX, f64::MAX);
     let mut steps = (0, 0);
     for _ in 0..TURNS {
-        let turn = (once(|| calls::reduce(&table, &mut marks, &mut list)), once(|| incremental::reduce(&table, &mut c_marks, &mut c_list)));
+        let turn = (
+            once(|| calls::reduce(&table, &mut marks, &mut list)),
+            once(|| incremental::reduce(&table, &mut c_marks, &mut c_list)),
+        );
         (library, c) = (library.min(turn.0 .0), c.min(turn.1 .0));
         steps = (turn.0 .1, turn.1 .1);
     }
