@@ -124,13 +124,17 @@ static void open_no_head(struct reducer *r, unsigned atom)
     open_at(r, FAILURE, POS + atom);
 }
 
-/* Clause t has become a fact. The first without a head, or of an atom, opens all that later ones would. */
+/* Clause t has become a fact. The first fact of an atom opens all that later ones would; so does the first without a
+ * head, but for itself. */
 static void open_fact(struct reducer *r, unsigned t)
 {
     const struct clause *c = &r->clause[t];
     if (c->head == c->pos) {
-        for (unsigned other = 0; !r->empty.some && other < r->clauses; other++)
-            add(&r->may[BLOCKED], other);
+        if (r->empty.some)
+            add(&r->may[BLOCKED], first(&r->empty)); /* it may have been the only one */
+        else
+            for (unsigned other = 0; other < r->clauses; other++)
+                add(&r->may[BLOCKED], other);
         add(&r->empty, t);
         return;
     }
@@ -503,7 +507,7 @@ static void begin(struct reducer *r)
             open_no_head(r, atom);
 }
 
-/* The smallest kind that may have a step, or KINDS. Where there is an empty clause, all others were blocked before 8. */
+/* The smallest kind that may have a step, or KINDS. An empty clause has blocked all others before 8 is looked for. */
 static unsigned next_kind(struct reducer *r)
 {
     for (unsigned kind = SUCCESS; kind < KINDS; kind++) {
