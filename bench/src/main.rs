@@ -8,10 +8,10 @@ mod timing;
 use gambrolt_tests::make::shapes::{Shape, SHAPES};
 use gambrolt_tests::paper::program::{words, Clause, Program};
 use gambrolt_tests::rescan::Reducer;
-use timing::{best, once};
+use timing::{best, best_by_turns, once};
 
-/// How often the library and C are run, by turns; the shortest times count.
-const TURNS: usize = 15;
+/// How often the library and C are run.
+const TURNS: usize = 25;
 
 fn main() {
     println!("C gives document 01's list and marks on {} random programs", incremental::compared());
@@ -53,24 +53,19 @@ fn reduction(shape: &Shape) {
     let (name, table) = (shape.name, shape.table(shape.full));
     let (mut marks, mut list) = (vec![0; table.len()], vec![0; 32768]);
     let (mut c_marks, mut c_list) = (marks.clone(), list.clone());
-    let (mut library, mut c) = (f64::MAX, f64::MAX);
-    let mut steps = (0, 0);
-    for _ in 0..TURNS {
-        let turn = (
-            once(|| calls::reduce(&table, &mut marks, &mut list)),
-            once(|| incremental::reduce(&table, &mut c_marks, &mut c_list)),
-        );
-        (library, c) = (library.min(turn.0 .0), c.min(turn.1 .0));
-        steps = (turn.0 .1, turn.1 .1);
-    }
-    let list = &list[..4 * steps.0];
-    assert_eq!(list, &c_list[..4 * steps.1], "{name}: the lists of the library and C differ");
+    let ((library, steps), (c, c_steps)) = best_by_turns(
+        TURNS,
+        || calls::reduce(&table, &mut marks, &mut list),
+        || incremental::reduce(&table, &mut c_marks, &mut c_list),
+    );
+    let list = &list[..4 * steps];
+    assert_eq!(list, &c_list[..4 * c_steps], "{name}: the lists of the library and C differ");
     assert_eq!(marks, c_marks, "{name}: the marks of the library and C differ");
     let (rescanning, rescanned) = once(|| Reducer::new(&(shape.program)(shape.full)).run());
     assert_eq!(list, rescanned.concat(), "{name}: the lists of the library and the rescanning reducer differ");
     let (checking, _) = best(5, || calls::check(&table, &mut marks, list));
     let (by_c, by_library) = (library / c, rescanning / library);
-    println!("| {name} | {library:.1} | {c:.3} | {by_c:.1} | {rescanning:.0} | {by_library:.0} | {checking:.1} |");
+    println!("| {name} | {library:.2} | {c:.3} | {by_c:.1} | {rescanning:.0} | {by_library:.0} | {checking:.1} |");
 }
 
 /// Sixteen entries, and as many clauses as there is room for that every smaller set satisfies, before those that it fails.
