@@ -46,7 +46,7 @@ install-shell: shell
 	install -m 755 build/gambrolt $(DESTDIR)$(PREFIX)/bin/
 	install -m 644 shell/gambrolt.1 $(DESTDIR)$(PREFIX)/share/man/man1/
 
-bench: lib
+bench: lib | compiler
 	$(CARGO_ENV) cargo run --offline --release --quiet --manifest-path bench/Cargo.toml
 
 # ---- the shell: C over the library ----

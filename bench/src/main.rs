@@ -1,20 +1,31 @@
-//! Full-size tables of several shapes: the library against a rescanning reducer, in one run, as the tables of
-//! docs/BENCHMARKS.md.
+//! Full-size tables of several shapes: the library, an incremental reducer in C and a rescanning one, in one run, as the
+//! tables of docs/BENCHMARKS.md.
 #![deny(warnings)]
 mod calls;
-mod rescan;
+mod incremental;
 mod timing;
 
 use gambrolt_tests::make::shapes::{Shape, SHAPES};
 use gambrolt_tests::paper::program::{words, Clause, Program};
-use rescan::Reducer;
-use timing::{best, once};
+use gambrolt_tests::rescan::Reducer;
+use timing::{best, best_by_turns, once};
+
+/// How often the library and C are run.
+const TURNS: usize = 25;
 
 fn main() {
+    println!("C gives document 01's list and marks on {} random programs", incremental::compared());
+    println!();
+    println!("| shape | words | steps | by kind 1 to 8 |");
+    println!("|---|---|---|---|");
+    for shape in &SHAPES {
+        contents(shape);
+    }
+    println!();
     println!(
-        "| shape | words | steps | by kind 1 to 8 | library, ms | rescanning, ms | ratio | checking the list, ms |"
+        "| shape | library, ms | C, ms | library / C | rescanning, ms | rescanning / library | checking the list, ms |"
     );
-    println!("|---|---|---|---|---|---|---|---|");
+    println!("|---|---|---|---|---|---|---|");
     for shape in &SHAPES {
         reduction(shape);
     }
@@ -25,22 +36,36 @@ fn main() {
     texts();
 }
 
-/// One line: reducing a table of a shape, and checking the list.
-fn reduction(shape: &Shape) {
+/// One line: the size of a shape's table, and the steps of its list.
+fn contents(shape: &Shape) {
     let table = shape.table(shape.full);
-    let (mut marks, mut list) = (vec![0; table.len()], vec![0; 32760]);
-    let (fast, steps) = best(5, || calls::reduce(&table, &mut marks, &mut list));
-    let list = &list[..4 * steps];
-    let (checked, _) = best(5, || calls::check(&table, &mut marks, list));
-    let (slow, rescanned) = once(|| Reducer::new(&(shape.program)(shape.full)).run());
-    assert_eq!(list, rescanned.concat(), "{}: the lists differ", shape.name);
+    let (mut marks, mut list) = (vec![0; table.len()], vec![0; 32768]);
+    let steps = incremental::reduce(&table, &mut marks, &mut list);
     let mut kinds = [0; 8];
-    for step in &rescanned {
+    for step in list.chunks(4).take(steps) {
         kinds[usize::from(step[0]) - 1] += 1;
     }
-    let kinds = kinds.map(|count| count.to_string()).join(" ");
-    let (name, words, ratio) = (shape.name, table.len(), slow / fast);
-    println!("| {name} | {words} | {steps} | {kinds} | {fast:.1} | {slow:.0} | {ratio:.0} | {checked:.1} |");
+    println!("| {} | {} | {steps} | {} |", shape.name, table.len(), kinds.map(|count| count.to_string()).join(" "));
+}
+
+/// One line: reducing a table of a shape in three ways, which have to give the same list, and checking it.
+fn reduction(shape: &Shape) {
+    let (name, table) = (shape.name, shape.table(shape.full));
+    let (mut marks, mut list) = (vec![0; table.len()], vec![0; 32768]);
+    let (mut c_marks, mut c_list) = (marks.clone(), list.clone());
+    let ((library, steps), (c, c_steps)) = best_by_turns(
+        TURNS,
+        || calls::reduce(&table, &mut marks, &mut list),
+        || incremental::reduce(&table, &mut c_marks, &mut c_list),
+    );
+    let list = &list[..4 * steps];
+    assert_eq!(list, &c_list[..4 * c_steps], "{name}: the lists of the library and C differ");
+    assert_eq!(marks, c_marks, "{name}: the marks of the library and C differ");
+    let (rescanning, rescanned) = once(|| Reducer::new(&(shape.program)(shape.full)).run());
+    assert_eq!(list, rescanned.concat(), "{name}: the lists of the library and the rescanning reducer differ");
+    let (checking, _) = best(5, || calls::check(&table, &mut marks, list));
+    let (by_c, by_library) = (library / c, rescanning / library);
+    println!("| {name} | {library:.2} | {c:.3} | {by_c:.1} | {rescanning:.0} | {by_library:.0} | {checking:.1} |");
 }
 
 /// Sixteen entries, and as many clauses as there is room for that every smaller set satisfies, before those that it fails.

@@ -1,5 +1,5 @@
 //! The library compared with document 01: `paper` is that document, written out literally; `library` calls the exports
-//! with guarded copies of every slice; `random` and `make` draw the inputs.
+//! with guarded copies of every slice; `random` and `make` draw the inputs; `rescan` reduces full-size tables whole.
 #![deny(warnings)]
 
 pub mod compare;
@@ -7,3 +7,4 @@ pub mod library;
 pub mod make;
 pub mod paper;
 pub mod random;
+pub mod rescan;

@@ -10,7 +10,7 @@ pub struct Shape {
     pub program: fn(usize) -> Program,
 }
 
-pub const SHAPES: [Shape; 9] = [
+pub const SHAPES: [Shape; 10] = [
     Shape { name: "random sparse", full: 2048, program: sparse },
     Shape { name: "random sparse with constraints", full: 2048, program: sparse_with_constraints },
     Shape { name: "chain of facts against clause order", full: 1024, program: chain },
@@ -20,6 +20,7 @@ pub const SHAPES: [Shape; 9] = [
     Shape { name: "a reach a thousand rounds deep", full: 1000, program: deep_reach },
     Shape { name: "subsumption with late partners", full: 511, program: late_partners },
     Shape { name: "kinds that open one another", full: 255, program: cascade },
+    Shape { name: "bodies of twelve that all go", full: 500, program: bodies },
 ];
 
 fn clause(head: &[usize], pos: &[usize], neg: &[usize]) -> Clause {
@@ -124,6 +125,18 @@ fn cascade(size: usize) -> Program {
     }
     clauses.push(clause(&[0], &[], &[]));
     program(4 * size + 1, clauses)
+}
+
+/// Pairs of equal clauses whose bodies go literal by literal: six facts, the head of the next pair, which is a fact in the
+/// end, and five atoms that are in no head. So the last pair becomes facts first; then one of each pair is subsumed.
+fn bodies(size: usize) -> Program {
+    let pairs = size.div_ceil(2);
+    let (facts, in_no_head) = (pairs..pairs + 6, pairs + 6..pairs + 11);
+    let body = |pair: usize| (pair + 1..pairs.min(pair + 2)).chain(facts.clone()).collect::<Vec<_>>();
+    let negative: Vec<usize> = in_no_head.collect();
+    let mut clauses: Vec<Clause> = (0..size).map(|i| clause(&[i / 2], &body(i / 2), &negative)).collect();
+    clauses.extend(facts.clone().map(|atom| clause(&[atom], &[], &[])));
+    program(pairs + 11, clauses)
 }
 
 impl Shape {

@@ -1,0 +1,556 @@
+/* A reducer of ground programs, written for speed and not proved: the yardstick of the benchmark. It gives document
+ * 01's list, the applicable step that is smallest by kind, target, partner and atom, again and again, and looks only
+ * where a step may have been opened.
+ *
+ * Kinds 1 and 2 are never opened, so one pass makes them. The others have a set of targets where a step may apply:
+ *  - 3 and 5 are opened by a clause that becomes a fact, at the clauses that have its head atom in their body;
+ *  - 4 and 6 by a deletion, at the clauses whose body has an atom that is in no head any more;
+ *  - 7 by a deletion of a clause that brought an atom into the reach, which is found again when 7 is next looked for;
+ *  - 8 by a drop, at the clauses that have the rarest literal of the clause that it shortened.
+ * Such clauses are found along chains of the places where a literal stands. */
+#include <stddef.h>
+#include <stdint.h>
+#include <string.h>
+
+enum { ATOMS = 1024, CLAUSES = 2048, WORDS = 8192, NONE = 0xffff };
+enum { TAUTOLOGY = 1, CONTRADICTION, SUCCESS, NO_HEAD, BLOCKED, FAILURE, LOOP, SUBSUMED, KINDS };
+enum { HEAD = 0, POS = ATOMS, NEG = 2 * ATOMS, LITERALS = 3 * ATOMS }; /* a literal is its part plus its atom */
+
+/* A set of clauses: a bit each, and a bit for each word that isn't 0. */
+struct set {
+    uint64_t word[CLAUSES / 64];
+    uint32_t some;
+};
+
+/* Where a clause's parts begin in the table, and what is left of it. */
+struct clause {
+    uint16_t first, head, pos, neg, end;
+    uint16_t body;       /* body literals left: a fact has none */
+    uint16_t conditions; /* positive ones among them */
+    uint16_t kept;
+};
+
+struct reducer {
+    const uint16_t *words;
+    uint8_t *marks;
+    uint16_t *list;
+    size_t steps;
+    unsigned atoms, clauses;
+
+    struct set may[KINDS];         /* where a step of a kind may apply */
+    uint16_t chain[LITERALS];      /* the first place of a literal, or 0 */
+    uint16_t heads[ATOMS];         /* how many kept clauses have the atom in their head */
+    uint16_t fact[ATOMS];          /* the smallest fact whose head is this atom alone, or NONE */
+    struct set empty;              /* kept facts without a head */
+    struct set partners;           /* of the successes at one target; empty between searches */
+    uint32_t stamp[LITERALS], now; /* the literals stamped with `now` are those of one clause */
+    uint16_t source[ATOMS];        /* a clause that brings the atom into the reach, or NONE outside it */
+    int stale;                     /* whether a source was deleted */
+    int indexed;                   /* whether the search for subsumed clauses has begun */
+    struct set shortened;          /* clauses that lost a literal since the last such search */
+    uint16_t keyed[LITERALS];      /* the first clause whose key is the literal, or NONE */
+    uint16_t count[LITERALS];      /* how often the literal stood in kept clauses when that search began */
+
+    /* from here on written before it is read */
+    struct clause clause[CLAUSES];
+    uint16_t literal[WORDS];      /* the literal at a place */
+    uint16_t owner[WORDS];        /* its clause */
+    uint16_t next[WORDS];         /* the next place of the same literal, or 0 */
+    uint16_t place[CLAUSES];      /* where the literal stands that a partner of a success drops */
+    uint16_t key[CLAUSES];        /* the rarest literal of a clause */
+    uint16_t next_keyed[CLAUSES]; /* the next clause with the same key, or NONE */
+};
+
+/* ---- sets of clauses */
+
+static void add(struct set *s, unsigned t)
+{
+    s->word[t / 64] |= UINT64_C(1) << t % 64;
+    s->some |= UINT32_C(1) << t / 64;
+}
+
+/* The first of a set that isn't empty. */
+static unsigned first(const struct set *s)
+{
+    unsigned i = __builtin_ctz(s->some);
+    return 64 * i + __builtin_ctzll(s->word[i]);
+}
+
+static void remove_from(struct set *s, unsigned t)
+{
+    s->word[t / 64] &= ~(UINT64_C(1) << t % 64);
+    if (!s->word[t / 64])
+        s->some &= ~(UINT32_C(1) << t / 64);
+}
+
+static unsigned take_first(struct set *s)
+{
+    unsigned t = first(s);
+    remove_from(s, t);
+    return t;
+}
+
+/* ---- chains of places */
+
+/* The place at a link, past those that are gone, which are unlinked; 0 at the end. */
+static unsigned live(struct reducer *r, uint16_t *link)
+{
+    while (*link && !(r->marks[*link] && r->clause[r->owner[*link]].kept))
+        *link = r->next[*link];
+    return *link;
+}
+
+/* A step of a kind may apply wherever the literal stands. */
+static void open_at(struct reducer *r, unsigned kind, unsigned literal)
+{
+    for (uint16_t *link = &r->chain[literal]; live(r, link); link = &r->next[*link])
+        add(&r->may[kind], r->owner[*link]);
+}
+
+/* ---- making steps, and what they open */
+
+static void write_step(struct reducer *r, unsigned kind, unsigned target, unsigned partner, unsigned atom)
+{
+    uint16_t *step = r->list + 4 * r->steps++;
+    step[0] = (uint16_t)kind;
+    step[1] = (uint16_t)target;
+    step[2] = (uint16_t)partner;
+    step[3] = (uint16_t)atom;
+}
+
+static void open_no_head(struct reducer *r, unsigned atom)
+{
+    open_at(r, NO_HEAD, NEG + atom);
+    open_at(r, FAILURE, POS + atom);
+}
+
+/* Clause t has become a fact. The first fact of an atom opens all that later ones would; so does the first without a
+ * head, but for itself. */
+static void open_fact(struct reducer *r, unsigned t)
+{
+    const struct clause *c = &r->clause[t];
+    if (c->head == c->pos) {
+        if (r->empty.some)
+            add(&r->may[BLOCKED], first(&r->empty)); /* it may have been the only one */
+        else
+            for (unsigned other = 0; other < r->clauses; other++)
+                add(&r->may[BLOCKED], other);
+        add(&r->empty, t);
+        return;
+    }
+    unsigned atom = r->words[c->head];
+    if (c->pos - c->head > 1) {
+        open_at(r, BLOCKED, NEG + atom);
+    } else if (r->fact[atom] == NONE) {
+        open_at(r, SUCCESS, POS + atom);
+        open_at(r, BLOCKED, NEG + atom);
+        r->fact[atom] = (uint16_t)t;
+    } else if (t < r->fact[atom]) {
+        r->fact[atom] = (uint16_t)t;
+    }
+}
+
+static void drop(struct reducer *r, unsigned t, unsigned place)
+{
+    r->marks[place] = 0;
+    r->clause[t].body--;
+    add(&r->shortened, t);
+}
+
+static void delete(struct reducer *r, unsigned t)
+{
+    struct clause *c = &r->clause[t];
+    c->kept = 0;
+    r->marks[c->first] = 0;
+    remove_from(&r->empty, t);
+    for (unsigned i = c->head; i < c->pos; i++) {
+        unsigned atom = r->words[i];
+        if (--r->heads[atom] == 0)
+            open_no_head(r, atom);
+        if (r->source[atom] == t)
+            r->stale = 1;
+    }
+}
+
+/* ---- kinds 1 and 2 */
+
+/* The first atom that stands both from a to b and from b to the end, two parts; or NONE. */
+static unsigned common(const uint16_t *a, const uint16_t *b, const uint16_t *end)
+{
+    for (const uint16_t *a_end = b; a < a_end && b < end;) {
+        if (*a == *b)
+            return *a;
+        if (*a < *b)
+            a++;
+        else
+            b++;
+    }
+    return NONE;
+}
+
+static void delete_overlapping(struct reducer *r, unsigned kind)
+{
+    for (unsigned t = 0; t < r->clauses; t++) {
+        const struct clause *c = &r->clause[t];
+        const uint16_t *w = r->words;
+        unsigned atom = kind == TAUTOLOGY ? common(w + c->head, w + c->pos, w + c->neg)
+                                          : common(w + c->pos, w + c->neg, w + c->end);
+        if (c->kept && atom != NONE) {
+            write_step(r, kind, t, 0, atom);
+            delete(r, t);
+        }
+    }
+}
+
+/* ---- kinds 3 and 4: the drops at a target come one after the other, as only the last can make it a fact, and so
+ * open a smaller step */
+
+/* A fact can have been deleted since, but by then no clause has its atom in a positive body. */
+static void success(struct reducer *r, unsigned t)
+{
+    struct clause *c = &r->clause[t];
+    for (unsigned i = c->pos; i < c->neg; i++) {
+        unsigned p = r->fact[r->words[i]];
+        if (r->marks[i] && p != NONE) {
+            add(&r->partners, p);
+            r->place[p] = (uint16_t)i;
+        }
+    }
+    while (r->partners.some) {
+        unsigned p = take_first(&r->partners);
+        write_step(r, SUCCESS, t, p, 0);
+        drop(r, t, r->place[p]);
+        c->conditions--;
+    }
+    if (c->body == 0)
+        open_fact(r, t);
+}
+
+static void no_head(struct reducer *r, unsigned t)
+{
+    struct clause *c = &r->clause[t];
+    for (unsigned i = c->neg; i < c->end; i++) {
+        unsigned atom = r->words[i];
+        if (r->marks[i] && r->heads[atom] == 0) {
+            write_step(r, NO_HEAD, t, 0, atom);
+            drop(r, t, i);
+        }
+    }
+    if (c->body == 0)
+        open_fact(r, t);
+}
+
+/* ---- stamps */
+
+/* Stamps the literals of the places from one to another, and no others. */
+static void stamp(struct reducer *r, unsigned from, unsigned end)
+{
+    r->now++;
+    for (unsigned i = from; i < end; i++)
+        if (r->marks[i])
+            r->stamp[r->literal[i]] = r->now;
+}
+
+/* Whether all literals that are left of clause p are stamped. */
+static int stamped(const struct reducer *r, unsigned p)
+{
+    const struct clause *c = &r->clause[p];
+    for (unsigned i = c->head; i < c->end; i++)
+        if (r->marks[i] && r->stamp[r->literal[i]] != r->now)
+            return 0;
+    return 1;
+}
+
+/* Whether all head atoms of clause p are stamped as negative ones. */
+static int heads_stamped(const struct reducer *r, unsigned p)
+{
+    const struct clause *c = &r->clause[p];
+    for (unsigned i = c->head; i < c->pos; i++)
+        if (r->stamp[NEG + r->words[i]] != r->now)
+            return 0;
+    return 1;
+}
+
+/* ---- kind 5 */
+
+/* The smallest fact whose head is within the negative body of clause t, or NONE. */
+static unsigned blocker(struct reducer *r, unsigned t)
+{
+    const struct clause *c = &r->clause[t];
+    unsigned best = NONE;
+    if (r->empty.some) {
+        struct set others = r->empty;
+        remove_from(&others, t);
+        if (others.some)
+            best = first(&others);
+    }
+    stamp(r, c->neg, c->end);
+    for (unsigned i = c->neg; i < c->end; i++) {
+        if (!r->marks[i])
+            continue;
+        for (uint16_t *link = &r->chain[HEAD + r->words[i]]; live(r, link); link = &r->next[*link]) {
+            unsigned p = r->owner[*link];
+            if (p >= best)
+                break;
+            if (r->clause[p].body == 0 && heads_stamped(r, p))
+                best = p;
+        }
+    }
+    return best;
+}
+
+static void blocked(struct reducer *r, unsigned t)
+{
+    unsigned p = blocker(r, t);
+    if (p == NONE)
+        return;
+    write_step(r, BLOCKED, t, p, 0);
+    delete(r, t);
+}
+
+/* ---- kinds 6 and 7 */
+
+/* Deletes clause t if a positive atom of it is in no head, or outside the reach. */
+static void fail(struct reducer *r, unsigned kind, unsigned t)
+{
+    for (unsigned i = r->clause[t].pos; i < r->clause[t].neg; i++) {
+        unsigned atom = r->words[i];
+        if (r->marks[i] && (kind == FAILURE ? r->heads[atom] == 0 : r->source[atom] == NONE)) {
+            write_step(r, kind, t, 0, atom);
+            delete(r, t);
+            return;
+        }
+    }
+}
+
+/* The heads of a clause whose positive atoms are in the reach. */
+static size_t fire(struct reducer *r, unsigned t, uint16_t *queue, size_t end)
+{
+    for (unsigned i = r->clause[t].head; i < r->clause[t].pos; i++) {
+        unsigned atom = r->words[i];
+        if (r->source[atom] == NONE) {
+            r->source[atom] = (uint16_t)t;
+            queue[end++] = (uint16_t)atom;
+        }
+    }
+    return end;
+}
+
+/* The reach from nothing; a loop may be wherever an atom stands that was in it and no longer is. */
+static void find_reach(struct reducer *r)
+{
+    uint16_t before[ATOMS], queue[ATOMS], missing[CLAUSES];
+    size_t end = 0;
+    memcpy(before, r->source, sizeof before);
+    for (unsigned atom = 0; atom < r->atoms; atom++)
+        r->source[atom] = NONE;
+    for (unsigned t = 0; t < r->clauses; t++) {
+        missing[t] = r->clause[t].conditions;
+        if (r->clause[t].kept && missing[t] == 0)
+            end = fire(r, t, queue, end);
+    }
+    for (size_t at = 0; at < end; at++)
+        for (uint16_t *link = &r->chain[POS + queue[at]]; live(r, link); link = &r->next[*link])
+            if (--missing[r->owner[*link]] == 0)
+                end = fire(r, r->owner[*link], queue, end);
+    for (unsigned atom = 0; atom < r->atoms; atom++)
+        if (before[atom] != NONE && r->source[atom] == NONE)
+            open_at(r, LOOP, POS + atom);
+    r->stale = 0;
+}
+
+/* ---- kind 8: a clause stands in the list of its rarest literal, its key, so that the partners of a target are in the
+ * lists of its literals */
+
+/* Puts a clause that is not empty into the list of its key. */
+static void index_clause(struct reducer *r, unsigned p)
+{
+    const struct clause *c = &r->clause[p];
+    unsigned key = 0, least = NONE;
+    for (unsigned i = c->head; i < c->end; i++) {
+        if (r->marks[i] && r->count[r->literal[i]] < least) {
+            key = r->literal[i];
+            least = r->count[key];
+        }
+    }
+    r->key[p] = (uint16_t)key;
+    uint16_t *link = &r->keyed[key];
+    while (*link < p)
+        link = &r->next_keyed[*link];
+    r->next_keyed[p] = *link;
+    *link = (uint16_t)p;
+}
+
+static void unindex_clause(struct reducer *r, unsigned p)
+{
+    uint16_t *link = &r->keyed[r->key[p]];
+    while (*link != p)
+        link = &r->next_keyed[*link];
+    *link = r->next_keyed[p];
+}
+
+static void index_clauses(struct reducer *r)
+{
+    memset(r->keyed, 0xff, sizeof r->keyed);
+    for (unsigned t = 0; t < r->clauses; t++)
+        for (unsigned i = r->clause[t].head; r->clause[t].kept && i < r->clause[t].end; i++)
+            r->count[r->literal[i]] += r->marks[i];
+    for (unsigned t = r->clauses; t-- > 0;) {
+        if (!r->clause[t].kept)
+            continue;
+        index_clause(r, t);
+        add(&r->may[SUBSUMED], t);
+    }
+    memset(&r->shortened, 0, sizeof r->shortened);
+    r->indexed = 1;
+}
+
+/* Clauses that were shortened may subsume others that have their key. */
+static void open_shortened(struct reducer *r)
+{
+    if (!r->indexed)
+        index_clauses(r);
+    while (r->shortened.some) {
+        unsigned p = take_first(&r->shortened);
+        const struct clause *c = &r->clause[p];
+        if (!c->kept)
+            continue;
+        unindex_clause(r, p);
+        index_clause(r, p);
+        for (uint16_t *link = &r->chain[r->key[p]]; live(r, link); link = &r->next[*link]) {
+            const struct clause *other = &r->clause[r->owner[*link]];
+            if (other != c && other->body >= c->body && other->pos - other->head >= c->pos - c->head)
+                add(&r->may[SUBSUMED], r->owner[*link]);
+        }
+    }
+}
+
+/* The smallest clause whose parts are within those of clause t, or NONE. */
+static unsigned subsumer(struct reducer *r, unsigned t)
+{
+    const struct clause *c = &r->clause[t];
+    unsigned best = NONE;
+    stamp(r, c->head, c->end);
+    for (unsigned i = c->head; i < c->end; i++) {
+        if (!r->marks[i])
+            continue;
+        uint16_t *link = &r->keyed[r->literal[i]];
+        while (*link < best) {
+            unsigned p = *link;
+            if (!r->clause[p].kept) {
+                *link = r->next_keyed[p];
+                continue;
+            }
+            if (p != t && stamped(r, p))
+                best = p;
+            link = &r->next_keyed[p];
+        }
+    }
+    return best;
+}
+
+/* Head atoms that the partner has too stay in the reach by it. */
+static void subsumed(struct reducer *r, unsigned t)
+{
+    unsigned p = subsumer(r, t);
+    if (p == NONE)
+        return;
+    write_step(r, SUBSUMED, t, p, 0);
+    for (unsigned i = r->clause[p].head; i < r->clause[p].pos; i++)
+        if (r->source[r->words[i]] == t)
+            r->source[r->words[i]] = (uint16_t)p;
+    delete(r, t);
+}
+
+/* ---- the reduction */
+
+static void read_clauses(struct reducer *r)
+{
+    unsigned at = 2;
+    for (unsigned t = 0; t < r->clauses; t++) {
+        const uint16_t *counts = r->words + at;
+        unsigned head = at + 3, pos = head + counts[0], neg = pos + counts[1], end = neg + counts[2];
+        struct clause c = {(uint16_t)at, (uint16_t)head, (uint16_t)pos, (uint16_t)neg, (uint16_t)end,
+                           (uint16_t)(counts[1] + counts[2]), counts[1], 1};
+        r->clause[t] = c;
+        at = end;
+    }
+}
+
+/* Chains, from the last clause on so that they ascend, and counts of heads. */
+static void link_places(struct reducer *r)
+{
+    for (unsigned t = r->clauses; t-- > 0;) {
+        const struct clause *c = &r->clause[t];
+        for (unsigned i = c->head; i < c->end; i++) {
+            unsigned literal = (i < c->pos ? HEAD : i < c->neg ? POS : NEG) + r->words[i];
+            r->literal[i] = (uint16_t)literal;
+            r->owner[i] = (uint16_t)t;
+            r->next[i] = r->chain[literal];
+            r->chain[literal] = (uint16_t)i;
+            r->heads[r->words[i]] += i < c->pos;
+        }
+    }
+}
+
+static void begin(struct reducer *r)
+{
+    read_clauses(r);
+    link_places(r);
+    memset(r->fact, 0xff, sizeof r->fact);
+    r->stale = 1;
+    for (unsigned t = 0; t < r->clauses; t++)
+        if (r->clause[t].body == 0)
+            open_fact(r, t);
+    for (unsigned atom = 0; atom < r->atoms; atom++)
+        if (r->heads[atom] == 0)
+            open_no_head(r, atom);
+}
+
+/* The smallest kind that may have a step, or KINDS. An empty clause has blocked all others before 8 is looked for. */
+static unsigned next_kind(struct reducer *r)
+{
+    for (unsigned kind = SUCCESS; kind < KINDS; kind++) {
+        if (kind == LOOP && r->stale)
+            find_reach(r);
+        if (kind == SUBSUMED && !r->empty.some)
+            open_shortened(r);
+        if (r->may[kind].some)
+            return kind;
+    }
+    return KINDS;
+}
+
+/* The steps of target t that may come next. */
+static void search(struct reducer *r, unsigned kind, unsigned t)
+{
+    switch (kind) {
+    case SUCCESS: success(r, t); break;
+    case NO_HEAD: no_head(r, t); break;
+    case BLOCKED: blocked(r, t); break;
+    case SUBSUMED: subsumed(r, t); break;
+    default: fail(r, kind, t);
+    }
+}
+
+/* Writes the list and the marks of a table that passes questions 1 to 8, and returns the number of steps. */
+size_t incremental_reduce(const uint16_t *table, size_t table_len, uint8_t *marks, uint16_t *list)
+{
+    struct reducer r;
+    memset(&r, 0, offsetof(struct reducer, clause));
+    memset(marks, 1, table_len);
+    r.words = table;
+    r.marks = marks;
+    r.list = list;
+    r.atoms = table[0];
+    r.clauses = table[1];
+    begin(&r);
+    delete_overlapping(&r, TAUTOLOGY);
+    delete_overlapping(&r, CONTRADICTION);
+    for (unsigned kind; (kind = next_kind(&r)) < KINDS;) {
+        unsigned t = take_first(&r.may[kind]);
+        if (r.clause[t].kept)
+            search(&r, kind, t);
+    }
+    return r.steps;
+}
