@@ -55,7 +55,7 @@ GAMBROLT_INCLUDE = include
 STRICT = -std=c11 -Wall -Wextra -Werror -I$(GAMBROLT_INCLUDE) -Ishell
 SANITIZE = -g -O1 -fsanitize=address,undefined -fno-sanitize-recover=all -fno-omit-frame-pointer
 SHELL_PARTS = $(filter-out shell/gambrolt.c,$(wildcard shell/*.c))
-SHELL_FILES = $(wildcard shell/*.c shell/*.h shell/tests/*.c) $(GAMBROLT_INCLUDE)/gambrolt.h $(LIBGAMBROLT)
+SHELL_FILES = $(wildcard shell/*.[ch] shell/tests/*.[ch]) $(GAMBROLT_INCLUDE)/gambrolt.h $(LIBGAMBROLT)
 
 compiler:
 	@command -v $(CC) >/dev/null || { apt-get update && apt-get install -y gcc libc6-dev; } >/dev/null

@@ -1,0 +1,109 @@
+/* shell.h - an order, from the bytes that come in to those that go out: what the parts of the program share. */
+#ifndef SHELL_H
+#define SHELL_H
+
+#include "program.h"
+
+/* Bytes that grow, with a zero byte behind them, or an array that does. Starts as all zeros. */
+struct buffer {
+    char *at;
+    size_t len, room;
+};
+
+/* Some of the bytes of a buffer. */
+struct span {
+    const char *at;
+    size_t len;
+};
+
+/* The statements of aspif by their numbers. */
+enum kind { STEP_END, RULE, MINIMIZE, PROJECT, OUTPUT, EXTERNAL, ASSUME, HEURISTIC, EDGE, THEORY, COMMENT };
+
+struct statement {
+    struct span name;  /* an output statement's name, a comment's text */
+    struct span bytes; /* as it came, without the line feed */
+    enum kind kind;
+    size_t first;      /* of its numbers, which are all that follow its kind */
+};
+
+/* Starts as all zeros, but for what comes in. Rules become clauses of the table, the k-th rule clause k. */
+struct order {
+    struct buffer bytes;  /* in: aspif, or document 01's text, which becomes aspif */
+    struct buffer ground; /* in: the same rules as `gringo --text` writes them, or nothing */
+    struct buffer output, explanation, notes;
+    char fault[400]; /* why it is refused: one line */
+
+    struct buffer statements, numbers; /* arrays of struct statement and int32_t */
+    struct program program;            /* its rules, with aspif's atoms */
+    enum program_answer over;          /* the first limit that a rule breaks, and its line */
+    size_t over_line;
+    struct span name[GAMBROLT_MAX_ATOMS]; /* of the table's atoms; one without is letters x, _ and its number in aspif */
+    uint64_t taken;                       /* bit k: the order has names of k letters x, _ and a number itself */
+
+    size_t words, reduced_words, steps;
+    uint16_t table[GAMBROLT_MAX_WORDS], reduced[GAMBROLT_MAX_WORDS], list[GAMBROLT_MAX_LIST];
+    uint8_t marks[GAMBROLT_MAX_WORDS];
+    double reading, reducing, checking; /* seconds */
+};
+
+struct options { /* those of the command line that a run depends on */
+    int text, to_text, from_text, to_lp, no_reduce, steps, pass_through, explain, stats, json;
+};
+
+/* One whole run in memory. Returns 0, or -1 with the fault and no output. */
+int run(struct order *o, const struct options *options);
+
+/* Frees what the order holds. */
+void order_free(struct order *o);
+
+/* Sets the fault and returns -1. */
+int refuse(struct order *o, const char *format, ...) __attribute__((format(printf, 2, 3)));
+
+/* Read o->bytes. Return 0, or -1 with the fault. Over the limits they return 0 and set o->over. */
+int read_aspif(struct order *o);
+int read_text(struct order *o);
+
+/* Names from the output statements, and from o->ground. Returns -1 where its rules do not fit: then it gives none. */
+int make_names(struct order *o);
+
+/* Each step as a sentence, one a line; and figures, aligned or as JSON. */
+void put_explanation(struct buffer *b, const struct order *o);
+void put_statistics(struct buffer *b, const struct order *o, int json);
+
+/* Where memory runs out, the program ends with status 2. */
+void put(struct buffer *b, const void *bytes, size_t len);
+void putf(struct buffer *b, const char *format, ...) __attribute__((format(printf, 2, 3)));
+
+/* A literal of aspif by name, `not` before it where it is negative. */
+void put_literal(struct buffer *b, const struct order *o, int64_t literal);
+
+/* The clause at word i as far as its marks are 1 (NULL: all), e.g. `a | b :- c, not d.`, with at most `most` atoms. */
+void put_clause(struct buffer *b, const struct order *o, const uint16_t *table, const uint8_t *marks, size_t i,
+                size_t most);
+
+/* One rule in aspif, with the line feed: a clause, and the atoms of its table. */
+void put_rule(struct buffer *b, const uint16_t *clause, const uint32_t *atom);
+
+/* The order with the clauses that are left, every other statement unchanged in its place; and the same for gringo. */
+void put_aspif(struct buffer *b, const struct order *o);
+void put_lp(struct buffer *b, const struct order *o);
+
+/* The first word after the clause that starts at word i. */
+static inline size_t clause_end(const uint16_t *table, size_t i)
+{
+    return i + 3 + table[i] + table[i + 1] + table[i + 2];
+}
+
+/* The k-th statement, or NULL after the last. */
+static inline const struct statement *statement_at(const struct order *o, size_t k)
+{
+    const struct statement *first = (const struct statement *)(const void *)o->statements.at;
+    return k < o->statements.len / sizeof *first ? first + k : NULL;
+}
+
+static inline const int32_t *numbers_of(const struct order *o, const struct statement *s)
+{
+    return (const int32_t *)(const void *)o->numbers.at + s->first;
+}
+
+#endif
