@@ -1,5 +1,5 @@
 /* gambrolt.c - the program: options, input and output. */
-#define _POSIX_C_SOURCE 200809L
+#define _DEFAULT_SOURCE /* signal: a read goes on after it */
 #include "shell.h"
 
 #include <errno.h>
@@ -15,47 +15,40 @@
 
 enum status { DONE = 0, REFUSED = 1, FAILED = 2 };
 
-static const char help[] =
+static const char help_text[] =
     "Usage: gambrolt [OPTION]... [FILE]\n"
     "Reduces a ground logic program and keeps its stable models:\n"
     "    gringo order.lp | gambrolt | clasp 0\n"
-    "\n"
-    "Reads aspif from FILE or standard input and writes the reduced program to standard\n"
+    "\nReads aspif from FILE or standard input and writes the reduced program to standard\n"
     "output, atoms numbered as they came. The list of steps that reduced it is checked by\n"
     "a second, independent call before anything is written.\n"
-    "\n"
-    "Form:\n"
+    "\nForm:\n"
     "  --text            read and write the text form (atoms=, clauses=, head= ..)\n"
     "  --steps           with --text: print the list of steps after the program\n"
     "  --to-lp           write readable ground rules with the order's names\n"
     "  --to-text         convert aspif to the text form, without reducing\n"
-    "  --from-text       convert the text form to aspif, without reducing;\n"
-    "                    with --to-lp to ground rules\n"
+    "  --from-text       convert the text form to aspif, or with --to-lp to ground rules\n"
     "  --no-reduce       read, check and write the program as it is\n"
-    "\n"
-    "Reports, on standard error:\n"
+    "\nReports, on standard error:\n"
     "  --explain[=FILE]  write each step as a sentence, to FILE if one is given\n"
     "  --stats[=json]    sizes before and after, steps by kind, times\n"
     "  --names=FILE      names for --explain and --to-lp that aspif lacks (facts, and atoms that\n"
     "                    no rule derives): the same order by `gringo --text`\n"
-    "\n"
-    "Other:\n"
+    "\nOther:\n"
     "  --pass-through    hand a program that is over the limits on unreduced, and say so\n"
     "  --dry-run         do everything, but write no program\n"
     "  --help            print this and exit\n"
     "  --version         print the version and exit\n"
-    "\n"
-    "Limits: 1,024 atoms, 2,048 rules, 8,192 words (3 a rule, and 1 for each of its atoms).\n"
+    "\nLimits: 1,024 atoms, 2,048 rules, 8,192 words (3 a rule, and 1 for each of its atoms).\n"
     "Not taken: choice rules and weight bodies (put `clasp --pre=aspif --trans-ext=all --eq=0`\n"
     "in front), external, theory and multi-shot statements.\n"
-    "\n"
-    "Exit status: 0 done; 1 the input is refused, with one line on standard error that names\n"
+    "\nExit status: 0 done; 1 the input is refused, with one line on standard error that names\n"
     "the input's line, the statement and what to do; 2 bad usage, or reading or writing failed.\n"
     "Unless the status is 0, nothing is written to standard output.\n";
 
 static struct options options;
 static const char *file, *explain_file, *names_file;
-static int names, dry_run;
+static int dry_run, help, version;
 
 /* The options; those that end in = take a value. */
 static const struct {
@@ -67,8 +60,9 @@ static const struct {
     {"--to-text", &options.to_text, NULL}, {"--from-text", &options.from_text, NULL},
     {"--no-reduce", &options.no_reduce, NULL}, {"--explain", &options.explain, NULL},
     {"--explain=", &options.explain, &explain_file}, {"--stats", &options.stats, NULL},
-    {"--stats=json", &options.json, NULL}, {"--names=", &names, &names_file},
-    {"--pass-through", &options.pass_through, NULL}, {"--dry-run", &dry_run, NULL}};
+    {"--stats=json", &options.json, NULL}, {"--names=", &options.names, &names_file},
+    {"--pass-through", &options.pass_through, NULL}, {"--dry-run", &dry_run, NULL}, {"--help", &help, NULL},
+    {"--version", &version, NULL}};
 
 static int usage(const char *what, const char *argument)
 {
@@ -84,6 +78,7 @@ static int failed(const char *what, const char *name)
 
 /* ---- Options ---- */
 
+/* Takes one option. Returns 0 where it is none. */
 static int take_option(const char *argument)
 {
     for (size_t i = 0; i < sizeof known / sizeof *known; i++) {
@@ -93,10 +88,9 @@ static int take_option(const char *argument)
             continue;
         if (value)
             *value = argument + len;
-        *known[i].flag = 1;
-        return DONE;
+        return *known[i].flag = 1;
     }
-    return usage("unknown option: ", argument);
+    return 0;
 }
 
 /* What options mean for each other, and which do not go together. */
@@ -113,7 +107,7 @@ static int settle(struct options *o)
         {o->to_lp && o->to_text, "--to-lp and --to-text are two forms for one output"},
         {o->steps && (!o->text || o->no_reduce), "--steps goes with --text and a reduction"},
         {(o->explain || o->stats) && o->no_reduce, "--explain and --stats need a reduction"},
-        {names && !o->explain && !o->to_lp, "--names goes with --explain or --to-lp"},
+        {o->names && !o->explain && !o->to_lp, "--names goes with --explain or --to-lp"},
         {o->pass_through && (o->text || o->to_text || o->from_text || o->to_lp),
          "--pass-through goes with aspif in and out"}};
     for (size_t i = 0; i < sizeof rules / sizeof *rules; i++)
@@ -124,27 +118,23 @@ static int settle(struct options *o)
 
 static int read_arguments(int count, char **argument)
 {
-    int status = DONE, files_only = 0;
-    for (int i = 1; i < count && status == DONE; i++) {
+    int files_only = 0;
+    for (int i = 1; i < count; i++) {
         const char *a = argument[i];
-        if (files_only || a[0] != '-' || strcmp(a, "-") == 0) {
-            if (file)
-                return usage("more than one file: ", a);
-            file = a;
-        } else if (strcmp(a, "--") == 0) {
+        int option = !files_only && a[0] == '-' && a[1];
+        if (option && strcmp(a, "--") == 0)
             files_only = 1;
-        } else if (strcmp(a, "--help") == 0 || strcmp(a, "--version") == 0) {
-            fputs(strcmp(a, "--help") == 0 ? help : "gambrolt " VERSION "\n", stdout);
-            exit(fflush(stdout) == 0 ? DONE : failed("write", "standard output"));
-        } else {
-            status = take_option(a);
-        }
+        else if (option && !take_option(a))
+            return usage("unknown option: ", a);
+        else if (!option && file)
+            return usage("more than one file: ", a);
+        else if (!option)
+            file = a;
     }
-    return status == DONE ? settle(&options) : status;
+    return settle(&options);
 }
 
-/* ---- A note for those who wait: once, after a second, and only on a terminal ---- */
-
+/* A note for those who wait. */
 static volatile sig_atomic_t reducing;
 
 static void note(int signal)
@@ -154,15 +144,6 @@ static void note(int signal)
     (void)signal;
     (void)!write(2, text, strlen(text));
     errno = before;
-}
-
-static void note_after_a_second(void)
-{
-    struct sigaction action = {.sa_handler = note, .sa_flags = SA_RESTART};
-    if (!isatty(2))
-        return;
-    sigaction(SIGALRM, &action, NULL);
-    alarm(1);
 }
 
 /* ---- Input and output ---- */
@@ -180,10 +161,7 @@ static int read_all(struct buffer *b, const char *name)
             len = -1;
         }
     }
-    int status = len < 0 ? failed("read", standard ? "standard input" : name) : DONE;
-    if (in > 0)
-        close(in);
-    return status;
+    return len < 0 ? failed("read", standard ? "standard input" : name) : DONE;
 }
 
 /* Returns 0 where something went wrong. */
@@ -209,20 +187,22 @@ int main(int count, char **argument)
 {
     static struct order order;
     signal(SIGPIPE, SIG_IGN);
-    int status = read_arguments(count, argument);
-    if (status == DONE) {
-        note_after_a_second();
-        status = read_all(&order.bytes, file);
+    if (read_arguments(count, argument) != DONE)
+        return FAILED;
+    if (help || version) {
+        fputs(help ? help_text : "gambrolt " VERSION "\n", stdout);
+        return fflush(stdout) == 0 ? DONE : failed("write", "standard output");
     }
-    if (status == DONE && names_file)
-        status = read_all(&order.ground, names_file);
+    if (isatty(2)) { /* once, after a second */
+        signal(SIGALRM, note);
+        alarm(1);
+    }
+    if (read_all(&order.bytes, file) != DONE || (names_file && read_all(&order.ground, names_file) != DONE))
+        return FAILED;
     reducing = 1;
-    if (status == DONE && run(&order, &options)) {
+    if (run(&order, &options)) {
         fprintf(stderr, "gambrolt: %s\n", order.fault);
-        status = REFUSED;
-    } else if (status == DONE) {
-        status = write_result(&order);
+        return REFUSED;
     }
-    order_free(&order);
-    return status;
+    return write_result(&order);
 }

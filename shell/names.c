@@ -61,13 +61,13 @@ static int give(struct order *o, int atom, struct span name)
         if (o->name[i].at && by_name(&o->name[i], &name) == 0)
             return -1;
     o->name[atom] = name;
+    note_form(o, name);
     return 0;
 }
 
 /* ---- From output statements ---- */
 
-/* A name is an atom's where one statement has it, with that atom alone; of an atom's names the first in the order. */
-static void name_shown(struct order *o)
+void name_shown(struct order *o)
 {
     struct buffer shown = {0};
     const struct statement *s;
@@ -80,6 +80,7 @@ static void name_shown(struct order *o)
     s = (const struct statement *)(const void *)shown.at;
     for (size_t i = 0; i < count; i++, s++) {
         const int32_t *condition = numbers_of(o, s) + 1;
+        note_form(o, s->name);
         int a = condition[0] == 1 && condition[1] > 0 ? program_number(&o->program, (uint32_t)condition[1]) : -1;
         int alone = (i == 0 || by_name(s - 1, s)) && (i + 1 == count || by_name(s, s + 1));
         if (a >= 0 && alone && atom_at(s->name.at) == s->name.len && (!o->name[a].at || s->name.at < o->name[a].at))
@@ -90,7 +91,7 @@ static void name_shown(struct order *o)
 
 /* ---- From ground rules ---- */
 
-/* Takes the line at c apart into heads, positive and negative body. Returns -1 where it is no rule of atoms and `not`. */
+/* Takes the line at c apart: heads, positive, negative body. Returns -1 where it is no rule of atoms and `not`. */
 static int read_rule(struct buffer rule[3], const char *c)
 {
     int body = 0, more = 0;
@@ -148,8 +149,7 @@ static int align(struct order *o)
     return found ? 0 : -1;
 }
 
-/* Names from o->ground, beside those shown. Returns -1 where its rules do not fit; then no name changes. */
-static int learn(struct order *o)
+int name_ground(struct order *o)
 {
     struct span shown[GAMBROLT_MAX_ATOMS];
     memcpy(shown, o->name, sizeof shown);
@@ -162,19 +162,5 @@ static int learn(struct order *o)
     for (int a = 0; a < (int)o->program.atoms; a++)
         if (!o->name[a].at && shown[a].at)
             give(o, a, shown[a]);
-    return answer;
-}
-
-int make_names(struct order *o)
-{
-    const struct statement *s;
-    name_shown(o);
-    int answer = o->ground.at ? learn(o) : 0;
-    for (size_t k = 0; (s = statement_at(o, k)); k++)
-        if (s->kind == OUTPUT)
-            note_form(o, s->name);
-    for (size_t a = 0; a < o->program.atoms; a++)
-        if (o->name[a].at)
-            note_form(o, o->name[a]);
     return answer;
 }

@@ -61,20 +61,13 @@ static int refuse_at(struct reader *r, const char *where, const char *why)
 /* Refuses what stands at the reader's place, where `what` was expected. */
 static int unexpected(struct reader *r, const char *what)
 {
+    int end = r->at == r->end, carriage = *r->at == '\r', len = (int)strcspn(r->at, " \t\n\r");
+    const char *advice = end ? "was the grounder stopped?" : carriage ? "remove them with `tr -d '\\r'`" : AS_WRITTEN;
     char item[24];
-    const char *found = item, *advice = AS_WRITTEN;
-    size_t len = strcspn(r->at, " \t\n\r");
-    snprintf(item, sizeof item, "`%.*s`", len < 20 ? (int)len : 20, r->at);
-    if (r->at == r->end) {
-        found = "the input ends";
-        advice = "was the grounder stopped?";
-    } else if (*r->at == '\r') {
-        found = "carriage return";
-        advice = "remove them with `tr -d '\\r'`";
-    } else if (*r->at == '\n') {
-        found = "the line ends";
-    }
-    return refuse(r->order, "line %zu: %s: %s where %s was expected; %s", r->line, r->where, found, what, advice);
+    snprintf(item, sizeof item, "`%.*s`", len < 20 ? len : 20, r->at);
+    return refuse(r->order, "line %zu: %s: %s where %s was expected; %s", r->line, r->where,
+                  end ? "the input ends" : carriage ? "carriage return" : *r->at == '\n' ? "the line ends" : item, what,
+                  advice);
 }
 
 static int read_number(struct reader *r, char letter, int64_t *number)
@@ -209,6 +202,8 @@ int read_aspif(struct order *o)
         r.line += *r.at == '\n';
     }
     o->words = program_table(&o->program, o->table);
+    for (size_t i = 2, clause = 0; i < o->words; i = clause_end(o->table, i))
+        o->start[clause++] = i;
     return 0;
 }
 

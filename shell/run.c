@@ -4,7 +4,6 @@
 
 #include <stdarg.h>
 #include <stdio.h>
-#include <stdlib.h>
 #include <string.h>
 #include <time.h>
 
@@ -39,7 +38,7 @@ static double seconds(double since)
     return (double)now.tv_sec + (double)now.tv_nsec / 1e9 - since;
 }
 
-/* Calls the reducer, then the checker on its list, then asks for the reduced table. Without a reduction: an empty list. */
+/* Calls the reducer (or takes no steps), then the checker on its list, then asks for the reduced table. */
 static int reduce_checked(struct order *o, int reduce)
 {
     uint8_t checked[GAMBROLT_MAX_WORDS];
@@ -71,7 +70,7 @@ static int reduce_checked(struct order *o, int reduce)
 }
 
 /* The text form, and where asked for the list of steps as document 01's program prints it. */
-static int write_text(struct order *o, int steps)
+static int put_text(struct order *o, int steps)
 {
     uint8_t text[GAMBROLT_MAX_TEXT];
     uint64_t answer = gambrolt_write_text(o->reduced, o->reduced_words, text, sizeof text);
@@ -111,27 +110,19 @@ int run(struct order *o, const struct options *options)
         return run_over(o, options);
     if (reduce_checked(o, !options->no_reduce))
         return -1;
-    if (make_names(o))
+    name_shown(o);
+    if (options->names && name_ground(o))
         putf(&o->notes, "gambrolt: names: its rules do not fit the input's one by one, so none is taken; "
              "ground both alike\n");
     if (options->to_lp)
-        put_lp(&o->output, o);
+        put_lp(o);
     else if (!options->text && !options->to_text)
-        put_aspif(&o->output, o);
-    else if (write_text(o, options->steps))
+        put_aspif(o);
+    else if (put_text(o, options->steps))
         return -1;
     if (options->explain)
-        put_explanation(&o->explanation, o);
+        explain(o);
     if (options->stats)
-        put_statistics(&o->notes, o, options->json);
+        put_statistics(o, options->json);
     return 0;
-}
-
-void order_free(struct order *o)
-{
-    struct buffer *const all[] = {&o->bytes, &o->ground, &o->output, &o->explanation, &o->notes, &o->statements,
-                                  &o->numbers};
-    for (size_t i = 0; i < sizeof all / sizeof *all; i++)
-        free(all[i]->at);
-    memset(o, 0, sizeof *o);
 }

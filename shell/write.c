@@ -8,13 +8,12 @@
 
 void put(struct buffer *b, const void *bytes, size_t len)
 {
-    while (b->room - b->len <= len) {
-        b->room = b->room ? 2 * b->room : 256;
-        b->at = realloc(b->at, b->room);
-        if (!b->at) {
-            fputs("gambrolt: out of memory\n", stderr);
-            exit(2);
-        }
+    size_t room = b->room ? b->room : 64;
+    while (room - b->len <= len)
+        room *= 2;
+    if (room != b->room && !(b->at = realloc(b->at, b->room = room))) {
+        fputs("gambrolt: out of memory\n", stderr);
+        exit(2);
     }
     if (len)
         memcpy(b->at + b->len, bytes, len);
@@ -47,24 +46,20 @@ void put_rule(struct buffer *b, const uint16_t *clause, const uint32_t *atom)
     put(b, "\n", 1);
 }
 
-void put_aspif(struct buffer *b, const struct order *o)
+void put_aspif(struct order *o)
 {
-    size_t given = 2, left = 2; /* the next clause of each table */
+    size_t clause = 0, left = 2; /* the next clause of the table, and of the reduced one */
     const struct statement *s;
-    putf(b, "asp 1 0 0\n");
-    for (size_t k = 0; (s = statement_at(o, k)); k++) {
+    putf(&o->output, "asp 1 0 0\n");
+    for (size_t k = 0; (s = statement_at(o, k)); k++)
         if (s->kind != RULE) {
-            put(b, s->bytes.at, s->bytes.len);
-            put(b, "\n", 1);
-            continue;
-        }
-        if (o->marks[given]) {
-            put_rule(b, o->reduced + left, o->program.atom);
+            put(&o->output, s->bytes.at, s->bytes.len);
+            put(&o->output, "\n", 1);
+        } else if (o->marks[o->start[clause++]]) {
+            put_rule(&o->output, o->reduced + left, o->program.atom);
             left = clause_end(o->reduced, left);
         }
-        given = clause_end(o->table, given);
-    }
-    putf(b, "0\n");
+    putf(&o->output, "0\n");
 }
 
 /* ---- Readable ground rules ---- */
@@ -107,13 +102,14 @@ void put_clause(struct buffer *b, const struct order *o, const uint16_t *table, 
     putf(b, heads + body ? "." : ":-.");
 }
 
-/* A count and literals as ` : literal, literal`; without literals nothing. */
-static void put_condition(struct buffer *b, const struct order *o, const int32_t *count)
+/* A count and literals as ` : literal, literal`, without literals nothing; and what comes after. */
+static void put_condition(struct buffer *b, const struct order *o, const int32_t *count, const char *after)
 {
     for (int32_t i = 1; i <= *count; i++) {
         putf(b, i == 1 ? " : " : ", ");
         put_literal(b, o, count[i]);
     }
+    putf(b, "%s", after);
 }
 
 /* A statement other than a rule; `term` makes the terms of minimize statements differ. */
@@ -122,20 +118,13 @@ static void put_statement(struct buffer *b, const struct order *o, const struct 
     static const char *const modifier[] = {"level", "sign", "factor", "init", "true", "false"};
     const int32_t *n = numbers_of(o, s);
     switch (s->kind) {
-    case OUTPUT:
-        if (s->name.len == 0) /* gringo has no such term */
-            return;
-        putf(b, "#show ");
-        put(b, s->name.at, s->name.len);
-        put_condition(b, o, n + 1);
-        break;
     case MINIMIZE:
-        for (int32_t i = 0; i < n[1]; i++) {
+        for (int32_t i = 2; i < 2 + 2 * n[1]; i += 2) {
             putf(b, ":~ ");
-            put_literal(b, o, n[2 + 2 * i]);
-            putf(b, ". [%d@%d,%d]\n", n[3 + 2 * i], n[0], (*term)++);
+            put_literal(b, o, n[i]);
+            putf(b, ". [%d@%d,%d]\n", n[i + 1], n[0], (*term)++);
         }
-        return;
+        break;
     case PROJECT:
     case ASSUME: /* what is assumed must hold: a constraint against its opposite */
         for (int32_t i = 1; i <= n[0]; i++) {
@@ -143,36 +132,39 @@ static void put_statement(struct buffer *b, const struct order *o, const struct 
             put_literal(b, o, s->kind == PROJECT ? n[i] : -n[i]);
             putf(b, ".\n");
         }
-        return;
+        break;
+    case OUTPUT:
+        putf(b, "#show ");
+        put(b, s->name.at, s->name.len);
+        put_condition(b, o, n + 1, ".\n");
+        break;
+    case EDGE:
+        putf(b, "#edge (%d,%d)", n[0], n[1]);
+        put_condition(b, o, n + 2, ".\n");
+        break;
     case HEURISTIC:
         putf(b, "#heuristic ");
         put_literal(b, o, n[1]);
-        put_condition(b, o, n + 4);
-        putf(b, ". [%d@%d,%s]\n", n[2], n[3], modifier[n[0]]);
-        return;
-    case EDGE:
-        putf(b, "#edge (%d,%d)", n[0], n[1]);
-        put_condition(b, o, n + 2);
+        put_condition(b, o, n + 4, ".");
+        putf(b, " [%d@%d,%s]\n", n[2], n[3], modifier[n[0]]);
         break;
     default: /* a comment */
         putf(b, "%%");
         put(b, s->name.at, s->name.len);
         putf(b, "\n");
-        return;
     }
-    putf(b, ".\n");
 }
 
-void put_lp(struct buffer *b, const struct order *o)
+void put_lp(struct order *o)
 {
     const struct statement *s;
     int term = 0;
     for (size_t i = 2; i < o->reduced_words; i = clause_end(o->reduced, i)) {
-        put_clause(b, o, o->reduced, NULL, i, (size_t)-1);
-        put(b, "\n", 1);
+        put_clause(&o->output, o, o->reduced, NULL, i, (size_t)-1);
+        put(&o->output, "\n", 1);
     }
-    putf(b, "#show.\n");
+    putf(&o->output, "#show.\n");
     for (size_t k = 0; (s = statement_at(o, k)); k++)
-        if (s->kind != RULE)
-            put_statement(b, o, s, &term);
+        if (s->kind != RULE && !(s->kind == OUTPUT && s->name.len == 0)) /* gringo has no empty term */
+            put_statement(&o->output, o, s, &term);
 }

@@ -5,7 +5,6 @@
 #include "every.h"
 
 #include <stdio.h>
-#include <stdlib.h>
 
 static size_t runs, refusals;
 

@@ -4,6 +4,7 @@
  */
 #include "shell.h"
 
+#include <stdlib.h>
 #include <string.h>
 
 static const struct options every[] = {
@@ -14,7 +15,16 @@ static const struct options every[] = {
 
 /* A sound order, to be read with names from anything. */
 static const char sound[] = "asp 1 0 0\n1 0 2 1 2 0 0\n1 0 1 3 0 3 1 2 -4\n1 0 1 4 0 2 4 -3\n1 0 0 0 1 -3\n4 1 b 1 2\n0\n";
-static const struct options named = {.to_lp = 1, .explain = 1};
+static const struct options named = {.to_lp = 1, .explain = 1, .names = 1};
+
+/* Makes the order all zeros again. */
+static void reset(struct order *o)
+{
+    struct buffer *const all[] = {&o->bytes, &o->ground, &o->output, &o->explanation, &o->notes, &o->statements, &o->numbers};
+    for (size_t i = 0; i < sizeof all / sizeof *all; i++)
+        free(all[i]->at);
+    memset(o, 0, sizeof *o);
+}
 
 /* The number of forms that are refused, or -1 where something else happens. The order `o`, all zeros, is used for all. */
 static int try_every(struct order *o, const char *bytes, size_t len)
@@ -26,12 +36,12 @@ static int try_every(struct order *o, const char *bytes, size_t len)
         if (answer ? o->output.len > 0 || strncmp(o->fault, "line ", 5) != 0 : o->output.len == 0)
             return -1;
         refused += answer != 0;
-        order_free(o);
+        reset(o);
     }
     put(&o->bytes, sound, sizeof sound - 1);
     put(&o->ground, bytes, len);
     if (run(o, &named))
         return -1;
-    order_free(o);
+    reset(o);
     return refused;
 }

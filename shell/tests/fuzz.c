@@ -1,8 +1,6 @@
 /* fuzz.c - one whole run for each input that a coverage-guided fuzzer thinks up, in every form. */
 #include "every.h"
 
-#include <stdlib.h>
-
 int LLVMFuzzerTestOneInput(const uint8_t *bytes, size_t len);
 
 int LLVMFuzzerTestOneInput(const uint8_t *bytes, size_t len)
