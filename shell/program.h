@@ -27,9 +27,9 @@ extern "C" {
 #endif
 
 struct program {
-    size_t atoms, clauses, words;      /* how many so far; words counts those of the table */
-    uint32_t atom[GAMBROLT_MAX_ATOMS]; /* the caller's atoms, ascending: the table's atom i is the caller's atom[i] */
-    uint32_t word[GAMBROLT_MAX_WORDS]; /* the table, with the caller's atoms */
+    size_t atoms, clauses, words;          /* how many so far; words counts those of the table */
+    uint32_t atom[GAMBROLT_MAX_ATOMS + 1]; /* the caller's atoms, ascending: atom[i] is the table's atom i */
+    uint32_t word[GAMBROLT_MAX_WORDS + 1]; /* the table, with the caller's atoms; both have room for one too many */
 };
 
 /* Those but PROGRAM_ATOM_ZERO are questions of gambrolt.h; gambrolt_message says them in words. */

@@ -70,9 +70,7 @@ static void find_reach(struct order *o)
 
 static void put_atom(struct order *o, const char *before, unsigned atom, const char *after)
 {
-    putf(&o->explanation, "%s", before);
-    put_literal(&o->explanation, o, o->program.atom[atom]);
-    putf(&o->explanation, "%s", after);
+    put_literal(&o->explanation, o, before, o->program.atom[atom], after);
 }
 
 static void put_numbered(struct order *o, size_t clause)

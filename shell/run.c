@@ -87,13 +87,12 @@ static int put_text(struct order *o, int steps)
 /* An order over the limits: refused, or handed on as it came. */
 static int run_over(struct order *o, const struct options *options)
 {
-    const char *limit = gambrolt_message(o->over);
+    refuse(o, "line %zu: rule: %s; %s", o->over_line, gambrolt_message(o->over),
+           options->pass_through ? "the program is handed on unreduced"
+                                 : "split the order, or hand it on unreduced with --pass-through");
     if (!options->pass_through)
-        return refuse(o, "line %zu: rule: %s; split the order, or hand it on unreduced with --pass-through",
-                      o->over_line, limit);
-    putf(&o->notes, "gambrolt: line %zu: rule: %s; the program is handed on unreduced\n", o->over_line, limit);
-    if (options->json)
-        putf(&o->notes, "{\"reduced\": false}\n");
+        return -1;
+    putf(&o->notes, "gambrolt: %s\n%s", o->fault, options->json ? "{\"reduced\": false}\n" : "");
     put(&o->output, o->bytes.at, o->bytes.len);
     return 0;
 }

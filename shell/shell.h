@@ -73,8 +73,8 @@ void put_statistics(struct order *o, int json);
 void put(struct buffer *b, const void *bytes, size_t len);
 void putf(struct buffer *b, const char *format, ...) __attribute__((format(printf, 2, 3)));
 
-/* A literal of aspif by name, `not` before it where it is negative. */
-void put_literal(struct buffer *b, const struct order *o, int64_t literal);
+/* A literal of aspif by name, `not` before it where it is negative, between two texts. */
+void put_literal(struct buffer *b, const struct order *o, const char *before, int64_t literal, const char *after);
 
 /* The clause at word i as far as its marks are 1 (NULL: all), e.g. `a | b :- c, not d.`, with at most `most` atoms. */
 void put_clause(struct buffer *b, const struct order *o, const uint16_t *table, const uint8_t *marks, size_t i,

@@ -64,18 +64,19 @@ void put_aspif(struct order *o)
 
 /* ---- Readable ground rules ---- */
 
-void put_literal(struct buffer *b, const struct order *o, int64_t literal)
+void put_literal(struct buffer *b, const struct order *o, const char *before, int64_t literal, const char *after)
 {
     uint32_t atom = (uint32_t)(literal < 0 ? -literal : literal);
     int a = program_number(&o->program, atom);
-    putf(b, literal < 0 ? "not " : "");
+    putf(b, "%s%s", before, literal < 0 ? "not " : "");
     if (a >= 0 && o->name[a].at) {
         put(b, o->name[a].at, o->name[a].len);
-        return;
+    } else {
+        for (int xs = 0; xs == 0 || o->taken >> xs & 1; xs++)
+            put(b, "x", 1);
+        putf(b, "_%u", atom);
     }
-    for (int xs = 0; xs == 0 || o->taken >> xs & 1; xs++)
-        put(b, "x", 1);
-    putf(b, "_%u", atom);
+    putf(b, "%s", after);
 }
 
 void put_clause(struct buffer *b, const struct order *o, const uint16_t *table, const uint8_t *marks, size_t i,
@@ -87,15 +88,12 @@ void put_clause(struct buffer *b, const struct order *o, const uint16_t *table, 
             int64_t atom = o->program.atom[table[at]];
             if (marks && !marks[at])
                 continue;
-            if (heads + body == most) {
+            if (heads + body == most)
                 left_out++;
-                continue;
-            }
-            if (part == 0)
-                putf(b, heads++ ? " | " : "");
+            else if (part == 0)
+                put_literal(b, o, heads++ ? " | " : "", atom, "");
             else
-                putf(b, body++ ? ", " : heads ? " :- " : ":- ");
-            put_literal(b, o, part == 2 ? -atom : atom);
+                put_literal(b, o, body++ ? ", " : heads ? " :- " : ":- ", part == 2 ? -atom : atom, "");
         }
     if (left_out)
         putf(b, " .. and %zu more", left_out);
@@ -105,10 +103,8 @@ void put_clause(struct buffer *b, const struct order *o, const uint16_t *table, 
 /* A count and literals as ` : literal, literal`, without literals nothing; and what comes after. */
 static void put_condition(struct buffer *b, const struct order *o, const int32_t *count, const char *after)
 {
-    for (int32_t i = 1; i <= *count; i++) {
-        putf(b, i == 1 ? " : " : ", ");
-        put_literal(b, o, count[i]);
-    }
+    for (int32_t i = 1; i <= *count; i++)
+        put_literal(b, o, i == 1 ? " : " : ", ", count[i], "");
     putf(b, "%s", after);
 }
 
@@ -120,33 +116,31 @@ static void put_statement(struct buffer *b, const struct order *o, const struct 
     switch (s->kind) {
     case MINIMIZE:
         for (int32_t i = 2; i < 2 + 2 * n[1]; i += 2) {
-            putf(b, ":~ ");
-            put_literal(b, o, n[i]);
-            putf(b, ". [%d@%d,%d]\n", n[i + 1], n[0], (*term)++);
+            put_literal(b, o, ":~ ", n[i], ".");
+            putf(b, " [%d@%d,%d]\n", n[i + 1], n[0], (*term)++);
         }
         break;
     case PROJECT:
-    case ASSUME: /* what is assumed must hold: a constraint against its opposite */
-        for (int32_t i = 1; i <= n[0]; i++) {
-            putf(b, s->kind == PROJECT ? "#project " : ":- ");
-            put_literal(b, o, s->kind == PROJECT ? n[i] : -n[i]);
-            putf(b, ".\n");
-        }
+        for (int32_t i = 1; i <= n[0]; i++)
+            put_literal(b, o, "#project ", n[i], ".\n");
         break;
-    case OUTPUT:
-        putf(b, "#show ");
-        put(b, s->name.at, s->name.len);
-        put_condition(b, o, n + 1, ".\n");
+    case ASSUME: /* what is assumed must hold: a constraint against its opposite */
+        for (int32_t i = 1; i <= n[0]; i++)
+            put_literal(b, o, ":- ", -n[i], ".\n");
+        break;
+    case HEURISTIC:
+        put_literal(b, o, "#heuristic ", n[1], "");
+        put_condition(b, o, n + 4, ".");
+        putf(b, " [%d@%d,%s]\n", n[2], n[3], modifier[n[0]]);
         break;
     case EDGE:
         putf(b, "#edge (%d,%d)", n[0], n[1]);
         put_condition(b, o, n + 2, ".\n");
         break;
-    case HEURISTIC:
-        putf(b, "#heuristic ");
-        put_literal(b, o, n[1]);
-        put_condition(b, o, n + 4, ".");
-        putf(b, " [%d@%d,%s]\n", n[2], n[3], modifier[n[0]]);
+    case OUTPUT:
+        putf(b, "#show ");
+        put(b, s->name.at, s->name.len);
+        put_condition(b, o, n + 1, ".\n");
         break;
     default: /* a comment */
         putf(b, "%%");
