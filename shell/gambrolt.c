@@ -98,21 +98,18 @@ static int settle(struct options *o)
 {
     o->no_reduce |= o->to_text || o->from_text;
     o->stats |= o->json;
-    const struct {
-        int clash;
-        const char *message;
-    } rules[] = {
-        {o->text && (o->to_text || o->from_text || o->to_lp),
-         "--text reads and writes the text form: no other form goes with it"},
-        {o->to_lp && o->to_text, "--to-lp and --to-text are two forms for one output"},
-        {o->steps && (!o->text || o->no_reduce), "--steps goes with --text and a reduction"},
-        {(o->explain || o->stats) && o->no_reduce, "--explain and --stats need a reduction"},
-        {o->names && !o->explain && !o->to_lp, "--names goes with --explain or --to-lp"},
-        {o->pass_through && (o->text || o->to_text || o->from_text || o->to_lp),
-         "--pass-through goes with aspif in and out"}};
-    for (size_t i = 0; i < sizeof rules / sizeof *rules; i++)
-        if (rules[i].clash)
-            return usage(rules[i].message, "");
+    if (o->text && (o->to_text || o->from_text || o->to_lp))
+        return usage("--text reads and writes the text form: no other form goes with it", "");
+    if (o->to_lp && o->to_text)
+        return usage("--to-lp and --to-text are two forms for one output", "");
+    if (o->steps && (!o->text || o->no_reduce))
+        return usage("--steps goes with --text and a reduction", "");
+    if ((o->explain || o->stats) && o->no_reduce)
+        return usage("--explain and --stats need a reduction", "");
+    if (o->names && !o->explain && !o->to_lp)
+        return usage("--names goes with --explain or --to-lp", "");
+    if (o->pass_through && (o->text || o->to_text || o->from_text || o->to_lp))
+        return usage("--pass-through goes with aspif in and out", "");
     return DONE;
 }
 
@@ -152,16 +149,13 @@ static int read_all(struct buffer *b, const char *name)
 {
     int standard = !name || strcmp(name, "-") == 0, in = standard ? 0 : open(name, O_RDONLY);
     char piece[65536];
-    ssize_t len = in;
+    ssize_t len = -1;
     put(b, "", 0);
-    while (len >= 0 && (len = read(in, piece, sizeof piece)) > 0) {
+    while (in >= 0 && b->len <= MOST_BYTES && (len = read(in, piece, sizeof piece)) > 0)
         put(b, piece, (size_t)len);
-        if (b->len > MOST_BYTES) {
-            errno = EFBIG;
-            len = -1;
-        }
-    }
-    return len < 0 ? failed("read", standard ? "standard input" : name) : DONE;
+    if (len > 0)
+        errno = EFBIG;
+    return len != 0 ? failed("read", standard ? "standard input" : name) : DONE;
 }
 
 /* Returns 0 where something went wrong. */

@@ -7,6 +7,8 @@
 
 #define AS_WRITTEN "give aspif as gringo writes it"
 #define TRANSLATE "put `clasp --pre=aspif --trans-ext=all --eq=0` in front to translate it"
+#define SPLIT "split the order"
+#define IN_FORM "write ascending atoms below atoms=, joined by commas, without blanks or leading zeros"
 #define WHOLE "multi-shot programs are not taken; ground the order as a whole"
 
 /* The numbers of a statement, by the letters of its form. */
@@ -208,18 +210,11 @@ int read_aspif(struct order *o)
 }
 
 /* What helps against a refusal of the text. */
-static const char *what_to_do(unsigned number)
-{
-    switch (number) {
-    case GAMBROLT_ATOM_LIMIT:
-    case GAMBROLT_CLAUSE_LIMIT:
-    case GAMBROLT_WORD_LIMIT:
-    case GAMBROLT_TEXT_LENGTH: return "split the order";
-    case GAMBROLT_LINE_THERE: return "lines are atoms=, clauses=, then head=, pos=, neg= for each clause";
-    case GAMBROLT_TEXT_ALL_USED: return "give as many clauses as clauses= says";
-    default: return "write ascending atoms below atoms=, joined by commas, without blanks or leading zeros";
-    }
-}
+static const char *const text_advice[] = {
+    [GAMBROLT_ATOM_LIMIT] = SPLIT, [GAMBROLT_CLAUSE_LIMIT] = SPLIT, [GAMBROLT_WORD_LIMIT] = SPLIT,
+    [GAMBROLT_TEXT_LENGTH] = SPLIT, [GAMBROLT_TEXT_ALL_USED] = "give as many clauses as clauses= says",
+    [GAMBROLT_LINE_THERE] = "lines are atoms=, clauses=, then head=, pos=, neg= for each clause",
+    [GAMBROLT_ATOM_BELOW] = IN_FORM, [GAMBROLT_ASCENDING] = IN_FORM, [GAMBROLT_VALUE_IN_FORM] = IN_FORM};
 
 int read_text(struct order *o)
 {
@@ -231,7 +226,7 @@ int read_text(struct order *o)
         for (size_t i = 0; i < place && i < text.len; i++)
             line += text.at[i] == '\n';
         return refuse(o, "line %zu: text: %s (refused=%u,%zu); %s", line, gambrolt_message(number), number, place,
-                      what_to_do(number));
+                      text_advice[number]);
     }
     o->bytes = (struct buffer){0};
     for (uint32_t a = 0; a < o->table[0]; a++) /* those that no clause has, too */

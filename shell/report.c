@@ -76,7 +76,7 @@ static void put_atom(struct order *o, const char *before, unsigned atom, const c
 static void put_numbered(struct order *o, size_t clause)
 {
     putf(&o->explanation, "clause %zu, `", clause);
-    put_clause(&o->explanation, o, o->table, o->marks, o->start[clause], SHOWN);
+    put_clause(&o->explanation, o, clause, SHOWN);
     putf(&o->explanation, "`");
 }
 

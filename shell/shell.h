@@ -76,9 +76,8 @@ void putf(struct buffer *b, const char *format, ...) __attribute__((format(print
 /* A literal of aspif by name, `not` before it where it is negative, between two texts. */
 void put_literal(struct buffer *b, const struct order *o, const char *before, int64_t literal, const char *after);
 
-/* The clause at word i as far as its marks are 1 (NULL: all), e.g. `a | b :- c, not d.`, with at most `most` atoms. */
-void put_clause(struct buffer *b, const struct order *o, const uint16_t *table, const uint8_t *marks, size_t i,
-                size_t most);
+/* A clause as the marks leave it, e.g. `a | b :- c, not d.`, with at most `most` of its atoms. */
+void put_clause(struct buffer *b, const struct order *o, size_t clause, size_t most);
 
 /* One rule in aspif, with the line feed: a clause, and the atoms of its table. */
 void put_rule(struct buffer *b, const uint16_t *clause, const uint32_t *atom);

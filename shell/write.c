@@ -79,14 +79,13 @@ void put_literal(struct buffer *b, const struct order *o, const char *before, in
     putf(b, "%s", after);
 }
 
-void put_clause(struct buffer *b, const struct order *o, const uint16_t *table, const uint8_t *marks, size_t i,
-                size_t most)
+void put_clause(struct buffer *b, const struct order *o, size_t clause, size_t most)
 {
-    size_t at = i + 3, heads = 0, body = 0, left_out = 0;
+    size_t i = o->start[clause], at = i + 3, heads = 0, body = 0, left_out = 0;
     for (int part = 0; part < 3; part++)
-        for (size_t end = at + table[i + part]; at < end; at++) {
-            int64_t atom = o->program.atom[table[at]];
-            if (marks && !marks[at])
+        for (size_t end = at + o->table[i + part]; at < end; at++) {
+            int64_t atom = o->program.atom[o->table[at]];
+            if (!o->marks[at])
                 continue;
             if (heads + body == most)
                 left_out++;
@@ -153,10 +152,11 @@ void put_lp(struct order *o)
 {
     const struct statement *s;
     int term = 0;
-    for (size_t i = 2; i < o->reduced_words; i = clause_end(o->reduced, i)) {
-        put_clause(&o->output, o, o->reduced, NULL, i, (size_t)-1);
-        put(&o->output, "\n", 1);
-    }
+    for (size_t clause = 0; clause < o->table[1]; clause++)
+        if (o->marks[o->start[clause]]) {
+            put_clause(&o->output, o, clause, SIZE_MAX);
+            putf(&o->output, "\n");
+        }
     putf(&o->output, "#show.\n");
     for (size_t k = 0; (s = statement_at(o, k)); k++)
         if (s->kind != RULE && !(s->kind == OUTPUT && s->name.len == 0)) /* gringo has no empty term */
