@@ -6,6 +6,7 @@
 #define KINDS 9
 #define SHOWN 12 /* atoms of a clause that are written out */
 #define LINKS 6  /* links of a circle that are written out */
+#define OUTSIDE (-1)
 
 /*
  * The kinds of step. In a sentence @a is the step's atom, @n the partner's number, @p the partner, @h its heads denied,
@@ -37,20 +38,11 @@ static size_t part_start(const struct order *o, size_t clause, enum part part)
     return at;
 }
 
-/* Where the atom stands in the part, or 0. */
-static size_t find(const struct order *o, size_t clause, enum part part, unsigned atom)
+/* Where the atom stands in the part, or for OUTSIDE the first that is outside the reach; 0 where none does. */
+static size_t find(const struct order *o, size_t clause, enum part part, int atom)
 {
     for (size_t i = part_start(o, clause, part); i < part_start(o, clause, part + 1); i++)
-        if (o->marks[i] && o->table[i] == atom)
-            return i;
-    return 0;
-}
-
-/* Where the first atom of the positive body stands that is outside the reach, or 0. */
-static size_t unreached(const struct order *o, size_t clause)
-{
-    for (size_t i = part_start(o, clause, POSITIVE); i < part_start(o, clause, NEGATIVE); i++)
-        if (o->marks[i] && !o->reach[o->table[i]])
+        if (o->marks[i] && (atom == OUTSIDE ? !o->reach[o->table[i]] : o->table[i] == atom))
             return i;
     return 0;
 }
@@ -61,14 +53,14 @@ static void find_reach(struct order *o)
     for (int more = 1; more;) {
         more = 0;
         for (size_t c = 0; c < o->table[1]; c++)
-            if (o->marks[o->start[c]] && !unreached(o, c))
+            if (o->marks[o->start[c]] && !find(o, c, POSITIVE, OUTSIDE))
                 for (size_t i = part_start(o, c, HEAD); i < part_start(o, c, POSITIVE); i++)
                     if (!o->reach[o->table[i]])
                         o->reach[o->table[i]] = (uint8_t)(more = 1);
     }
 }
 
-static void put_atom(struct order *o, const char *before, unsigned atom, const char *after)
+static void put_atom(struct order *o, const char *before, int atom, const char *after)
 {
     put_literal(&o->explanation, o, before, o->program.atom[atom], after);
 }
@@ -88,14 +80,14 @@ static void put_heads_denied(struct order *o, size_t clause)
 }
 
 /* How an atom outside the reach rests on others outside it: every clause that gives it needs one. */
-static void put_circle(struct order *o, unsigned atom)
+static void put_circle(struct order *o, int atom)
 {
-    unsigned seen[LINKS + 1] = {atom};
+    int seen[LINKS + 1] = {atom};
     for (int links = 0; links < LINKS; links++) {
         size_t c = 0, next;
         while (c < o->table[1] && !(o->marks[o->start[c]] && find(o, c, HEAD, seen[links])))
             c++;
-        if (c == o->table[1] || !(next = unreached(o, c)))
+        if (c == o->table[1] || !(next = find(o, c, POSITIVE, OUTSIDE)))
             return;
         put_atom(o, links ? ", `" : ": `", seen[links], "` needs `");
         put_atom(o, "", seen[links + 1] = o->table[next], "`");
@@ -115,7 +107,7 @@ static size_t size_of(const struct order *o, size_t clause)
     return size;
 }
 
-static void put_sentence(struct order *o, const char *c, size_t target, size_t partner, unsigned atom)
+static void put_sentence(struct order *o, const char *c, size_t target, size_t partner, int atom)
 {
     put_numbered(o, target);
     for (putf(&o->explanation, ": "); *c; c++) {
@@ -144,7 +136,7 @@ void explain(struct order *o)
     for (const uint16_t *step = o->list; step < o->list + 4 * o->steps; step += 4) {
         unsigned kind = step[0], success = kind == GAMBROLT_SUCCESS;
         size_t head = part_start(o, step[2], HEAD), gone = o->start[step[1]];
-        unsigned atom = success ? o->table[head] : step[3];
+        int atom = success ? o->table[head] : step[3];
         int empty = kind == GAMBROLT_BLOCKED && head == part_start(o, step[2], POSITIVE);
         if (kind == GAMBROLT_LOOP && !known)
             find_reach(o);
