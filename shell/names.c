@@ -61,7 +61,6 @@ static int give(struct order *o, int atom, struct span name)
         if (o->name[i].at && by_name(&o->name[i], &name) == 0)
             return -1;
     o->name[atom] = name;
-    note_form(o, name);
     return 0;
 }
 
@@ -98,7 +97,7 @@ static int read_rule(struct buffer rule[3], const char *c)
     rule[0].len = rule[1].len = rule[2].len = 0;
     for (; *c != '.'; more = 1) {
         int neck = !body && strncmp(c, ":-", 2) == 0;
-        size_t skipped = neck ? 2 : strspn(c, body ? ",;" : ";|");
+        int skipped = neck ? 2 : more && *c && strchr(body ? ",;" : ";|", *c);
         if (more && !skipped)
             return -1;
         body |= neck;
@@ -140,7 +139,7 @@ static int align(struct order *o)
     struct buffer rule[3] = {0};
     size_t next = 0;
     int found = 1;
-    for (const char *line = o->ground.at; found && *line; line += strcspn(line, "\n"), line += *line == '\n')
+    for (const char *line = o->ground.at; found && line < o->ground.at + o->ground.len; line += strcspn(line, "\n") + 1)
         if (read_rule(rule, line) == 0)
             for (found = 0; !found && (s = statement_at(o, next)); next++)
                 found = s->kind == RULE && match(o, rule, s);
@@ -153,14 +152,18 @@ int name_ground(struct order *o)
 {
     struct span shown[GAMBROLT_MAX_ATOMS];
     memcpy(shown, o->name, sizeof shown);
-    if (align(o) == 0)
-        return 0;
-    memset(o->name, 0, sizeof o->name); /* an order may show an atom under another name than its own */
     int answer = align(o);
+    if (answer) { /* an order may show an atom under another name than its own */
+        memset(o->name, 0, sizeof o->name);
+        answer = align(o);
+    }
     if (answer)
         memset(o->name, 0, sizeof o->name);
-    for (int a = 0; a < (int)o->program.atoms; a++)
+    for (int a = 0; a < (int)o->program.atoms; a++) {
         if (!o->name[a].at && shown[a].at)
             give(o, a, shown[a]);
+        if (o->name[a].at)
+            note_form(o, o->name[a]);
+    }
     return answer;
 }

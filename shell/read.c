@@ -65,8 +65,9 @@ static int unexpected(struct reader *r, const char *what)
 {
     int end = r->at == r->end, carriage = *r->at == '\r', len = (int)strcspn(r->at, " \t\n\r");
     const char *advice = end ? "was the grounder stopped?" : carriage ? "remove them with `tr -d '\\r'`" : AS_WRITTEN;
-    char item[24];
-    snprintf(item, sizeof item, "`%.*s`", len < 20 ? len : 20, r->at);
+    char item[24] = "a zero byte";
+    if (len)
+        snprintf(item, sizeof item, "`%.*s`", len < 20 ? len : 20, r->at);
     return refuse(r->order, "line %zu: %s: %s where %s was expected; %s", r->line, r->where,
                   end ? "the input ends" : carriage ? "carriage return" : *r->at == '\n' ? "the line ends" : item, what,
                   advice);
