@@ -1,6 +1,7 @@
 /* read.c - reads aspif, one statement a line, numbers separated by blanks; and document 01's text, set out as aspif. */
 #include "shell.h"
 
+#include <ctype.h>
 #include <stdio.h>
 #include <stdlib.h>
 #include <string.h>
@@ -81,7 +82,7 @@ static int read_number(struct reader *r, char letter, int64_t *number)
         t++;
     r->at += strspn(r->at, " \t");
     *number = strtoll(r->at, &stop, 10);
-    if (!strspn(r->at + (*r->at == '-'), "0123456789") || !strchr(" \t\n\r", *stop) || *number < t->lowest ||
+    if (!isdigit((unsigned char)r->at[*r->at == '-']) || !strchr(" \t\n\r", *stop) || *number < t->lowest ||
         *number > t->highest || (letter == 'l' && *number == 0))
         return unexpected(r, t->what);
     r->at = stop;
