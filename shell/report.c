@@ -89,10 +89,11 @@ static void put_circle(struct order *o, int atom)
             c++;
         if (c == o->table[1] || !(next = find(o, c, POSITIVE, OUTSIDE)))
             return;
+        seen[links + 1] = o->table[next];
         put_atom(o, links ? ", `" : ": `", seen[links], "` needs `");
-        put_atom(o, "", seen[links + 1] = o->table[next], "`");
+        put_atom(o, "", seen[links + 1], "`");
         for (int i = 0; i <= links; i++)
-            if (seen[i] == o->table[next])
+            if (seen[i] == seen[links + 1])
                 return;
     }
     putf(&o->explanation, " and so on");
@@ -110,7 +111,8 @@ static size_t size_of(const struct order *o, size_t clause)
 static void put_sentence(struct order *o, const char *c, size_t target, size_t partner, int atom)
 {
     put_numbered(o, target);
-    for (putf(&o->explanation, ": "); *c; c++) {
+    putf(&o->explanation, ": ");
+    for (; *c; c++) {
         if (*c != '@')
             put(&o->explanation, c, 1);
         else if (*++c == 'a')
@@ -169,8 +171,7 @@ static void measure(const uint16_t *table, size_t words, unsigned size[3])
 void put_statistics(struct order *o, int json)
 {
     static const char *const sizes[] = {"clauses", "body literals", "atoms"};
-    const struct { const char *name; double seconds; } times[] = {
-        {"reading", o->reading}, {"reducing", o->reducing}, {"checking", o->checking}};
+    static const char *const times[] = {"reading", "reducing", "checking"};
     unsigned before[3] = {0}, after[3] = {0}, steps[KINDS] = {0};
     struct buffer *b = &o->notes;
     measure(o->table, o->words, before);
@@ -190,6 +191,6 @@ void put_statistics(struct order *o, int json)
             putf(b, "  %d %-13s%8u\n", k, kinds[k].name, steps[k]);
     for (int i = 0; i < 3; i++)
         putf(b, json ? "%s\"%s\": %.6f" : "%s%-16s %8.3f s\n", !json ? "" : i ? ", " : "},\n \"seconds\": {",
-             times[i].name, times[i].seconds);
+             times[i], o->seconds[i]);
     putf(b, json ? "}}\n" : "");
 }

@@ -49,7 +49,7 @@ static int reduce_checked(struct order *o, int reduce)
     double start = seconds(0);
     if (reduce)
         answer = gambrolt_reduce(o->table, o->words, o->marks, o->words, o->list, GAMBROLT_MAX_LIST);
-    o->reducing = seconds(start);
+    o->seconds[1] = seconds(start);
     if (refused(o, "reducer", answer))
         return -1;
     o->steps = answer;
@@ -58,7 +58,7 @@ static int reduce_checked(struct order *o, int reduce)
 
     start = seconds(0);
     answer = gambrolt_check(o->table, o->words, checked, o->words, o->list, 4 * o->steps);
-    o->checking = seconds(start);
+    o->seconds[2] = seconds(start);
     if (refused(o, "checker", answer))
         return -1;
     if (answer != o->steps || memcmp(o->marks, checked, o->words) != 0)
@@ -104,7 +104,7 @@ int run(struct order *o, const struct options *options)
     program_start(&o->program);
     if (options->text || options->from_text ? read_text(o) : read_aspif(o))
         return -1;
-    o->reading = seconds(start);
+    o->seconds[0] = seconds(start);
     if (o->over != PROGRAM_TAKEN)
         return run_over(o, options);
     if (reduce_checked(o, !options->no_reduce))

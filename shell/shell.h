@@ -43,7 +43,7 @@ struct order {
     uint16_t table[GAMBROLT_MAX_WORDS], reduced[GAMBROLT_MAX_WORDS], list[GAMBROLT_MAX_LIST];
     size_t words, reduced_words, steps, start[GAMBROLT_MAX_CLAUSES]; /* start: the first word of each clause */
     uint8_t marks[GAMBROLT_MAX_WORDS], reach[GAMBROLT_MAX_ATOMS];    /* reach: as document 01 defines it */
-    double reading, reducing, checking;                              /* seconds */
+    double seconds[3];                                               /* of reading, reducing, checking */
 };
 
 /* The options that a run depends on. */

@@ -11,7 +11,10 @@ void put(struct buffer *b, const void *bytes, size_t len)
     size_t room = b->room ? b->room : 64;
     while (room - b->len <= len)
         room *= 2;
-    if (room != b->room && !(b->at = realloc(b->at, b->room = room))) {
+    if (room != b->room)
+        b->at = realloc(b->at, room);
+    b->room = room;
+    if (!b->at) {
         fputs("gambrolt: out of memory\n", stderr);
         exit(2);
     }

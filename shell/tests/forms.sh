@@ -250,6 +250,9 @@ build/gambrolt --to-lp <"$tmp/in" >"$tmp/want"
 expect "one name for two atoms: no names" same "$tmp/want" "$tmp/out"
 build/gambrolt --to-lp --names=shell/tests/data/order-plain.ground <"$tmp/in" >"$tmp/out" 2>"$tmp/err"
 expect "rules grounded otherwise: no names" same "$tmp/want" "$tmp/out"
+sed 's/cell(c2)/cell#(c2)/' "$tmp/text" | tr '#' '\000' >"$tmp/other"
+build/gambrolt --to-lp "--names=$tmp/other" <"$tmp/in" >"$tmp/out" 2>"$tmp/err"
+expect "a zero byte among the rules: no names" same "$tmp/want" "$tmp/out"
 
 # statistics
 build/gambrolt --stats --dry-run shell/tests/data/kinds.aspif 2>&1 | sed 's/[0-9.]* s$/T s/' >"$tmp/out"
