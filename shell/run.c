@@ -100,7 +100,8 @@ static int run_over(struct order *o, const struct options *options)
 int run(struct order *o, const struct options *options)
 {
     double start = seconds(0);
-    put(&o->bytes, "", 0);
+    put(&o->bytes, "", 0); /* there, be there nothing in it */
+    put(&o->numbers, "", 0);
     program_start(&o->program);
     if (options->text || options->from_text ? read_text(o) : read_aspif(o))
         return -1;

@@ -95,6 +95,9 @@ printf '#show.\n' >"$tmp/want"
 writes "an empty program as rules" --to-lp
 printf 'atoms=0\nclauses=0\n' >"$tmp/want"
 writes "an empty program as text" --to-text
+printf 'asp 1 0 0\n 10 a comment alone\n0\n' >"$tmp/in"
+printf '#show.\n%% a comment alone\n' >"$tmp/want"
+writes "a comment alone as rules" --to-lp
 
 # readable rules
 cp "$tmp/given" "$tmp/in"
