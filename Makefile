@@ -2,7 +2,7 @@
 # make lib: the library for C; make install PREFIX=..: header, library and pkg-config file. make bench: docs/BENCHMARKS.md's table.
 # make shell: the program `gambrolt` in build/; make install-shell: it and its man page. make test-shell: its tests.
 # make fuzz: a minute of a fuzzer on it.
-.PHONY: run test lib install bench test-lib test-c shell install-shell test-shell fuzz clean compiler FORCE
+.PHONY: run test lib install bench test-lib test-c shell install-shell test-shell fuzz clean compiler
 
 PREFIX ?= /usr/local
 LIB_DIR := $(CURDIR)/target/staticlib
@@ -18,8 +18,7 @@ run:
 test:
 	@tests/run
 
-lib:
-	@rt staticlib gambrolt
+lib: $(LIB_DIR)/libgambrolt.a
 	@echo "the library: $(LIB_DIR)/libgambrolt.a; its header: $(CURDIR)/include/gambrolt.h"
 
 # the library against an independent implementation of document 01; GAMBROLT_ROUNDS=10 for a larger run
@@ -55,13 +54,16 @@ GAMBROLT_INCLUDE = include
 STRICT = -std=c11 -Wall -Wextra -Werror -I$(GAMBROLT_INCLUDE) -Ishell
 SANITIZE = -g -O1 -fsanitize=address,undefined -fno-sanitize-recover=all -fno-omit-frame-pointer
 SHELL_PARTS = $(filter-out shell/gambrolt.c,$(wildcard shell/*.c))
-SHELL_FILES = $(wildcard shell/*.c shell/*.h shell/tests/*.c) $(GAMBROLT_INCLUDE)/gambrolt.h $(LIBGAMBROLT)
+SHELL_FILES = $(wildcard shell/*.[ch] shell/tests/*.[ch]) $(GAMBROLT_INCLUDE)/gambrolt.h $(LIBGAMBROLT)
 
 compiler:
-	@command -v $(CC) >/dev/null || { apt-get update && apt-get install -y gcc libc6-dev; } >/dev/null
+	@command -v $(CC) >/dev/null || { apt-get update && apt-get install -y gcc libc6-dev; } >/dev/null || \
+		{ echo "shell: FAILED: $(CC) is missing, and Debian's package gcc can't be installed" >&2; exit 1; }
 
-$(LIB_DIR)/libgambrolt.a: FORCE
+# made again only where a file or a directory of a crate is newer
+$(LIB_DIR)/libgambrolt.a: crates.txt $(shell find crates)
 	@rt staticlib gambrolt
+	@touch $@
 
 shell: build/gambrolt
 

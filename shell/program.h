@@ -27,17 +27,18 @@ extern "C" {
 #endif
 
 struct program {
-    size_t atoms, clauses, words;      /* how many so far; words counts those of the table */
-    uint32_t atom[GAMBROLT_MAX_ATOMS]; /* the caller's atoms, ascending: the table's atom i is the caller's atom[i] */
-    uint32_t word[GAMBROLT_MAX_WORDS]; /* the table, with the caller's atoms */
+    size_t atoms, clauses, words;          /* how many so far; words counts those of the table */
+    uint32_t atom[GAMBROLT_MAX_ATOMS + 1]; /* the caller's atoms, ascending: atom[i] is the table's atom i */
+    uint32_t word[GAMBROLT_MAX_WORDS + 1]; /* the table, with the caller's atoms; both have room for one too many */
 };
 
+/* Those but PROGRAM_ATOM_ZERO are questions of gambrolt.h; gambrolt_message says them in words. */
 enum program_answer {
-    PROGRAM_TAKEN,
-    PROGRAM_ATOM_ZERO, /* an atom or a literal is 0 */
-    PROGRAM_ATOMS,     /* with this rule there would be more than GAMBROLT_MAX_ATOMS atoms */
-    PROGRAM_CLAUSES,   /* .. more than GAMBROLT_MAX_CLAUSES clauses */
-    PROGRAM_WORDS      /* .. more than GAMBROLT_MAX_WORDS words */
+    PROGRAM_TAKEN = 0,
+    PROGRAM_ATOM_ZERO = -1, /* an atom or a literal is 0 */
+    PROGRAM_ATOMS = GAMBROLT_ATOM_LIMIT,
+    PROGRAM_CLAUSES = GAMBROLT_CLAUSE_LIMIT,
+    PROGRAM_WORDS = GAMBROLT_WORD_LIMIT
 };
 
 /* An empty program. */
@@ -52,9 +53,6 @@ size_t program_table(const struct program *p, uint16_t table[GAMBROLT_MAX_WORDS]
 
 /* The table's number of one of the caller's atoms, or -1 where no rule has it. */
 int program_number(const struct program *p, uint32_t atom);
-
-/* What an answer says, in words. */
-const char *program_message(enum program_answer answer);
 
 #ifdef __cplusplus
 }

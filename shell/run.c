@@ -1,100 +1,128 @@
-/* run.c - one whole run in memory: read, reduce and check, write. */
-#include "run.h"
-#include "reduction.h"
+/* run.c - one whole run in memory: read, reduce, believe the reducer only where the checker does, write. */
+#define _POSIX_C_SOURCE 200809L
+#include "shell.h"
 
-#include <stdlib.h>
+#include <stdarg.h>
+#include <stdio.h>
+#include <string.h>
+#include <time.h>
 
-/* The list of steps, as document 01's program prints it. */
-static void put_steps(struct buffer *b, const struct reduction *r)
+#define REPORT "; nothing is written; please report the order"
+
+int refuse(struct order *o, const char *format, ...)
 {
-    putf(b, "steps=%zu\n", r->steps);
-    for (size_t s = 0; s < r->steps; s++) {
-        const uint16_t *step = r->list + 4 * s;
-        putf(b, "step=%u,%u,%u,%u\n", step[0], step[1], step[2], step[3]);
-    }
+    va_list arguments;
+    va_start(arguments, format);
+    vsnprintf(o->fault, sizeof o->fault, format, arguments);
+    va_end(arguments);
+    for (char *c = o->fault; *c; c++) /* one printable line, whatever the input holds */
+        if ((unsigned char)*c < 32 || *c == 127)
+            *c = '?';
+    return -1;
 }
 
-static int write_program(const struct options *options, const struct order *o, const struct names *names,
-                         const struct reduction *r, struct result *result, struct fault *f)
+/* Whether a part of the library refuses a call that it must take. */
+static int refused(struct order *o, const char *part, uint64_t answer)
 {
-    const uint16_t *table = options->reduce ? r->table : o->table;
-    size_t words = options->reduce ? r->words : o->words;
-    switch (options->to) {
-    case ASPIF:
-        put_aspif(&result->output, o, options->reduce ? r->marks : NULL, table);
-        return 0;
-    case LP:
-        put_lp(&result->output, names, table, words);
-        return 0;
-    default:
-        if (put_text(&result->output, table, words, f))
-            return -1;
-        if (options->steps)
-            put_steps(&result->output, r);
-        return 0;
-    }
+    unsigned number = gambrolt_refusal(answer);
+    return number ? refuse(o, "self-check: the %s refuses: %s (refused=%u,%llu)" REPORT, part, gambrolt_message(number),
+                           number, (unsigned long long)gambrolt_value(answer))
+                  : 0;
 }
 
-/* Everything after reading, for a program within the limits. */
-static int run_order(const struct options *options, const struct order *o, double reading, struct result *result,
-                     struct fault *f)
+/* Seconds since `since`, on a clock that never goes back. */
+static double seconds(double since)
 {
-    struct work {
-        struct reduction reduction;
-        struct names names;
-    } *work = zeroed(sizeof *work);
-    int answer = options->reduce ? reduce_checked(&work->reduction, o->table, o->words, f) : 0;
-    if (!answer) {
-        names_make(&work->names, o);
-        if (options->names && names_learn(&work->names, options->names))
-            putf(&result->notes, "gambrolt: names: its rules do not fit the input's one by one, so none is taken; "
-                 "ground both alike\n");
-        answer = write_program(options, o, &work->names, &work->reduction, result, f);
-    }
-    if (!answer && options->explain)
-        put_explanation(&result->explanation, &work->names, &work->reduction);
-    if (!answer && options->stats)
-        (options->json ? put_statistics_json : put_statistics)(&result->notes, o, &work->reduction, reading);
-    free(work);
-    return answer;
+    struct timespec now;
+    clock_gettime(CLOCK_MONOTONIC, &now);
+    return (double)now.tv_sec + (double)now.tv_nsec / 1e9 - since;
 }
 
-/* An order over the limits: refused, or handed on as it came. */
-static int run_over(const struct options *options, struct order *o, struct result *result, struct fault *f)
+/* Calls the reducer (or takes no steps), then the checker on its list, then asks for the reduced table. */
+static int reduce_checked(struct order *o, int reduce)
 {
-    if (!options->pass_through)
-        return refuse(f, "line %zu: rule: %s; split the order, or hand it on unreduced with --pass-through",
-                      o->over_line, program_message(o->over));
-    putf(&result->notes, "gambrolt: line %zu: rule: %s; the program is handed on unreduced\n", o->over_line,
-         program_message(o->over));
-    if (options->stats && options->json)
-        putf(&result->notes, "{\"reduced\": false}\n");
-    result->output = o->bytes;
-    o->bytes = (struct buffer){0};
+    uint8_t checked[GAMBROLT_MAX_WORDS];
+    uint64_t answer = 0;
+    memset(o->marks, reduce ? 2 : 1, sizeof o->marks); /* 2 and 3 are no marks: where a call leaves them, they differ */
+    memset(checked, 3, sizeof checked);
+
+    double start = seconds(0);
+    if (reduce)
+        answer = gambrolt_reduce(o->table, o->words, o->marks, o->words, o->list, GAMBROLT_MAX_LIST);
+    o->seconds[1] = seconds(start);
+    if (refused(o, "reducer", answer))
+        return -1;
+    o->steps = answer;
+    if (o->steps > GAMBROLT_MAX_LIST / 4)
+        return refuse(o, "self-check: the reducer's count of steps is too large" REPORT);
+
+    start = seconds(0);
+    answer = gambrolt_check(o->table, o->words, checked, o->words, o->list, 4 * o->steps);
+    o->seconds[2] = seconds(start);
+    if (refused(o, "checker", answer))
+        return -1;
+    if (answer != o->steps || memcmp(o->marks, checked, o->words) != 0)
+        return refuse(o, "self-check: reducer and checker leave different marks" REPORT);
+
+    answer = gambrolt_reduced_table(o->table, o->words, o->marks, o->words, o->reduced, GAMBROLT_MAX_WORDS);
+    o->reduced_words = gambrolt_value(answer);
+    return refused(o, "reduced table's call", answer);
+}
+
+/* The text form, and where asked for the list of steps as document 01's program prints it. */
+static int put_text(struct order *o, int steps)
+{
+    uint8_t text[GAMBROLT_MAX_TEXT];
+    uint64_t answer = gambrolt_write_text(o->reduced, o->reduced_words, text, sizeof text);
+    if (refused(o, "text writer", answer))
+        return -1;
+    put(&o->output, text, answer);
+    if (steps)
+        putf(&o->output, "steps=%zu\n", o->steps);
+    for (const uint16_t *step = o->list; steps && step < o->list + 4 * o->steps; step += 4)
+        putf(&o->output, "step=%u,%u,%u,%u\n", step[0], step[1], step[2], step[3]);
     return 0;
 }
 
-int run(const struct options *options, struct buffer *input, struct result *result, struct fault *f)
+/* An order over the limits: refused, or handed on as it came. */
+static int run_over(struct order *o, const struct options *options)
 {
-    struct order *o = zeroed(sizeof *o);
-    double start = seconds();
-    *result = (struct result){0};
-    o->bytes = *input;
-    *input = (struct buffer){0};
-    int answer = options->from == TEXT ? order_from_text(o, f) : order_from_aspif(o, f);
-    if (!answer)
-        answer = o->over != PROGRAM_TAKEN ? run_over(options, o, result, f)
-                                          : run_order(options, o, seconds() - start, result, f);
-    if (answer)
-        result_free(result);
-    order_free(o);
-    free(o);
-    return answer;
+    refuse(o, "line %zu: rule: %s; %s", o->over_line, gambrolt_message(o->over),
+           options->pass_through ? "the program is handed on unreduced"
+                                 : "split the order, or hand it on unreduced with --pass-through");
+    if (!options->pass_through)
+        return -1;
+    putf(&o->notes, "gambrolt: %s\n%s", o->fault, options->json ? "{\"reduced\": false}\n" : "");
+    put(&o->output, o->bytes.at, o->bytes.len);
+    return 0;
 }
 
-void result_free(struct result *result)
+int run(struct order *o, const struct options *options)
 {
-    buffer_free(&result->output);
-    buffer_free(&result->explanation);
-    buffer_free(&result->notes);
+    double start = seconds(0);
+    put(&o->bytes, "", 0); /* there, be there nothing in it */
+    put(&o->numbers, "", 0);
+    program_start(&o->program);
+    if (options->text || options->from_text ? read_text(o) : read_aspif(o))
+        return -1;
+    o->seconds[0] = seconds(start);
+    if (o->over != PROGRAM_TAKEN)
+        return run_over(o, options);
+    if (reduce_checked(o, !options->no_reduce))
+        return -1;
+    name_shown(o);
+    if (options->names && name_ground(o))
+        putf(&o->notes, "gambrolt: names: its rules do not fit the input's one by one, so none is taken; "
+             "ground both alike\n");
+    if (options->to_lp)
+        put_lp(o);
+    else if (!options->text && !options->to_text)
+        put_aspif(o);
+    else if (put_text(o, options->steps))
+        return -1;
+    if (options->explain)
+        explain(o);
+    if (options->stats)
+        put_statistics(o, options->json);
+    return 0;
 }

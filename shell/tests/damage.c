@@ -1,61 +1,24 @@
 /*
- * damage.c - every file that is named, damaged in some thousand ways, and run with all forms of output. What may happen:
- * a program is written, or nothing is written and the fault is one line that names a line of the input. Built with the
- * address and undefined-behaviour sanitizers, which watch the rest.
+ * damage.c - every file that is named, damaged in some thousand ways, and run in every form. Built with the address and
+ * undefined-behaviour sanitizers.
  */
-#include "run.h"
+#include "every.h"
 
-#include <stdlib.h>
-#include <string.h>
-
-static const struct options every[] = {
-    {.from = ASPIF, .to = ASPIF, .reduce = 1, .explain = 1, .stats = 1},
-    {.from = ASPIF, .to = LP, .reduce = 1, .stats = 1, .json = 1},
-    {.from = ASPIF, .to = ASPIF, .pass_through = 1},
-    {.from = TEXT, .to = TEXT, .reduce = 1, .steps = 1}};
-
-/* A sound order, to be read with names from anything. */
-static const char order[] = "asp 1 0 0\n1 0 2 1 2 0 0\n1 0 1 3 0 3 1 2 -4\n1 0 1 4 0 2 4 -3\n1 0 0 0 1 -3\n4 1 b 1 2\n0\n";
-
-static int run_named(const char *bytes, size_t len)
-{
-    struct buffer input = {0}, names = {0};
-    struct options options = {.from = ASPIF, .to = LP, .reduce = 1, .explain = 1, .names = &names};
-    struct result result;
-    struct fault fault;
-    put(&input, order, sizeof order - 1);
-    put(&names, bytes, len);
-    int answer = run(&options, &input, &result, &fault);
-    result_free(&result);
-    buffer_free(&names);
-    return answer;
-}
+#include <stdio.h>
 
 static size_t runs, refusals;
 
 static void try(const char *bytes, size_t len)
 {
-    for (size_t i = 0; i < sizeof every / sizeof *every; i++) {
-        struct buffer input = {0};
-        struct result result;
-        struct fault fault = {{0}};
-        put(&input, bytes, len);
-        int answer = run(&every[i], &input, &result, &fault);
-        int sound = answer == 0 ? result.output.len > 0
-                                : result.output.len == 0 && strncmp(fault.text, "line ", 5) == 0;
-        if (!sound) {
-            fprintf(stderr, "damage.c: answer %d, output of %zu bytes, fault `%s` for:\n", answer, result.output.len,
-                    fault.text);
-            fwrite(bytes, 1, len, stderr);
-            exit(1);
-        }
-        runs++;
-        refusals += answer != 0;
-        result_free(&result);
-        buffer_free(&input);
-    }
-    if (run_named(bytes, len))
+    static struct order order;
+    int refused = try_every(&order, bytes, len);
+    if (refused < 0) {
+        fprintf(stderr, "damage.c: output of %zu bytes, fault `%s` for:\n", order.output.len, order.fault);
+        fwrite(bytes, 1, len, stderr);
         exit(1);
+    }
+    runs += sizeof every / sizeof *every;
+    refusals += (size_t)refused;
 }
 
 /* The input with `len` bytes at `at` replaced. */
@@ -66,7 +29,7 @@ static void try_replaced(const struct buffer *whole, size_t at, size_t len, cons
     put(&damaged, by, by_len);
     put(&damaged, whole->at + at + len, whole->len - at - len);
     try(damaged.at, damaged.len);
-    buffer_free(&damaged);
+    free(damaged.at);
 }
 
 static void try_carriage_returns(const struct buffer *whole)
@@ -75,7 +38,7 @@ static void try_carriage_returns(const struct buffer *whole)
     for (size_t i = 0; i < whole->len; i++)
         put(&damaged, whole->at[i] == '\n' ? "\r\n" : whole->at + i, whole->at[i] == '\n' ? 2 : 1);
     try(damaged.at, damaged.len);
-    buffer_free(&damaged);
+    free(damaged.at);
 }
 
 /* A number or a name that goes on and on. */
@@ -85,7 +48,7 @@ static void try_long(const struct buffer *whole, size_t at)
     for (int i = 0; i < 5000; i++)
         put(&more, i % 7 ? "9" : " 1", i % 7 ? 1 : 2);
     try_replaced(whole, at, 0, more.at, more.len);
-    buffer_free(&more);
+    free(more.at);
 }
 
 static void damage(const struct buffer *whole)
@@ -131,13 +94,15 @@ int main(int count, char **file)
     for (int i = 1; i < count; i++) {
         struct buffer whole = {0};
         FILE *stream = fopen(file[i], "rb");
-        if (!stream || slurp(&whole, stream, 1 << 24)) {
+        for (int c; stream && (c = getc(stream)) != EOF;)
+            put(&whole, &(char){(char)c}, 1);
+        if (!stream || whole.len == 0) {
             perror(file[i]);
             return 1;
         }
         fclose(stream);
         damage(&whole);
-        buffer_free(&whole);
+        free(whole.at);
     }
     noise();
     printf("%zu runs on damaged input, %zu refused\n", runs, refusals);

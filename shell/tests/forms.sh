@@ -1,4 +1,6 @@
-# forms.sh - what is written, byte for byte, worked out by hand.
+# forms.sh - what is written, byte for byte, worked out by hand. data/ holds what gringo 5.4.1 makes of two examples, so that
+# what is compared is this program's alone: kinds.aspif and order.aspif with --keep-facts, order.ground with --text too, and
+# order-plain.ground with --text only.
 
 # writes WHAT OPTIONS: the input in $tmp/in gives exactly $tmp/want, and the same under the sanitizers.
 writes() {
@@ -93,6 +95,9 @@ printf '#show.\n' >"$tmp/want"
 writes "an empty program as rules" --to-lp
 printf 'atoms=0\nclauses=0\n' >"$tmp/want"
 writes "an empty program as text" --to-text
+printf 'asp 1 0 0\n 10 a comment alone\n0\n' >"$tmp/in"
+printf '#show.\n%% a comment alone\n' >"$tmp/want"
+writes "a comment alone as rules" --to-lp
 
 # readable rules
 cp "$tmp/given" "$tmp/in"
@@ -192,7 +197,7 @@ build/gambrolt --to-lp "$tmp/in" | sed '/^#/d' >"$tmp/out"
 expect "names" same "$tmp/want" "$tmp/out"
 
 # sentences: one for every kind, as the steps before left the clauses
-gringo --keep-facts examples/kinds.lp >"$tmp/in" 2>/dev/null
+cp shell/tests/data/kinds.aspif "$tmp/in"
 cat >"$tmp/want" <<'END'
 clause 8, `t :- a, t.`: deleted, since it derives `t` only where that already holds
 clause 3, `never :- b, not b.`: deleted, since it needs both `b` and `not b`
@@ -227,8 +232,8 @@ build/gambrolt --explain --dry-run <"$tmp/in" 2>"$tmp/out"
 expect "a sentence about an either-or fact" same "$tmp/want" "$tmp/out"
 
 # names that aspif lacks: facts, and atoms that no rule derives
-gringo --keep-facts examples/order.lp >"$tmp/in" 2>/dev/null
-gringo --keep-facts --text examples/order.lp >"$tmp/text" 2>/dev/null
+cp shell/tests/data/order.aspif "$tmp/in"
+cp shell/tests/data/order.ground "$tmp/text"
 cat >"$tmp/want" <<'END'
 clause 19, `ok(c3,m2) :- fits(c3,m2), not banned(c3).`: dropped `fits(c3,m2)`, which clause 3 gives as a fact
 clause 19, `ok(c3,m2) :- not banned(c3).`: dropped `not banned(c3)`, which no clause can derive
@@ -246,12 +251,14 @@ build/gambrolt --to-lp "--names=$tmp/other" <"$tmp/in" >"$tmp/out" 2>"$tmp/err"
 expect "one name for two atoms: a note" grep -q "names: its rules do not fit" "$tmp/err"
 build/gambrolt --to-lp <"$tmp/in" >"$tmp/want"
 expect "one name for two atoms: no names" same "$tmp/want" "$tmp/out"
-gringo --text examples/order.lp >"$tmp/other" 2>/dev/null
-build/gambrolt --to-lp "--names=$tmp/other" <"$tmp/in" >"$tmp/out" 2>"$tmp/err"
+build/gambrolt --to-lp --names=shell/tests/data/order-plain.ground <"$tmp/in" >"$tmp/out" 2>"$tmp/err"
 expect "rules grounded otherwise: no names" same "$tmp/want" "$tmp/out"
+sed 's/cell(c2)/cell#(c2)/' "$tmp/text" | tr '#' '\000' >"$tmp/other"
+build/gambrolt --to-lp "--names=$tmp/other" <"$tmp/in" >"$tmp/out" 2>"$tmp/err"
+expect "a zero byte among the rules: no names" same "$tmp/want" "$tmp/out"
 
 # statistics
-gringo --keep-facts examples/kinds.lp 2>/dev/null | build/gambrolt --stats --dry-run 2>&1 | sed 's/[0-9.]* s$/T s/' >"$tmp/out"
+build/gambrolt --stats --dry-run shell/tests/data/kinds.aspif 2>&1 | sed 's/[0-9.]* s$/T s/' >"$tmp/out"
 cat >"$tmp/want" <<'END'
                    before    after
 clauses                16        6
@@ -271,7 +278,7 @@ reducing            T s
 checking            T s
 END
 expect "statistics" sh -c 'tr -s " " <"$0" | sed "s/ *T s/ T s/" >"$0.1"; tr -s " " <"$1" >"$1.1"; cmp -s "$0.1" "$1.1" || { diff "$0" "$1" >&2; false; }' "$tmp/out" "$tmp/want"
-gringo --keep-facts examples/kinds.lp 2>/dev/null | build/gambrolt --stats=json --dry-run 2>&1 | sed 's/: [0-9]*\.[0-9]*/: T/g' >"$tmp/out"
+build/gambrolt --stats=json --dry-run shell/tests/data/kinds.aspif 2>&1 | sed 's/: [0-9]*\.[0-9]*/: T/g' >"$tmp/out"
 cat >"$tmp/want" <<'END'
 {"reduced": true,
  "clauses": {"before": 16, "after": 6},

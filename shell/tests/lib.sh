@@ -1,11 +1,17 @@
 # lib.sh - what the shell's tests share. Sourced from the repository's root.
 
-# The grounder and the solver, from Debian's packages where they are missing.
+# need TOOL[:PACKAGE]..: what the tests call, from Debian's packages where it is missing. A tool that can't be had ends the
+# tests with a line that says so.
 need() {
     for tool; do
+        package=${tool#*:} tool=${tool%:*}
         command -v "$tool" >/dev/null && continue
-        echo "installing $tool"
-        { apt-get update && apt-get install -y --no-install-recommends "$tool"; } >"$tmp/apt" 2>&1 || { cat "$tmp/apt"; exit 1; }
+        echo "installing $package"
+        { apt-get update && apt-get install -y "$package"; } >"$tmp/apt" 2>&1 || :
+        command -v "$tool" >/dev/null && continue
+        tail -5 "$tmp/apt" >&2
+        echo "shell: FAILED: $tool is missing, and Debian's package $package can't be installed; nothing was tested" >&2
+        exit 1
     done
 }
 

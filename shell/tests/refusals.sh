@@ -58,7 +58,7 @@ bad "a large atom" '1 0 1 2147483648 0 0\n0\n' "line 2: rule: \`2147483648\` whe
 bad "a huge number" '1 0 1 99999999999999999999999 0 0\n0\n' "line 2: rule: \`99999999999999999999\` where an atom"
 bad "a huge count" '1 0 4294967295 1 0 0\n0\n' "line 2: rule: "
 bad "a count too large" '1 0 4294967296 1 0 0\n0\n' "line 2: rule: \`4294967296\` where a count"
-bad "a zero byte" '1 0 1 1 \0000 0\n0\n' "line 2: rule: "
+bad "a zero byte" '1 0 1 1 \0000 0\n0\n' "line 2: rule: a zero byte where the body's type"
 bad "a head of type 2" '1 2 1 1 0 0\n0\n' "line 2: rule: \`2\` where the head's type"
 bad "a body of type 2" '1 0 1 1 2 0\n0\n' "line 2: rule: \`2\` where the body's type"
 bad "a choice rule" '1 0 1 2 0 0\n1 1 1 1 0 0\n0\n' "line 3: choice rule" "clasp --pre=aspif --trans-ext=all --eq=0"

@@ -5,7 +5,7 @@ set -u
 tmp=$(mktemp -d)
 trap 'rm -rf "$tmp"' EXIT
 . shell/tests/lib.sh
-need gringo clasp
+need gringo clasp groff:groff-base script:bsdutils
 
 for part in builder refusals usage selfcheck forms examples random damaged page; do
     . "shell/tests/$part.sh"

@@ -1,5 +1,5 @@
 # selfcheck.sh - a reducer that says what is not so: the program must notice and write nothing.
-gringo --keep-facts examples/kinds.lp >"$tmp/in" 2>/dev/null
+cp shell/tests/data/kinds.aspif "$tmp/in"
 build/lying <"$tmp/in" >"$tmp/out" 2>"$tmp/err"
 expect "no lie: status 0" [ $? -eq 0 ]
 for lie in "one step too many" "one step too few" "a wrong kind" "a mark more" "no marks" "countless steps" "refused"; do

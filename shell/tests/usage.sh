@@ -49,17 +49,13 @@ expect "--version" sh -c 'build/gambrolt --version | grep -qx "gambrolt [0-9.]*"
 for option in $(grep -o -- '--[a-z][a-z-]*' "$tmp/help" | grep -vx -e --pre -e --trans-ext -e --eq | sort -u); do
     expect "$option is in the man page" grep -q -- "$(echo "$option" | sed 's/-/\\\\-/g')" shell/gambrolt.1
 done
-if command -v groff >/dev/null; then
-    expect "the man page without warnings" sh -c 'groff -man -ww -Tutf8 shell/gambrolt.1 2>&1 >/dev/null | cmp -s - /dev/null'
-fi
+expect "the man page without warnings" sh -c 'groff -man -ww -Tutf8 shell/gambrolt.1 2>&1 >/dev/null | cmp -s - /dev/null'
 
 # a note for those who wait: on a terminal, after a second, once
-if command -v script >/dev/null; then
-    script -qec "{ sleep 1.6; cat examples/document-01.txt; } | build/gambrolt --text >$tmp/out" /dev/null >"$tmp/note" </dev/null
-    expect "a note on a terminal" [ "$(grep -c 'gambrolt: waiting' "$tmp/note")" -eq 1 ]
-    expect "the program all the same" [ -s "$tmp/out" ]
-    script -qec "build/gambrolt --text examples/document-01.txt >$tmp/out" /dev/null >"$tmp/note" </dev/null
-    expect "no note within a second" [ ! -s "$tmp/note" ]
-fi
+script -qec "{ sleep 1.6; cat examples/document-01.txt; } | build/gambrolt --text >$tmp/out" /dev/null >"$tmp/note" </dev/null
+expect "a note on a terminal" [ "$(grep -c 'gambrolt: waiting' "$tmp/note")" -eq 1 ]
+expect "the program all the same" [ -s "$tmp/out" ]
+script -qec "build/gambrolt --text examples/document-01.txt >$tmp/out" /dev/null >"$tmp/note" </dev/null
+expect "no note within a second" [ ! -s "$tmp/note" ]
 { sleep 1.2; cat examples/document-01.txt; } | build/gambrolt --text >"$tmp/out" 2>"$tmp/err"
 expect "no note but on a terminal" [ ! -s "$tmp/err" ]

@@ -1,0 +1,196 @@
+/* report.c - what there is to say about a reduction: each step as a sentence, and figures. */
+#include "shell.h"
+
+#include <string.h>
+
+#define KINDS 9
+#define SHOWN 12 /* atoms of a clause that are written out */
+#define LINKS 6  /* links of a circle that are written out */
+#define OUTSIDE (-1)
+
+/*
+ * The kinds of step. In a sentence @a is the step's atom, @n the partner's number, @p the partner, @h its heads denied,
+ * @c how the atom rests on itself, @s how the partner compares with the target.
+ */
+static const struct {
+    const char *name, *sentence;
+} kinds[KINDS] = {
+    {"none", "deleted, since @p, rules out every stable model anyway"}, /* what blocked says of an empty partner */
+    {"tautology", "deleted, since it derives `@a` only where that already holds"},
+    {"contradiction", "deleted, since it needs both `@a` and `not @a`"},
+    {"success", "dropped `@a`, which clause @n gives as a fact"},
+    {"no head", "dropped `not @a`, which no clause can derive"},
+    {"blocked", "deleted, since it needs @h, but @p, is a fact"},
+    {"failure", "deleted, since it needs `@a`, which no clause can derive"},
+    {"loop", "deleted, since it needs `@a`, which is derived only in a circle@c"},
+    {"subsumed", "deleted, since @p, @s"}};
+
+/* ---- Sentences: the steps are made again, and each is read on the marks that those before it left ---- */
+
+enum part { HEAD, POSITIVE, NEGATIVE, END };
+
+/* Where a part of a clause starts, and so where the part before it ends. */
+static size_t part_start(const struct order *o, size_t clause, enum part part)
+{
+    size_t i = o->start[clause], at = i + 3;
+    for (enum part before = HEAD; before < part; before++)
+        at += o->table[i + before];
+    return at;
+}
+
+/* Where the atom stands in the part, or for OUTSIDE the first that is outside the reach; 0 where none does. */
+static size_t find(const struct order *o, size_t clause, enum part part, int atom)
+{
+    for (size_t i = part_start(o, clause, part); i < part_start(o, clause, part + 1); i++)
+        if (o->marks[i] && (atom == OUTSIDE ? !o->reach[o->table[i]] : o->table[i] == atom))
+            return i;
+    return 0;
+}
+
+static void find_reach(struct order *o)
+{
+    memset(o->reach, 0, sizeof o->reach);
+    for (int more = 1; more;) {
+        more = 0;
+        for (size_t c = 0; c < o->table[1]; c++)
+            if (o->marks[o->start[c]] && !find(o, c, POSITIVE, OUTSIDE))
+                for (size_t i = part_start(o, c, HEAD); i < part_start(o, c, POSITIVE); i++)
+                    if (!o->reach[o->table[i]])
+                        o->reach[o->table[i]] = (uint8_t)(more = 1);
+    }
+}
+
+static void put_atom(struct order *o, const char *before, int atom, const char *after)
+{
+    put_literal(&o->explanation, o, before, o->program.atom[atom], after);
+}
+
+static void put_numbered(struct order *o, size_t clause)
+{
+    putf(&o->explanation, "clause %zu, `", clause);
+    put_clause(&o->explanation, o, clause, SHOWN);
+    putf(&o->explanation, "`");
+}
+
+static void put_heads_denied(struct order *o, size_t clause)
+{
+    size_t first = part_start(o, clause, HEAD), end = part_start(o, clause, POSITIVE);
+    for (size_t i = first; i < end; i++)
+        put_atom(o, i == first ? "`not " : i + 1 == end ? " and `not " : ", `not ", o->table[i], "`");
+}
+
+/* How an atom outside the reach rests on others outside it: every clause that gives it needs one. */
+static void put_circle(struct order *o, int atom)
+{
+    int seen[LINKS + 1] = {atom};
+    for (int links = 0; links < LINKS; links++) {
+        size_t c = 0, next;
+        while (c < o->table[1] && !(o->marks[o->start[c]] && find(o, c, HEAD, seen[links])))
+            c++;
+        if (c == o->table[1] || !(next = find(o, c, POSITIVE, OUTSIDE)))
+            return;
+        seen[links + 1] = o->table[next];
+        put_atom(o, links ? ", `" : ": `", seen[links], "` needs `");
+        put_atom(o, "", seen[links + 1], "`");
+        for (int i = 0; i <= links; i++)
+            if (seen[i] == seen[links + 1])
+                return;
+    }
+    putf(&o->explanation, " and so on");
+}
+
+/* How many atoms the clause has. */
+static size_t size_of(const struct order *o, size_t clause)
+{
+    size_t size = 0;
+    for (size_t i = part_start(o, clause, HEAD); i < part_start(o, clause, END); i++)
+        size += o->marks[i];
+    return size;
+}
+
+static void put_sentence(struct order *o, const char *c, size_t target, size_t partner, int atom)
+{
+    put_numbered(o, target);
+    putf(&o->explanation, ": ");
+    for (; *c; c++) {
+        if (*c != '@')
+            put(&o->explanation, c, 1);
+        else if (*++c == 'a')
+            put_atom(o, "", atom, "");
+        else if (*c == 'n')
+            putf(&o->explanation, "%zu", partner);
+        else if (*c == 'p')
+            put_numbered(o, partner);
+        else if (*c == 'h')
+            put_heads_denied(o, partner);
+        else if (*c == 'c')
+            put_circle(o, atom);
+        else
+            putf(&o->explanation, size_of(o, target) == size_of(o, partner) ? "says the same" : "already covers it");
+    }
+    putf(&o->explanation, "\n");
+}
+
+void explain(struct order *o)
+{
+    int known = 0; /* whether the reach is that of the marks */
+    memset(o->marks, 1, sizeof o->marks);
+    for (const uint16_t *step = o->list; step < o->list + 4 * o->steps; step += 4) {
+        unsigned kind = step[0], success = kind == GAMBROLT_SUCCESS;
+        size_t head = part_start(o, step[2], HEAD), gone = o->start[step[1]];
+        int atom = success ? o->table[head] : step[3];
+        int empty = kind == GAMBROLT_BLOCKED && head == part_start(o, step[2], POSITIVE);
+        if (kind == GAMBROLT_LOOP && !known)
+            find_reach(o);
+        put_sentence(o, kinds[empty ? 0 : kind].sentence, step[1], step[2], atom);
+        if (success || kind == GAMBROLT_NO_HEAD)
+            gone = find(o, step[1], success ? POSITIVE : NEGATIVE, atom);
+        o->marks[gone] = 0;
+        /* a clause that needs an atom outside the reach adds nothing to it, nor does a literal that holds */
+        known = kind == GAMBROLT_LOOP ||
+                (known && (success || kind == GAMBROLT_NO_HEAD || kind == GAMBROLT_FAILURE));
+    }
+}
+
+/* ---- Figures ---- */
+
+/* The clauses, the body literals, and the atoms that some clause has. */
+static void measure(const uint16_t *table, size_t words, unsigned size[3])
+{
+    char met[GAMBROLT_MAX_ATOMS] = {0};
+    size[0] = table[1];
+    for (size_t i = 2; i < words; i = clause_end(table, i)) {
+        size[1] += table[i + 1] + table[i + 2];
+        for (size_t k = i + 3; k < clause_end(table, i); k++) {
+            size[2] += !met[table[k]];
+            met[table[k]] = 1;
+        }
+    }
+}
+
+void put_statistics(struct order *o, int json)
+{
+    static const char *const sizes[] = {"clauses", "body literals", "atoms"};
+    static const char *const times[] = {"reading", "reducing", "checking"};
+    unsigned before[3] = {0}, after[3] = {0}, steps[KINDS] = {0};
+    struct buffer *b = &o->notes;
+    measure(o->table, o->words, before);
+    measure(o->reduced, o->reduced_words, after);
+    for (size_t s = 0; s < o->steps; s++)
+        steps[o->list[4 * s]]++;
+
+    putf(b, json ? "{\"reduced\": true,\n" : "%-16s %8s %8s\n", "", "before", "after");
+    for (int i = 0; i < 3; i++)
+        putf(b, json ? " \"%s\": {\"before\": %u, \"after\": %u},\n" : "%-16s %8u %8u\n",
+             json && i == 1 ? "literals" : sizes[i], before[i], after[i]);
+    putf(b, json ? " \"%s\": {\"all\": %zu" : "%-16s %8zu\n", "steps", o->steps);
+    for (int k = 1; k < KINDS; k++)
+        if (json)
+            putf(b, ", \"%s\": %u", kinds[k].name, steps[k]);
+        else
+            putf(b, "  %d %-13s%8u\n", k, kinds[k].name, steps[k]);
+    for (int i = 0; i < 3; i++)
+        putf(b, json ? "%s\"%s\": %.6f" : "%s%-16s %8.3f s\n", !json ? "" : i ? ", " : "},\n \"seconds\": {",
+             times[i], o->seconds[i]);
+    putf(b, json ? "}}\n" : "");
+}

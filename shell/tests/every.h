@@ -1,0 +1,47 @@
+/*
+ * every.h - one input in every form, for damage.c and fuzz.c. What may happen: a program is written, or nothing is written
+ * and the fault is one line that names a line of the input.
+ */
+#include "shell.h"
+
+#include <stdlib.h>
+#include <string.h>
+
+static const struct options every[] = {
+    {.explain = 1, .stats = 1},
+    {.to_lp = 1, .stats = 1, .json = 1},
+    {.no_reduce = 1, .pass_through = 1},
+    {.text = 1, .steps = 1}};
+
+/* A sound order, to be read with names from anything. */
+static const char sound[] = "asp 1 0 0\n1 0 2 1 2 0 0\n1 0 1 3 0 3 1 2 -4\n1 0 1 4 0 2 4 -3\n1 0 0 0 1 -3\n4 1 b 1 2\n0\n";
+static const struct options named = {.to_lp = 1, .explain = 1, .names = 1};
+
+/* Makes the order all zeros again. */
+static void reset(struct order *o)
+{
+    struct buffer *const all[] = {&o->bytes, &o->ground, &o->output, &o->explanation, &o->notes, &o->statements, &o->numbers};
+    for (size_t i = 0; i < sizeof all / sizeof *all; i++)
+        free(all[i]->at);
+    memset(o, 0, sizeof *o);
+}
+
+/* The number of forms that are refused, or -1 where something else happens. The order `o`, all zeros, is used for all. */
+static int try_every(struct order *o, const char *bytes, size_t len)
+{
+    int refused = 0;
+    for (size_t i = 0; i < sizeof every / sizeof *every; i++) {
+        put(&o->bytes, bytes, len);
+        int answer = run(o, &every[i]);
+        if (answer ? o->output.len > 0 || strncmp(o->fault, "line ", 5) != 0 : o->output.len == 0)
+            return -1;
+        refused += answer != 0;
+        reset(o);
+    }
+    put(&o->bytes, sound, sizeof sound - 1);
+    put(&o->ground, bytes, len);
+    if (run(o, &named))
+        return -1;
+    reset(o);
+    return refused;
+}
