@@ -1,12 +1,13 @@
 -- The state in which the reducer begins: every step is open.
 use mathlib.Core.Path.{_≡_, refl, sym, ap, subst, _∙_}
 use mathlib.Core.Logic.{_≢_, by-cases}
+use mathlib.Core.Bool.{So, false≢true}
 use mathlib.Core.List.{List}
 use Prim.Native.Nat.{ℕ, _+_, _*_, _≤_, _<_}
 use native.Mathlib.Omega.{arith}
 use native.Mathlib.Decide.{decLt}
 use lib.ListN.{length, getD, replicate, length-replicate, getD-replicate, List·getD-eq-default}
-use Rattle.rewriting.specs.Steps.{Kind, tautology, contradiction, success, noHead, blocked, failure, loop, subsumed, number, Step}
+use Rattle.rewriting.specs.Steps.{Kind, tautology, contradiction, success, noHead, blocked, failure, loop, subsumed, number, usesPartner, Step}
 use Rattle.rewriting.proofs.Quiet.{Quiet, key, quiet-all}
 use Rattle.table.specs.View.{view}
 use Rattle.parts.specs.Parts.{Ready}
@@ -41,7 +42,7 @@ kept : (a b : List ℕ) (row top : ℕ) → row ≤ 16 → top ≤ 2048 → Grow
 kept a b row top x y g f i l e = f i l (g row i x (omega arith) e)
 
 module _ (m : ℕ) (l0 l1 l2 l3 l4 l5 l6 l7 l8 : List ℕ) (z : l0 ≡ replicate 34850 0) (few : m ≤ 2048)
-    (r1 : Raising l0 l1 0 1 × (flags l1 0 0 ≢ 0)) (r2 : Raising l1 l2 1 m × AllFlagged l2 1 m) (r3 : Raising l2 l3 2 m × AllFlagged l3 2 m)
+    (r1 : Raising l0 l1 0 1 × ((flags l1 0 0 ≢ 0) × (flags l1 0 0 ≤ 1))) (r2 : Raising l1 l2 1 m × AllFlagged l2 1 m) (r3 : Raising l2 l3 2 m × AllFlagged l3 2 m)
     (r4 : Raising l3 l4 11 2048 × AllFlagged l4 11 2048) (r5 : Raising l4 l5 12 2048 × AllFlagged l5 12 2048) (r6 : Raising l5 l6 13 2048 × AllFlagged l6 13 2048)
     (r7 : Raising l6 l7 14 2048 × AllFlagged l7 14 2048) (r8 : Raising l7 l8 16 2048 × AllFlagged l8 16 2048) where
   after6 : Grown l6 l8
@@ -71,7 +72,7 @@ module _ (m : ℕ) (l0 l1 l2 l3 l4 l5 l6 l7 l8 : List ℕ) (z : l0 ≡ replicate
   pub all-open : AllOpen l8 m
   all-open = record {
     rows = r8 .0 .rows m (λ a b. absurd (omega arith)) (r7 .0 .rows m (λ a b. absurd (omega arith)) rows6);
-    reach = λ e. r1 .1 (after1 0 0 (omega arith) (omega arith) e);
+    reach = λ e. r1 .1 .0 (after1 0 0 (omega arith) (omega arith) e);
     tautology = kept l2 l8 1 m (omega arith) few after2 (r2 .1);
     contradiction = kept l3 l8 2 m (omega arith) few after3 (r3 .1);
     partner = λ t l. record {
@@ -96,8 +97,19 @@ state-begun ws ms start hs rs may r h a b o = record {
   rows = o .rows;
   reached = λ q. absurd (o .reach q);
   quiet = go;
+  least = λ k p u e f h. absurd (fresh k p (key u) (key-lt ws ms (r .placed .passed) u h) f);
 }
   where
+    fresh : (k : Kind) → So (usesPartner k) → (x : ℕ) → x < 2048 → flags may (8 + number k) x ≢ 0
+    fresh success p x l = o .partner x l .success
+    fresh blocked p x l = o .partner x l .blocked
+    fresh subsumed p x l = o .partner x l .subsumed
+    fresh tautology p x l = absurd (false≢true p)
+    fresh contradiction p x l = absurd (false≢true p)
+    fresh noHead p x l = absurd (false≢true p)
+    fresh failure p x l = absurd (false≢true p)
+    fresh loop p x l = absurd (false≢true p)
+
     by-key : (k : Kind) → ((x : ℕ) → x < 2048 → flags may (8 + number k) x ≢ 0) → Quiet (getD ws 0 0) (view ws ms) k (flags may (number k)) (flags may (8 + number k))
     by-key k f = record { calm = λ u e m x y. f (key u) (key-lt ws ms (r .placed .passed) u y) x }
 
@@ -105,8 +117,8 @@ state-begun ws ms start hs rs may r h a b o = record {
     go tautology e = quiet-all (getD ws 0 0) (view ws ms) tautology (flags may 1) (flags may 9) (λ u x. o .tautology (u .target) (target-lt ws ms u x))
     go contradiction e = quiet-all (getD ws 0 0) (view ws ms) contradiction (flags may 2) (flags may 10) (λ u x. o .contradiction (u .target) (target-lt ws ms u x))
     go loop e = absurd (o .reach (e refl))
-    go success e = by-key success (λ x l. o .partner x l .success)
-    go blocked e = by-key blocked (λ x l. o .partner x l .blocked)
-    go subsumed e = by-key subsumed (λ x l. o .partner x l .subsumed)
+    go success e = by-key success (fresh success refl)
+    go blocked e = by-key blocked (fresh blocked refl)
+    go subsumed e = by-key subsumed (fresh subsumed refl)
     go noHead e = by-key noHead (λ x l. o .atom x l .noHead)
     go failure e = by-key failure (λ x l. o .atom x l .failure)

@@ -25,7 +25,7 @@ use Rattle.table.proofs.View.{view-after, length-after, length-view}
 use Rattle.reach.specs.Bytes.{inBytes, Reached}
 use Rattle.conditions.specs.Known.{headCount, Heads, Tallied}
 use Rattle.search.specs.Flags.{flags, Grown, Rows}
-use Rattle.search.specs.State.{State}
+use Rattle.search.specs.State.{State, Least}
 use Rattle.search.proofs.States.{target-lt, key-lt}
 use Rattle.reducer.specs.Opened.{Opened, PartnerFresh, AtomFresh, AllFresh, Lost}
 
@@ -63,6 +63,17 @@ module _ (ws ms start hs rs may : List ℕ) (z : State ws ms start hs rs may) (s
         (λ p. o u e p x) (opened n P s h u w);
   }
 
+  -- so do the flags' keys
+  least-on : (k : Kind) (may' : List ℕ) → Opened may may' → ((u : Step) → u .kind ≡ k → Opens P s u → flags may' (8 + number k) (key u) ≢ 0) → Least ws after k (flags may' (number k)) (flags may' (8 + number k))
+  least-on k may' w o p u e f v =
+      let a = subst (λ R. So (applies n R u)) is-effect v in
+      let t : u .target < 2048 = omega (arith, target-lt ws after u v, passed-limits ws (z .ready .placed .passed) .fewClauses) in
+      let g = w .grown (8 + number k) (key u) (omega (arith, number-bounds k)) (key-lt ws after (z .ready .placed .passed) u v) f in
+      ⊎-elim
+      (λ y. let x = z .least k p u e g y in
+      let d = w .lower (number k) (u .target) (omega (arith, number-bounds k)) t (λ m. z .quiet k (λ l. absurd (false≢true (subst (λ j. So (usesPartner j)) l p))) .calm u e m g y) in omega arith)
+      (λ q. absurd (o u e q f)) (opened n P s h u a)
+
   pub ready-after : Rattle.parts.specs.Parts.Ready ws after start
   ready-after = record { placed = z .ready .placed; marks = omega (arith, z .ready .marks, length-after ws ms s) }
 
@@ -87,6 +98,7 @@ module _ (ws ms start hs rs may : List ℕ) (z : State ws ms start hs rs may) (s
       rows = o .rows (getD ws 1 0) (z .rows);
       reached = λ e. record { is = λ a. z .reached (reach-up e) .is a ∙ reach-same a };
       quiet = λ k e. quiet-on k (flags may (number k)) (flags may (8 + number k)) (flags may' (number k)) (flags may' (8 + number k)) (z .quiet k (λ q. reach-up (e q))) (flags-up k) (keys-up k) (only k);
+      least = λ k. least-on k may' o (only k);
     }
       where
         heads-same : (a : ℕ) → headCount (left (view ws after)) a ≡ headCount (left P) a
@@ -123,6 +135,7 @@ module _ (ws ms start hs rs may : List ℕ) (z : State ws ms start hs rs may) (s
       rows = o .rows (getD ws 1 0) (z .rows);
       reached = λ e. record { is = λ a. z .reached (reach-up e) .is a ∙ reach-same (t e) a };
       quiet = λ k e. quiet-on k (flags may (number k)) (flags may (8 + number k)) (flags may' (number k)) (flags may' (8 + number k)) (z .quiet k (λ q. reach-up (e q))) (flags-up k) (keys-up k) (only k e);
+      least = λ k p. least-on k may' o (λ u e q. only k (λ l. absurd (false≢true (subst (λ j. So (usesPartner j)) l p))) u e q) p;
     }
       where
         heads-less : (a : ℕ) → getD hs' a 0 ≡ headCount (left (view ws after)) a

@@ -25,6 +25,7 @@ use Rattle.reducer.specs.Reductions.{room, stepsOf, wordsOf}
 pub record Opened (may may' : List ℕ) : Type 0 where
   pub long : length may' ≡ length may
   pub grown : Grown may may'
+  pub lower : (r i : ℕ) → r ≤ 16 → i < 2048 → flags may r i ≢ 0 → flags may' r i ≤ flags may r i
   pub rows : (m : ℕ) → Rows m may → Rows m may'
 
 -- The clause is a fresh key of kinds 3, 5 and 8.

@@ -58,9 +58,9 @@ fn open_partner(may: &mut [u16], t: usize)
     requires { ⌜ (t < 2048) × (length (now may) ≡ 34850) ⌝ }
     ensures { λ _. ⌜ Opened (now (may .entry)) (now (may .exit)) × PartnerFresh (now (may .exit)) t ⌝ }
 {
-    search::flag(may, 11, t);
-    search::flag(may, 13, t);
-    search::flag(may, 16, t);
+    search::flag(may, 11, t, 0);
+    search::flag(may, 13, t, 0);
+    search::flag(may, 16, t, 0);
 }
 
 // An atom lost a head: it is a fresh key of kinds 4 and 6.
@@ -68,8 +68,8 @@ fn open_atom(may: &mut [u16], atom: usize)
     requires { ⌜ (atom < 2048) × (length (now may) ≡ 34850) ⌝ }
     ensures { λ _. ⌜ Opened (now (may .entry)) (now (may .exit)) × AtomFresh (now (may .exit)) atom ⌝ }
 {
-    search::flag(may, 12, atom);
-    search::flag(may, 14, atom);
+    search::flag(may, 12, atom, 0);
+    search::flag(may, 14, atom, 0);
 }
 
 // So is every head atom of a clause that was deleted.
@@ -145,7 +145,7 @@ fn lose_reach(
     if has_twin(words, marks, start, step) {
         return;
     }
-    search::flag(may, 0, 0);
+    search::flag(may, 0, 0, 0);
 }
 
 // Kinds 3 and 4: a literal is dropped.
@@ -255,7 +255,7 @@ fn flag_kinds(may: &mut [u16], m: usize)
     requires { ⌜ (now may ≡ replicate 34850 0) × (m ≤ 2048) ⌝ }
     ensures { λ _. ⌜ AllOpen (now (may .exit)) m ⌝ }
 {
-    search::flag(may, 0, 0);
+    search::flag(may, 0, 0, 0);
     search::flag_all(may, 1, m);
     search::flag_all(may, 2, m);
     search::flag_all(may, 11, 2048);

@@ -15,6 +15,7 @@ use Rattle.semantics.proofs.Tests.{and-iff, mem-iff, within-iff, not-so}
 use Rattle.rewriting.specs.Marked.{Marked, entry, left}
 use Rattle.rewriting.specs.Steps.{Kind, tautology, contradiction, success, noHead, blocked, failure, loop, subsumed, Step, step, kindOf, usesPartner, usesAtom, fact, single, inNoHead, condition, conditionHolds, applies}
 use Rattle.rewriting.proofs.Sound.{applies-ask}
+use Rattle.rewriting.proofs.Order.{atom-alone}
 use Rattle.rewriting.proofs.Quiet.{key}
 use Rattle.table.specs.Questions.{Passed}
 use Rattle.table.specs.View.{view}
@@ -28,7 +29,7 @@ use Rattle.conditions.specs.Known.{Heads}
 use Rattle.search.specs.Flags.{flags, Raising}
 use Rattle.search.specs.Kinds.{PartnerKind, HeadsKind, walkedPart, targetPart}
 use Rattle.search.specs.State.{Clue, NoPartner, Spread, KeySpread}
-use Rattle.search.proofs.Flags.{raising-none, raising-more, raising-keeps}
+use Rattle.search.proofs.Flags.{raising-none, raising-more, raising-below}
 use Rattle.search.proofs.States.{target-lt}
 use Rattle.search.proofs.Spreads.{by-partner, by-atom}
 use Rattle.search.proofs.Walks.{bare-test}
@@ -110,7 +111,7 @@ spread-headed ws ms hs may kind a k h e = record {
 pub record Along (ws ms start may may' : List ℕ) (kind p atom : ℕ) (x : Part) (a i : ℕ) : Type 0 where
   pub raising : Raising may may' kind (getD ws 1 0)
   pub here : 0 < i → Stands ws x a (getD start (ownerAt i) 0) i
-  pub done : (t j : ℕ) → Stands ws x a t j → i < j → So (condition (kindOf kind) (left (view ws ms)) (entry (view ws ms) t .clause) (entry (view ws ms) p .clause) atom) → flags may' kind t ≢ 0
+  pub done : (t j : ℕ) → Stands ws x a t j → i < j → So (condition (kindOf kind) (left (view ws ms)) (entry (view ws ms) t .clause) (entry (view ws ms) p .clause) atom) → (flags may' kind t ≢ 0) × (flags may' kind t ≤ p + 1)
 
 pub along-none : (ws ms start may : List ℕ) (kind p atom : ℕ) (x : Part) (a i : ℕ) → Passed ws → Latest ws start x a (length ws) i → Along ws ms start may may kind p atom x a i
 along-none ws ms start may kind p atom x a i q l = record {
@@ -127,7 +128,7 @@ module _ (ws ms start may may' : List ℕ) (kind p atom : ℕ) (x : Part) (a i :
   holds t = condition (kindOf kind) (left (view ws ms)) (entry (view ws ms) t .clause) (entry (view ws ms) p .clause) atom
 
   pub along-on : 0 < i → kind ≤ 16 → (k : ℕ) → ((y : Part) (b t : ℕ) → Stands ws y b t i → Latest ws start y b i k) → (may'' : List ℕ) (t : ℕ) → t ≡ getD start (ownerAt i) 0
-      → Raising may' may'' kind (t + 1) → (So (holds t) → flags may'' kind t ≢ 0) → Along ws ms start may may'' kind p atom x a k
+      → Raising may' may'' kind (t + 1) → (So (holds t) → (flags may'' kind t ≢ 0) × (flags may'' kind t ≤ p + 1)) → Along ws ms start may may'' kind p atom x a k
   along-on h b k l may'' t e g f =
       let s = w .here h in
       let q = l x a (getD start (ownerAt i) 0) s in
@@ -135,9 +136,9 @@ module _ (ws ms start may may' : List ℕ) (kind p atom : ℕ) (x : Part) (a i :
         raising = raising-more may may' may'' kind (getD ws 1 0) (t + 1) (getD ws 1 0) (omega arith) (omega (arith, s .clause)) (w .raising) g;
         here = λ z. q .some z .1;
         done = λ u j y z c. by-cases (decLt i j)
-            (λ v. raising-keeps may' may'' kind (t + 1) g kind u b (stands-small pass y .3) (w .done u j y v c))
+            (λ v. raising-below may' may'' kind (t + 1) g kind u (p + 1) b (stands-small pass y .3) (w .done u j y v c))
             (λ v. by-cases (ℕ-discrete j i)
-            (λ d. let r : u ≡ t = stands-clause (subst (λ j. Stands ws x a u j) d y) s ∙ sym e in subst (λ i. flags may'' kind i ≢ 0) (sym r) (f (subst (λ i. So (holds i)) r c)))
+            (λ d. let r : u ≡ t = stands-clause (subst (λ j. Stands ws x a u j) d y) s ∙ sym e in subst (λ i. (flags may'' kind i ≢ 0) × (flags may'' kind i ≤ p + 1)) (sym r) (f (subst (λ i. So (holds i)) r c)))
             (λ d. absurd (q .none u j y z (omega arith))));
       }
 
@@ -155,7 +156,7 @@ module _ (ws ms may may' : List ℕ) (kind x : ℕ) where
   pub key-atom : So (usesAtom (kindOf kind)) → Spread ws ms may may' kind 0 x → KeySpread ws ms may may' kind x
   key-atom p s = record {
     raising = s .raising;
-    flagged = λ u e d h. s .flagged (u .target) (subst (λ y. So (applies (getD ws 0 0) (view ws ms) (step (kindOf kind) (u .target) 0 y))) d (by-atom (getD ws 0 0) (view ws ms) u (kindOf kind) e h p));
+    flagged = λ u e d h. (s .flagged (u .target) (subst (λ y. So (applies (getD ws 0 0) (view ws ms) (step (kindOf kind) (u .target) 0 y))) d (by-atom (getD ws 0 0) (view ws ms) u (kindOf kind) e h p)) .0, λ q. absurd (false≢true (sym (atom-alone (kindOf kind) p) ∙ q)));
   }
 
 module _ (ws ms may : List ℕ) (kind x : ℕ) where

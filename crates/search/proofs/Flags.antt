@@ -32,11 +32,14 @@ module _ (may : List ℕ) (row t end : ℕ) (w : Inside may row t end) where
 
 -- ---- a flag less
 
+pub flag-cleared : (may : List ℕ) (i j : ℕ) → j ≡ i → getD (set may i 0) j 0 ≡ 0
+flag-cleared may i j e = by-cases (decLt i (length may)) (λ k. ap (λ j. getD (set may i 0) j 0) e ∙ getD-set-same may i 0 0 k)
+    (λ k. List·getD-eq-default (set may i 0) 0 (let q : length (set may i 0) ≡ length may = simp length-set in omega arith))
+
 module _ (may : List ℕ) (row t : ℕ) (a : row ≤ 16) (l : t < 2048) where
   pub less-flags : (r i : ℕ) → flags may r i ≡ 0 → flags (set may (row * 2048 + t) 0) r i ≡ 0
   less-flags r i e = by-cases (ℕ-discrete (r * 2048 + i) (row * 2048 + t))
-      (λ d. by-cases (decLt (row * 2048 + t) (length may)) (λ k. ap (λ j. getD (set may (row * 2048 + t) 0) j 0) d ∙ getD-set-same may (row * 2048 + t) 0 0 k)
-      (λ k. ap (λ j. getD (set may (row * 2048 + t) 0) j 0) d ∙ List·getD-eq-default (set may (row * 2048 + t) 0) 0 (let q : length (set may (row * 2048 + t) 0) ≡ length may = simp length-set in omega arith)))
+      (flag-cleared may (row * 2048 + t) (r * 2048 + i))
       (λ d. getD-set-other may (row * 2048 + t) (r * 2048 + i) 0 0 d ∙ e)
 
   bounds-same : (j : ℕ) → 34816 ≤ j → getD (set may (row * 2048 + t) 0) j 0 ≡ getD may j 0
@@ -53,9 +56,9 @@ module _ (may : List ℕ) (row t : ℕ) (a : row ≤ 16) (l : t < 2048) where
 
 -- ---- a flag more, and bounds that hold it
 
-module _ (may : List ℕ) (row i x y : ℕ) (hr : row ≤ 16) (hi : i < 2048) (long : length may ≡ 34850) where
+module _ (may : List ℕ) (row i v x y : ℕ) (hr : row ≤ 16) (hi : i < 2048) (long : length may ≡ 34850) (pos : 0 < v) where
   abbrev one : List ℕ
-  one = set may (row * 2048 + i) 1
+  one = set may (row * 2048 + i) v
 
   abbrev after : List ℕ
   after = set (set one (34816 + row) x) (34833 + row) y
@@ -63,14 +66,14 @@ module _ (may : List ℕ) (row i x y : ℕ) (hr : row ≤ 16) (hi : i < 2048) (l
   flags-one : (r j : ℕ) → r ≤ 16 → j < 2048 → flags after r j ≡ flags one r j
   flags-one r j a b = getD-set-other (set one (34816 + row) x) (34833 + row) (r * 2048 + j) y 0 (λ e. omega arith) ∙ getD-set-other one (34816 + row) (r * 2048 + j) x 0 (λ e. omega arith)
 
-  flag-there : flags after row i ≡ 1
-  flag-there = flags-one row i hr hi ∙ getD-set-same may (row * 2048 + i) 1 0 (omega arith)
+  pub flag-there : flags after row i ≡ v
+  flag-there = flags-one row i hr hi ∙ getD-set-same may (row * 2048 + i) v 0 (omega arith)
 
   pub flag-set : flags after row i ≢ 0
   flag-set e = omega (arith, flag-there)
 
   flags-other : (r j : ℕ) → r ≤ 16 → j < 2048 → r * 2048 + j ≢ row * 2048 + i → flags after r j ≡ flags may r j
-  flags-other r j a b d = flags-one r j a b ∙ getD-set-other may (row * 2048 + i) (r * 2048 + j) 1 0 d
+  flags-other r j a b d = flags-one r j a b ∙ getD-set-other may (row * 2048 + i) (r * 2048 + j) v 0 d
 
   lowest-here : lowest after row ≡ x
   lowest-here = getD-set-other (set one (34816 + row) x) (34833 + row) (34816 + row) y 0 (λ e. omega arith) ∙ getD-set-same one (34816 + row) x 0 (let q : length one ≡ length may = simp length-set in omega arith)
@@ -79,12 +82,12 @@ module _ (may : List ℕ) (row i x y : ℕ) (hr : row ≤ 16) (hi : i < 2048) (l
   highest-here = getD-set-same (set one (34816 + row) x) (34833 + row) y 0 (let q : length (set one (34816 + row) x) ≡ length may = simp length-set in omega arith)
 
   lowest-other : (r : ℕ) → r ≤ 16 → r ≢ row → lowest after r ≡ lowest may r
-  lowest-other r a d = getD-set-other (set one (34816 + row) x) (34833 + row) (34816 + r) y 0 (λ e. omega arith) ∙ getD-set-other one (34816 + row) (34816 + r) x 0 (λ e. d (omega arith)) ∙ getD-set-other may (row * 2048 + i) (34816 + r) 1 0 (λ e. omega arith)
+  lowest-other r a d = getD-set-other (set one (34816 + row) x) (34833 + row) (34816 + r) y 0 (λ e. omega arith) ∙ getD-set-other one (34816 + row) (34816 + r) x 0 (λ e. d (omega arith)) ∙ getD-set-other may (row * 2048 + i) (34816 + r) v 0 (λ e. omega arith)
 
   highest-other : (r : ℕ) → r ≤ 16 → r ≢ row → highest after r ≡ highest may r
-  highest-other r a d = getD-set-other (set one (34816 + row) x) (34833 + row) (34833 + r) y 0 (λ e. d (omega arith)) ∙ getD-set-other one (34816 + row) (34833 + r) x 0 (λ e. omega arith) ∙ getD-set-other may (row * 2048 + i) (34833 + r) 1 0 (λ e. omega arith)
+  highest-other r a d = getD-set-other (set one (34816 + row) x) (34833 + row) (34833 + r) y 0 (λ e. d (omega arith)) ∙ getD-set-other one (34816 + row) (34833 + r) x 0 (λ e. omega arith) ∙ getD-set-other may (row * 2048 + i) (34833 + r) v 0 (λ e. omega arith)
 
-  module _ (xi : x ≤ i) (xl : x ≤ lowest may row) (iy : i + 1 ≤ y) (hy : highest may row ≤ y) (o : (y ≡ i + 1) ⊎ (y ≡ highest may row)) where
+  module _ (xi : x ≤ i) (xl : x ≤ lowest may row) (iy : i + 1 ≤ y) (hy : highest may row ≤ y) (o : (y ≡ i + 1) ⊎ (y ≡ highest may row)) (less : flags may row i ≢ 0 → v ≤ flags may row i) where
     flag-rows : (m : ℕ) → (1 ≤ row → row ≤ 8 → i + 1 ≤ m) → Rows m may → Rows m after
     flag-rows m h w = record {
       long = simp length-set (w .long);
@@ -115,22 +118,31 @@ module _ (may : List ℕ) (row i x y : ℕ) (hr : row ≤ 16) (hi : i < 2048) (l
       grown = λ r j a b e. by-cases (ℕ-discrete (r * 2048 + j) (row * 2048 + i))
           (λ d. absurd (flag-set (ap (λ k. getD after k 0) (sym d) ∙ e)))
           (λ d. sym (flags-other r j a b d) ∙ e);
+      lower = λ r j a b f. by-cases (ℕ-discrete (r * 2048 + j) (row * 2048 + i))
+          (λ d. let q : getD after (r * 2048 + j) 0 ≡ v = ap (λ k. getD after k 0) d ∙ flag-there in
+          let w : getD may (r * 2048 + j) 0 ≡ getD may (row * 2048 + i) 0 = ap (λ k. getD may k 0) d in
+          let z = less (λ e. f (w ∙ e)) in omega (arith, q, w, z))
+          (λ d. omega (arith, flags-other r j a b d));
       frame = λ r j a b d. flags-other r j a b (apart r row j i b hi d);
       rows = flag-rows;
     }
 
 pub raising-none : (may : List ℕ) (row top : ℕ) → Raising may may row top
-raising-none may row top = record { long = refl; grown = λ r i a b e. e; frame = λ r i a b d. refl; rows = λ m h w. w }
+raising-none may row top = record { long = refl; grown = λ r i a b e. e; lower = λ r i a b f. omega arith; frame = λ r i a b d. refl; rows = λ m h w. w }
 
 pub raising-more : (one two three : List ℕ) (row x y z : ℕ) → x ≤ z → y ≤ z → Raising one two row x → Raising two three row y → Raising one three row z
 raising-more one two three row x y z a b p q = record {
   long = q .long ∙ p .long;
   grown = λ r i c d e. p .grown r i c d (q .grown r i c d e);
+  lower = λ r i c d f. let s = p .lower r i c d f in let t = q .lower r i c d (λ e. f (p .grown r i c d e)) in omega arith;
   frame = λ r i c d e. q .frame r i c d e ∙ p .frame r i c d e;
   rows = λ m h w. q .rows m (λ c d. let k = h c d in omega arith) (p .rows m (λ c d. let k = h c d in omega arith) w);
 }
 
 -- those that were set stay
+pub raising-below : (may may' : List ℕ) (row top : ℕ) → Raising may may' row top → (r i k : ℕ) → r ≤ 16 → i < 2048 → (flags may r i ≢ 0) × (flags may r i ≤ k) → (flags may' r i ≢ 0) × (flags may' r i ≤ k)
+raising-below may may' row top g r i k a b f = ((λ e. f .0 (g .grown r i a b e)), (let l = g .lower r i a b (f .0) in omega (arith, f .1)))
+
 pub raising-keeps : (may may' : List ℕ) (row top : ℕ) → Raising may may' row top → (r i : ℕ) → r ≤ 16 → i < 2048 → flags may r i ≢ 0 → flags may' r i ≢ 0
 raising-keeps may may' row top g r i a b f e = f (g .grown r i a b e)
 

@@ -20,7 +20,7 @@ use Rattle.table.specs.View.{view}
 use Rattle.table.proofs.View.{length-view}
 use Rattle.search.specs.Flags.{flags, Grown, Raising, AllFlagged}
 use Rattle.search.specs.State.{Spread, KeySpread}
-use Rattle.search.proofs.Flags.{raising-none, raising-more, raising-keeps}
+use Rattle.search.proofs.Flags.{raising-none, raising-more, raising-below}
 use Rattle.search.proofs.States.{target-lt}
 
 -- ---- a step by its key
@@ -50,7 +50,7 @@ module _ (n : ℕ) (P : Marked) (u : Step) (k : Kind) (e : u .kind ≡ k) (h : S
 -- the targets below t are done
 pub record Spreading (ws ms may may' : List ℕ) (kind p a t : ℕ) : Type 0 where
   pub raising : Raising may may' kind (getD ws 1 0)
-  pub flagged : (j : ℕ) → j < t → So (condition (kindOf kind) (left (view ws ms)) (entry (view ws ms) j .clause) (entry (view ws ms) p .clause) a) → flags may' kind j ≢ 0
+  pub flagged : (j : ℕ) → j < t → So (condition (kindOf kind) (left (view ws ms)) (entry (view ws ms) j .clause) (entry (view ws ms) p .clause) a) → (flags may' kind j ≢ 0) × (flags may' kind j ≤ p + 1)
 
 pub spreading-none : (ws ms may : List ℕ) (kind p a : ℕ) → Spreading ws ms may may kind p a 0
 spreading-none ws ms may kind p a = record { raising = raising-none may kind (getD ws 1 0); flagged = λ j l. absurd (omega arith) }
@@ -65,11 +65,11 @@ module _ (ws ms may may' : List ℕ) (kind p a t : ℕ) (s : Spreading ws ms may
     flagged = λ j l h. by-cases (ℕ-discrete j t) (λ d. absurd (not-so e (subst (λ i. So (holds i)) d h))) (λ d. s .flagged j (omega arith) h);
   }
 
-  pub spreading-on : (may'' : List ℕ) → kind ≤ 16 → t < 2048 → t < getD ws 1 0 → Raising may' may'' kind (t + 1) → flags may'' kind t ≢ 0 → Spreading ws ms may may'' kind p a (t + 1)
+  pub spreading-on : (may'' : List ℕ) → kind ≤ 16 → t < 2048 → t < getD ws 1 0 → Raising may' may'' kind (t + 1) → (flags may'' kind t ≢ 0) × (flags may'' kind t ≤ p + 1) → Spreading ws ms may may'' kind p a (t + 1)
   spreading-on may'' b l h g f = record {
     raising = raising-more may may' may'' kind (getD ws 1 0) (t + 1) (getD ws 1 0) (omega arith) (omega arith) (s .raising) g;
-    flagged = λ j k q. by-cases (ℕ-discrete j t) (λ d. subst (λ i. flags may'' kind i ≢ 0) (sym d) f)
-        (λ d. raising-keeps may' may'' kind (t + 1) g kind j b (omega arith) (s .flagged j (omega arith) q));
+    flagged = λ j k q. by-cases (ℕ-discrete j t) (λ d. subst (λ i. (flags may'' kind i ≢ 0) × (flags may'' kind i ≤ p + 1)) (sym d) f)
+        (λ d. raising-below may' may'' kind (t + 1) g kind j (p + 1) b (omega arith) (s .flagged j (omega arith) q));
   }
 
   pub spreading-all : getD ws 1 0 ≤ t → Spread ws ms may may' kind p a
@@ -85,11 +85,11 @@ module _ (ws ms may may' : List ℕ) (kind x : ℕ) where
   pub key-partner : So (usesPartner (kindOf kind)) → Spread ws ms may may' kind x 0 → KeySpread ws ms may may' kind x
   key-partner p s = record {
     raising = s .raising;
-    flagged = λ u e d h. s .flagged (u .target) (subst (λ y. So (applies (getD ws 0 0) (view ws ms) (step (kindOf kind) (u .target) y 0))) d (by-partner (getD ws 0 0) (view ws ms) u (kindOf kind) e h p));
+    flagged = λ u e d h. let w = s .flagged (u .target) (subst (λ y. So (applies (getD ws 0 0) (view ws ms) (step (kindOf kind) (u .target) y 0))) d (by-partner (getD ws 0 0) (view ws ms) u (kindOf kind) e h p)) in (w .0, λ _. w .1);
   }
 
-  pub key-all : Raising may may' kind (getD ws 1 0) → AllFlagged may' kind (getD ws 1 0) → KeySpread ws ms may may' kind x
-  key-all g f = record { raising = g; flagged = λ u e d h. f (u .target) (target-lt ws ms u h) }
+  pub key-all : usesPartner (kindOf kind) ≡ false → Raising may may' kind (getD ws 1 0) → AllFlagged may' kind (getD ws 1 0) → KeySpread ws ms may may' kind x
+  key-all n g f = record { raising = g; flagged = λ u e d h. (f (u .target) (target-lt ws ms u h), λ p. absurd (false≢true (sym n ∙ p))) }
 
 -- a number that is no clause's is no partner
 pub key-none : (ws ms may : List ℕ) (kind x : ℕ) → So (usesPartner (kindOf kind)) → getD ws 1 0 ≤ x → KeySpread ws ms may may kind x

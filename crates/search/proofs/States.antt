@@ -32,7 +32,7 @@ use Rattle.search.specs.declared.Found.{Found}
 use Rattle.search.specs.declared.Found.the-variants.{One, Nothing}
 use Rattle.search.specs.Flags.{flags, highest, Inside, Rows, Raising, AllFlagged, Fenced}
 use Rattle.search.specs.Kinds.{PartnerKind, AtomKind, HeadsKind}
-use Rattle.search.specs.State.{foundOf, Arrays, Calm, Swept, KeySpread, KeyPassed, Settled, State, Prepared}
+use Rattle.search.specs.State.{foundOf, Arrays, Calm, Swept, KeySpread, KeyPassed, Settled, Least, State, Prepared}
 use Rattle.search.proofs.Fits.{kind-number}
 use Rattle.search.proofs.Flags.{apart, outside, rows-clear}
 
@@ -83,6 +83,10 @@ row-low k = omega (arith, number-bounds k)
 row-high : (k : Kind) → 8 + number k ≤ 16
 row-high k = omega (arith, number-bounds k)
 
+-- a kind with a partner is not the loop's
+partner-loop : (may : List ℕ) (k : Kind) → So (usesPartner k) → known k may
+partner-loop may k p e = absurd (false≢true (subst (λ j. So (usesPartner j)) e p))
+
 module _ (ws ms start hs rs may : List ℕ) (z : State ws ms start hs rs may) where
   pub few-clauses : getD ws 1 0 ≤ 2048
   few-clauses = passed-limits ws (z .ready .placed .passed) .fewClauses
@@ -100,12 +104,14 @@ module _ (ws ms start hs rs may : List ℕ) (z : State ws ms start hs rs may) wh
     quiet = quiet-same ws ms (z .ready .placed .passed) (kindOf kind) (flags may kind) (flags may (8 + kind)) (flags may kind) stale
         (subst (λ j. Quiet (getD ws 0 0) (view ws ms) (kindOf kind) (flags may j) (flags may (8 + j))) (kind-number kind a b) (z .quiet (kindOf kind) (λ e. h (seven kind a b e))))
         (λ i l e. e) (λ i l e. s i l);
+    least = λ p u e f h. subst (λ j. flags may j (u .target) ≤ key u + 1) (kind-number kind a b) (z .least (kindOf kind) p u e (subst (λ j. flags may (8 + j) (key u) ≡ 0) (sym (kind-number kind a b)) (s (key u) (key-lt ws ms (z .ready .placed .passed) u h))) h);
   }
 
   -- other flags of the same words and marks
   state-with : (may' : List ℕ) → Rows (getD ws 1 0) may' → (flags may' 0 0 ≡ 0 → flags may 0 0 ≡ 0)
-      → ((k : Kind) → known k may → Quiet (getD ws 0 0) (view ws ms) k (flags may (number k)) (flags may (8 + number k)) → Quiet (getD ws 0 0) (view ws ms) k (flags may' (number k)) (flags may' (8 + number k))) → State ws ms start hs rs may'
-  state-with may' r e q = record {
+      → ((k : Kind) → known k may → Quiet (getD ws 0 0) (view ws ms) k (flags may (number k)) (flags may (8 + number k)) → Quiet (getD ws 0 0) (view ws ms) k (flags may' (number k)) (flags may' (8 + number k)))
+      → ((k : Kind) → known k may → Least ws ms k (flags may' (number k)) (flags may' (8 + number k))) → State ws ms start hs rs may'
+  state-with may' r e q w = record {
     ready = z .ready;
     counted = z .counted;
     atoms = z .atoms;
@@ -113,7 +119,18 @@ module _ (ws ms start hs rs may : List ℕ) (z : State ws ms start hs rs may) wh
     rows = r;
     reached = λ h. z .reached (e h);
     quiet = λ k h. q k (λ x. e (h x)) (z .quiet k (λ x. e (h x)));
+    least = λ k p. w k (partner-loop may k p) p;
   }
+
+  -- a target that has a step with a key that is not fresh is flagged, so its flag can only have become less
+  least-at : (may' : List ℕ) (k : Kind) → known k may → ((i : ℕ) → i < 2048 → flags may (number k) i ≢ 0 → flags may' (number k) i ≤ flags may (number k) i) → ((i : ℕ) → i < 2048 → flags may' (8 + number k) i ≡ 0 → flags may (8 + number k) i ≡ 0)
+      → Least ws ms k (flags may' (number k)) (flags may' (8 + number k))
+  least-at may' k n a b p u e f h =
+      let t = target-lt ws ms u h in
+      let g = b (key u) (key-lt ws ms (z .ready .placed .passed) u h) f in
+      let y = z .least k p u e g h in
+      let x = a (u .target) (omega (arith, few-clauses)) (λ m. z .quiet k n .calm u e m g h) in
+      omega arith
 
   same-at : (may' : List ℕ) (k : Kind) → ((i : ℕ) → i < 2048 → flags may' (number k) i ≡ 0 → flags may (number k) i ≡ 0) → ((i : ℕ) → i < 2048 → flags may' (8 + number k) i ≡ 0 → flags may (8 + number k) i ≡ 0)
       → Quiet (getD ws 0 0) (view ws ms) k (flags may (number k)) (flags may (8 + number k)) → Quiet (getD ws 0 0) (view ws ms) k (flags may' (number k)) (flags may' (8 + number k))
@@ -123,11 +140,13 @@ module _ (ws ms start hs rs may : List ℕ) (z : State ws ms start hs rs may) wh
   pub state-raised : (may' : List ℕ) (row top : ℕ) → Raising may may' row top → (1 ≤ row → row ≤ 8 → top ≤ getD ws 1 0) → State ws ms start hs rs may'
   state-raised may' row top g h = state-with may' (g .rows (getD ws 1 0) h (z .rows)) (λ e. g .grown 0 0 (omega arith) (omega arith) e)
       (λ k _. same-at may' k (λ i l e. g .grown (number k) i (row-low k) l e) (λ i l e. g .grown (8 + number k) i (row-high k) l e))
+      (λ k n. least-at may' k n (λ i l f. g .lower (number k) i (row-low k) l f) (λ i l e. g .grown (8 + number k) i (row-high k) l e))
 
   -- after bounds were drawn closer
   pub state-fenced : (may' : List ℕ) (row low end : ℕ) → Fenced may may' row low end → Inside may row low end → end ≤ 2048 → (row ≤ 8 → end ≤ getD ws 1 0) → State ws ms start hs rs may'
   state-fenced may' row low end f n h g = state-with may' (f .rows (getD ws 1 0) (z .rows) n h g) (λ e. sym (f .same 0 0 (omega arith) (omega arith)) ∙ e)
       (λ k _. same-at may' k (λ i l e. sym (f .same (number k) i (row-low k) l) ∙ e) (λ i l e. sym (f .same (8 + number k) i (row-high k) l) ∙ e))
+      (λ k n. least-at may' k n (λ i l _. omega (arith, f .same (number k) i (row-low k) l)) (λ i l e. sym (f .same (8 + number k) i (row-high k) l) ∙ e))
 
   -- after a search
   pub state-swept : (may' : List ℕ) (kind : ℕ) → 1 ≤ kind → kind ≤ 8 → Swept ws ms may may' kind → State ws ms start hs rs may'
@@ -138,6 +157,10 @@ module _ (ws ms start hs rs may : List ℕ) (z : State ws ms start hs rs may) wh
       (flags may' (number k)) (flags may' (8 + number k)) (λ i e. e) (λ i e. refl))
       (λ d. same-at may' k (λ i l e. sym (s .frame (number k * 2048 + i) (aside (number k) i l d)) ∙ e)
       (λ i l e. sym (s .frame ((8 + number k) * 2048 + i) (aside (8 + number k) i l (λ x. omega (arith, number-bounds k)))) ∙ e) q))
+      (λ k n. by-cases (ℕ-discrete (number k) kind)
+      (λ e p u f g h. subst (λ j. flags may' j (u .target) ≤ key u + 1) (sym e) (s .calm .least (subst (λ j. So (usesPartner j)) (sym (ap kindOf (sym e) ∙ kindOf-number k)) p) u (f ∙ sym (ap kindOf (sym e) ∙ kindOf-number k)) refl h))
+      (λ d. least-at may' k n (λ i l _. omega (arith, s .frame (number k * 2048 + i) (aside (number k) i l d)))
+      (λ i l e. sym (s .frame ((8 + number k) * 2048 + i) (aside (8 + number k) i l (λ x. omega (arith, number-bounds k)))) ∙ e)))
     where
       aside : (r i : ℕ) → i < 2048 → r ≢ kind → (r * 2048 + i < kind * 2048) ⊎ (kind * 2048 + 2048 ≤ r * 2048 + i)
       aside r i l d = by-cases (decLt r kind) (λ x. inl (omega arith)) (λ x. inr (omega arith))
@@ -159,7 +182,7 @@ module _ (ws ms start hs rs may : List ℕ) (z : State ws ms start hs rs may) wh
         (quiet-spread (getD ws 0 0) (view ws ms) k (flags may' (number k)) (flags may' (8 + number k)) (raised k q) (flags may' (number k)) (flags gone (8 + number k)) x (λ i e. e)
         (λ i d h. by-cases (decLt i 2048) (λ j. sym (elsewhere (8 + number k) i j (inr d)) ∙ h)
         (λ j. sym (getD-set-other may' ((8 + kind) * 2048 + x) ((8 + number k) * 2048 + i) 0 0 (λ y. omega arith)) ∙ h))
-        (λ u f d h. subst (λ r. flags may' r (u .target) ≢ 0) (sym e) (s .flagged u (f ∙ sym (kindOf-number k) ∙ ap kindOf e) d h)))
+        (λ u f d h. subst (λ r. flags may' r (u .target) ≢ 0) (sym e) (s .flagged u (f ∙ sym (kindOf-number k) ∙ ap kindOf e) d h .0)))
         (λ i j h. sym (elsewhere (number k) i j (inl (λ y. omega (arith, number-bounds k)))) ∙ h) (λ i j h. h))
         (λ d. same-with k (raised k q) (λ i j h. sym (elsewhere (number k) i j (inl (λ y. omega (arith, number-bounds k)))) ∙ h) (λ i j h. sym (elsewhere (8 + number k) i j (inl (λ y. d (omega arith)))) ∙ h))
       where
@@ -170,10 +193,22 @@ module _ (ws ms start hs rs may : List ℕ) (z : State ws ms start hs rs may) wh
             → ((i : ℕ) → i < 2048 → flags gone (8 + number k) i ≡ 0 → flags may' (8 + number k) i ≡ 0) → Quiet (getD ws 0 0) (view ws ms) k (flags gone (number k)) (flags gone (8 + number k))
         same-with k q c d = quiet-same ws ms (z .ready .placed .passed) k (flags may' (number k)) (flags may' (8 + number k)) (flags gone (number k)) (flags gone (8 + number k)) q c d
 
+    key-least : (k : Kind) → known k may → Least ws ms k (flags gone (number k)) (flags gone (8 + number k))
+    key-least k n p u e f h =
+        let t : u .target < 2048 = omega (arith, target-lt ws ms u h, few-clauses) in
+        let l' = key-lt ws ms (z .ready .placed .passed) u h in
+        let same = elsewhere (number k) (u .target) t (inl (λ y. omega (arith, number-bounds k))) in
+        by-cases (ℕ-discrete (number k) kind)
+        (λ q. by-cases (ℕ-discrete (key u) x)
+        (λ d. let w = s .flagged u (e ∙ sym (kindOf-number k) ∙ ap kindOf q) d h .1 (subst (λ j. So (usesPartner j)) (sym (kindOf-number k) ∙ ap kindOf q) p) in
+        let v : flags may' (number k) (u .target) ≡ flags may' kind (u .target) = ap (λ r. flags may' r (u .target)) q in omega (arith, w, v, same, d))
+        (λ d. let w = after-spread .least k p u e (sym (elsewhere (8 + number k) (key u) l' (inr d)) ∙ f) h in omega (arith, w, same)))
+        (λ q. let w = after-spread .least k p u e (sym (elsewhere (8 + number k) (key u) l' (inl (λ y. q (omega arith)))) ∙ f) h in omega (arith, w, same))
+
     pub key-passed : KeyPassed ws ms start hs rs may gone kind x
     key-passed = record {
       state = state-with gone (rows-clear may' (8 + kind) x (omega arith) l (getD ws 1 0) (after-spread .rows))
-          (λ e. s .raising .grown 0 0 (omega arith) (omega arith) (sym (elsewhere 0 0 (omega arith) (inl (λ y. omega arith))) ∙ e)) (λ k _. key-quiet k);
+          (λ e. s .raising .grown 0 0 (omega arith) (omega arith) (sym (elsewhere 0 0 (omega arith) (inl (λ y. omega arith))) ∙ e)) (λ k _. key-quiet k) key-least;
       long = simp length-set (s .raising .long);
       reach = elsewhere 0 0 (omega arith) (inl (λ y. omega arith)) ∙ s .raising .frame 0 0 (omega arith) (omega arith) (λ e. omega arith);
       gone = getD-set-same may' ((8 + kind) * 2048 + x) 0 0 (omega (arith, after-spread .rows .long));
@@ -197,6 +232,8 @@ module _ (ws ms start hs rs may : List ℕ) (z : State ws ms start hs rs may) wh
         (λ e. quiet-all (getD ws 0 0) (view ws ms) k (flags after (number k)) (flags after (8 + number k)) (λ u h x. f (u .target) (target-lt ws ms u h) (sym (other (7 * 2048 + u .target) (omega arith)) ∙ subst (λ j. flags after j (u .target) ≡ 0) e x)))
         (λ d. same-at after k (λ i l e. g .grown (number k) i (row-low k) l (sym (other (number k * 2048 + i) (omega (arith, number-bounds k))) ∙ e))
         (λ i l e. g .grown (8 + number k) i (row-high k) l (sym (other ((8 + number k) * 2048 + i) (omega (arith, number-bounds k))) ∙ e)) (z .quiet k (λ e. absurd (d (ap number e)))));
+    least = λ k p. least-at after k (partner-loop may k p) (λ i l f. let w = g .lower (number k) i (row-low k) l f in omega (arith, w, other (number k * 2048 + i) (omega (arith, number-bounds k))))
+        (λ i l e. g .grown (8 + number k) i (row-high k) l (sym (other ((8 + number k) * 2048 + i) (omega (arith, number-bounds k))) ∙ e)) p;
   }
     where
       after : List ℕ

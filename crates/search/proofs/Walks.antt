@@ -21,7 +21,7 @@ use Rattle.rewriting.specs.Reach.{reach}
 use Rattle.rewriting.specs.Reducer.{firstPartner, firstTarget}
 use Rattle.rewriting.proofs.Counts.{heads, heads-none}
 use Rattle.rewriting.proofs.Order.{firstIn, asked, walked, atom-first, target-gone, partner-end, partner-hit, Before, search-end, search-hit}
-use Rattle.rewriting.proofs.Quiet.{Quiet, stale, quiet-clear, quiet-target}
+use Rattle.rewriting.proofs.Quiet.{Quiet, stale, key, quiet-clear, quiet-target}
 use Rattle.table.specs.Questions.{Passed}
 use Rattle.table.specs.Places.{startOf}
 use Rattle.table.specs.View.{part, view}
@@ -42,7 +42,7 @@ use Rattle.search.specs.Flags.{flags, Inside, Rows}
 use Rattle.search.specs.Kinds.{PartnerKind, AtomKind, walkedPart}
 use Rattle.search.specs.State.{foundOf, stoppedAt, Arrays, Calm, Swept, Walk, Partners}
 use Rattle.search.proofs.Fits.{kind-number, words-below}
-use Rattle.search.proofs.Flags.{outside, rows-clear}
+use Rattle.search.proofs.Flags.{outside, rows-clear, flag-cleared}
 
 -- ---- kinds with an atom, by their numbers
 
@@ -177,6 +177,9 @@ module _ (ws ms may may' : List ℕ) (kind : ℕ) (s : Swept ws ms may may' kind
       rows = rows-clear may' kind t h l (getD ws 1 0) (s .calm .rows);
       quiet = quiet-clear (getD ws 0 0) (view ws ms) (kindOf kind) (flags may' kind) stale (s .calm .quiet) (flags (set may' (kind * 2048 + t) 0) kind) t
           (λ i d z. sym (getD-set-other may' (kind * 2048 + t) (kind * 2048 + i) 0 0 (λ q. d (omega arith))) ∙ z) e;
+      least = λ p u f g y. let v = s .calm .least p u f g y in by-cases (ℕ-discrete (u .target) t)
+          (λ d. let w = flag-cleared may' (kind * 2048 + t) (kind * 2048 + u .target) (let z : kind * 2048 + u .target ≡ kind * 2048 + t = omega arith in z) in omega (arith, w))
+          (λ d. omega (arith, getD-set-other may' (kind * 2048 + t) (kind * 2048 + u .target) 0 0 (λ q. d (omega arith)), v));
     };
     frame = λ j o. getD-set-other may' (kind * 2048 + t) j 0 0 (λ z. ⊎-elim (λ x. omega arith) (λ x. omega arith) o) ∙ s .frame j o;
   }
@@ -185,6 +188,12 @@ module _ (ws ms may may' : List ℕ) (kind : ℕ) (s : Swept ws ms may may' kind
     -- the targets before the row's first flag have no step
     pub swept-before : t ≤ getD ws 1 0 → Before (getD ws 0 0) (view ws ms) (kindOf kind) t
     swept-before l j k = swept-over j (outside may' kind t end j w (omega arith) (λ a b. omega arith))
+
+    -- nor have partners before the flag's key
+    pub swept-from : PartnerKind kind → (q : ℕ) → q + 1 < flags may' kind t → applies (getD ws 0 0) (view ws ms) (step (kindOf kind) t q 0) ≡ false
+    swept-from k q l = so-false _ (λ h.
+        let v = s .calm .least (k .uses) (step (kindOf kind) t q 0) refl refl h in
+        let w : key (step (kindOf kind) t q 0) ≡ q = ap (λ b. cond b q 0) (k .uses) in omega (arith, v, w, l))
 
     -- nor has any where the row has no flag
     pub swept-all : end ≤ t → Before (getD ws 0 0) (view ws ms) (kindOf kind) (getD ws 1 0)

@@ -1,4 +1,5 @@
 -- Flags in rows of 2,048: row k has those of the targets of kind k, row 8 + k those of its keys, and row 0 a single one, for the reach.
+-- The flag of a target is one above the least key that it may have a step with.
 -- Behind the rows stand for each row the place from which on it may have flags, and the place before which they end.
 use mathlib.Core.Path.{_≡_}
 use mathlib.Core.Logic.{_≢_}
@@ -35,6 +36,7 @@ Grown may may' = (r i : ℕ) → r ≤ 16 → i < 2048 → flags may' r i ≡ 0 
 pub record Raising (may may' : List ℕ) (row top : ℕ) : Type 0 where
   pub long : length may' ≡ length may
   pub grown : Grown may may'
+  pub lower : (r i : ℕ) → r ≤ 16 → i < 2048 → flags may r i ≢ 0 → flags may' r i ≤ flags may r i
   pub frame : (r i : ℕ) → r ≤ 16 → i < 2048 → r ≢ row → flags may' r i ≡ flags may r i
   pub rows : (m : ℕ) → (1 ≤ row → row ≤ 8 → top ≤ m) → Rows m may → Rows m may'
 

@@ -7,7 +7,7 @@ use mathlib.Core.Option.{Option, none, some}
 use Prim.Native.Nat.{ℕ, _+_, _-_, _*_, _≤_, _<_}
 use lib.ListN.{length, getD}
 use Rattle.rewriting.specs.Marked.{Marked, entry, left}
-use Rattle.rewriting.specs.Steps.{condition, Kind, tautology, contradiction, success, noHead, blocked, failure, loop, subsumed, number, kindOf, Step, step, applies}
+use Rattle.rewriting.specs.Steps.{condition, Kind, tautology, contradiction, success, noHead, blocked, failure, loop, subsumed, number, kindOf, usesPartner, Step, step, applies}
 use Rattle.rewriting.specs.Reducer.{firstPartner}
 use Rattle.rewriting.proofs.Order.{firstIn, asked}
 use Rattle.rewriting.proofs.Quiet.{Quiet, stale, key}
@@ -32,9 +32,14 @@ pub record Arrays (ws ms start hs rs : List ℕ) (kind : ℕ) : Type 0 where
   pub counted : Heads ws ms hs
   pub reached : kind ≡ 7 → Reached ws ms rs
 
+-- Where a kind has a partner, a target's flag is no more than one above the partner of any step whose key is not fresh.
+abbrev pub Least : List ℕ → List ℕ → Kind → (ℕ → ℕ) → (ℕ → ℕ) → Type 0
+Least ws ms k may fresh = So (usesPartner k) → (u : Step) → u .kind ≡ k → fresh (key u) ≡ 0 → So (applies (getD ws 0 0) (view ws ms) u) → may (u .target) ≤ key u + 1
+
 -- A target of the kind without a flag has no step.
 pub record Calm (ws ms may : List ℕ) (kind : ℕ) : Type 0 where
   pub rows : Rows (getD ws 1 0) may
+  pub least : Least ws ms (kindOf kind) (flags may kind) stale
   pub quiet : Quiet (getD ws 0 0) (view ws ms) (kindOf kind) (flags may kind) stale
 
 -- A search of the kind cleared flags of its own, and nothing else changed.
@@ -72,12 +77,12 @@ NoPartner ws ms kind p = (t : ℕ) → ¬ So (applies (getD ws 0 0) (view ws ms)
 -- Every target that has a step with the partner p and the atom is flagged.
 pub record Spread (ws ms may may' : List ℕ) (kind p a : ℕ) : Type 0 where
   pub raising : Raising may may' kind (getD ws 1 0)
-  pub flagged : (t : ℕ) → So (applies (getD ws 0 0) (view ws ms) (step (kindOf kind) t p a)) → flags may' kind t ≢ 0
+  pub flagged : (t : ℕ) → So (applies (getD ws 0 0) (view ws ms) (step (kindOf kind) t p a)) → (flags may' kind t ≢ 0) × (flags may' kind t ≤ p + 1)
 
 -- The same by the key: what a step names beside its target, the partner or the atom.
 pub record KeySpread (ws ms may may' : List ℕ) (kind x : ℕ) : Type 0 where
   pub raising : Raising may may' kind (getD ws 1 0)
-  pub flagged : (u : Step) → u .kind ≡ kindOf kind → key u ≡ x → So (applies (getD ws 0 0) (view ws ms) u) → flags may' kind (u .target) ≢ 0
+  pub flagged : (u : Step) → u .kind ≡ kindOf kind → key u ≡ x → So (applies (getD ws 0 0) (view ws ms) u) → (flags may' kind (u .target) ≢ 0) × (So (usesPartner (kindOf kind)) → flags may' kind (u .target) ≤ x + 1)
 
 -- no key of the kind is fresh
 abbrev pub Settled : List ℕ → ℕ → Type 0
@@ -93,6 +98,7 @@ pub record State (ws ms start hs rs may : List ℕ) : Type 0 where
   pub rows : Rows (getD ws 1 0) may
   pub reached : flags may 0 0 ≡ 0 → Reached ws ms rs
   pub quiet : (k : Kind) → (k ≡ loop → flags may 0 0 ≡ 0) → Quiet (getD ws 0 0) (view ws ms) k (flags may (number k)) (flags may (8 + number k))
+  pub least : (k : Kind) → Least ws ms k (flags may (number k)) (flags may (8 + number k))
 
 -- One key is no longer fresh, and the others stay as they were.
 pub record KeyPassed (ws ms start hs rs may may' : List ℕ) (kind x : ℕ) : Type 0 where

@@ -255,14 +255,26 @@ fn greater(a: usize, b: usize) -> usize
     if a < b { b } else { a }
 }
 
-// One flag more, within the row's bounds.
-pub fn flag(may: &mut [u16], row: usize, i: usize)
-    requires { ⌜ (row ≤ 16) × ((i < 2048) × (length (now may) ≡ 34850)) ⌝ }
-    ensures { λ _. ⌜ Raising (now (may .entry)) (now (may .exit)) row (i + 1) × (flags (now (may .exit)) row i ≢ 0) ⌝ }
+// One above the least key of a flag, with one key more.
+fn least_key(old: usize, key: usize) -> usize
+    requires { ⌜ key < 2048 ⌝ }
+    ensures { λ r. ⌜ (0 < r) × ((r ≤ key + 1) × (old ≢ 0 → r ≤ old)) ⌝ }
+{
+    if old == 0 {
+        return key + 1;
+    }
+    lesser(old, key + 1)
+}
+
+// One flag more, or a lesser key for it, within the row's bounds.
+pub fn flag(may: &mut [u16], row: usize, i: usize, key: usize)
+    requires { ⌜ (row ≤ 16) × ((i < 2048) × ((key < 2048) × (length (now may) ≡ 34850))) ⌝ }
+    ensures { λ _. ⌜ Raising (now (may .entry)) (now (may .exit)) row (i + 1) × ((flags (now (may .exit)) row i ≢ 0) × (flags (now (may .exit)) row i ≤ key + 1)) ⌝ }
 {
     let low = lesser(i, table::wide(may[LOWEST + row]));
     let high = greater(i + 1, table::wide(may[HIGHEST + row]));
-    may[row * 2048 + i] = 1;
+    let least = least_key(table::wide(may[row * 2048 + i]), key);
+    may[row * 2048 + i] = narrow(least);
     may[LOWEST + row] = narrow(low);
     may[HIGHEST + row] = narrow(high);
 }
@@ -273,7 +285,7 @@ pub fn flag_all(may: &mut [u16], row: usize, top: usize)
     ensures { λ _. ⌜ Raising (now (may .entry)) (now (may .exit)) row top × AllFlagged (now (may .exit)) row top ⌝ }
 {
     for i in 0..top {
-        flag(may, row, i);
+        flag(may, row, i, 0);
     }
 }
 
@@ -451,7 +463,8 @@ pub fn first_by_partner(
             let mut stamps = [0u8; 3072];
             stamp_clause(words, marks, start, t, &mut stamps);
             let e = partners(words, marks, start, t);
-            for p in 0..e {
+            let from = table::wide(may[base + t]) - 1;
+            for p in from..e {
                 if partner_applies(words, marks, start, &stamps, kind, t, p) {
                     found = Found::One(Step::new(kind, narrow(t), narrow(p), 0));
                     break 'search;
@@ -486,8 +499,20 @@ fn spread(
         if !conditions::holds(words, marks, start, heads, reach, kind, t, p, atom) {
             continue;
         }
-        flag(may, row, t);
+        flag(may, row, t, p);
     }
+}
+
+// Whether the place of a row is flagged with no greater key.
+fn flagged(may: &[u16], row: usize, i: usize, key: usize) -> bool
+    requires { ⌜ (row ≤ 16) × ((i < 2048) × ((key < 2048) × (length (now may) ≡ 34850))) ⌝ }
+    ensures { λ r. ⌜ (r ≡ true → (flags (now (may .entry)) row i ≢ 0) × (flags (now (may .entry)) row i ≤ key + 1)) ⌝ }
+{
+    let old = table::wide(may[row * 2048 + i]);
+    if old == 0 {
+        return false;
+    }
+    old <= key + 1
 }
 
 // Flags the target t of the kind, if the condition holds with the partner p and the atom.
@@ -504,16 +529,16 @@ fn spread_one(
     t: usize,
 )
     requires { ⌜ (Ready (now words) (now marks) (now start)) × ((t < getD (now words) 1 0) × ((p < getD (now words) 1 0) × (((1 ≤ kind) × (kind ≤ 8)) × ((Known (kindOf kind) (now words) (now marks) (now heads) (now reach)) × (length (now may) ≡ 34850))))) ⌝ }
-    ensures { λ _. ⌜ Raising (now (may .entry)) (now (may .exit)) kind (t + 1) × (So (condition (kindOf kind) (left (view (now (words .entry)) (now (marks .entry)))) (entry (view (now (words .entry)) (now (marks .entry))) t .clause) (entry (view (now (words .entry)) (now (marks .entry))) p .clause) atom) → flags (now (may .exit)) kind t ≢ 0) ⌝ }
+    ensures { λ _. ⌜ Raising (now (may .entry)) (now (may .exit)) kind (t + 1) × (So (condition (kindOf kind) (left (view (now (words .entry)) (now (marks .entry)))) (entry (view (now (words .entry)) (now (marks .entry))) t .clause) (entry (view (now (words .entry)) (now (marks .entry))) p .clause) atom) → (flags (now (may .exit)) kind t ≢ 0) × (flags (now (may .exit)) kind t ≤ p + 1)) ⌝ }
 {
     let row = table::wide(kind);
-    if may[row * 2048 + t] != 0 {
+    if flagged(may, row, t, p) {
         return;
     }
     if !conditions::holds(words, marks, start, heads, reach, kind, t, p, atom) {
         return;
     }
-    flag(may, row, t);
+    flag(may, row, t, p);
 }
 
 // The same as `spread`, where every target has atom a in a part: its places are walked.

@@ -9,7 +9,7 @@ use Rattle.reducer.proofs.flag_kinds.Statement.{statement}
 use Rattle.reducer.proofs.flag_kinds.Tie as tie
 
 flag-requires : tie.Need-flag-requires
-flag-requires c κs = (omega arith, (omega arith, ap length (c .before .before .pre .0) ∙ length-replicate {A = ℕ} 34850 0))
+flag-requires c κs = (omega arith, (omega arith, (omega arith, ap length (c .before .before .pre .0) ∙ length-replicate {A = ℕ} 34850 0)))
 
 flag-all-requires : tie.Need-flag-all-requires
 flag-all-requires c κs = (omega arith, (c .before .before .before .before .before .before .pre .1, c .before .before .before .flag .kept .0 ∙ ap length (c .before .before .before .before .before .before .pre .0) ∙ length-replicate {A = ℕ} 34850 0))

@@ -29,10 +29,10 @@ returns-2 : tie.Need-returns-2
 returns-2 c = lost-twin _ _ _ _ _ _ (stepOf (c .before .before .before .before .before .before .before .before .before .before .before .args .step)) (c .before .before .before .before .before .before .before .before .before .before .before .pre .0) (c .before .has-twin .ensures (c .if2 .taken))
 
 flag-requires : tie.Need-flag-requires
-flag-requires c κs = (omega arith, (omega arith, c .before .before .before .before .before .before .before .before .before .before .before .before .pre .0 .rows .long))
+flag-requires c κs = (omega arith, (omega arith, (omega arith, c .before .before .before .before .before .before .before .before .before .before .before .before .pre .0 .rows .long)))
 
 returns-3 : tie.Need-returns-3
-returns-3 c = lost-all _ _ _ _ _ _ (stepOf (c .before .before .before .before .before .before .before .before .before .before .before .before .before .before .before .args .step)) (c .before .before .before .before .before .before .before .before .before .before .before .before .before .before .before .pre .0) _ (c .before .before .flag .ensures .0) (c .before .before .flag .ensures .1)
+returns-3 c = lost-all _ _ _ _ _ _ (stepOf (c .before .before .before .before .before .before .before .before .before .before .before .before .before .before .before .args .step)) (c .before .before .before .before .before .before .before .before .before .before .before .before .before .before .before .pre .0) _ (c .before .before .flag .ensures .0) (c .before .before .flag .ensures .1 .0)
 
 pub lose-reach-spec : {M : Type 1} → statement M
 lose-reach-spec =

@@ -13,18 +13,18 @@ use Rattle.table.proofs.Encoding.{passed-limits}
 use Rattle.search.specs.declared.Found.the-variants.{One, Nothing}
 use Rattle.search.specs.Stamps.{Stamps}
 use Rattle.search.specs.State.{Partners, Swept}
-use Rattle.search.proofs.Walks.{partners-none, partners-hit, swept-none, swept-clear, swept-all, swept-before, targets-end, targets-hit, stopped-there, stopped-end}
-use Rattle.search.specs.Flags.{Inside}
+use Rattle.search.specs.Flags.{flags, Inside}
 use Rattle.search.proofs.Flags.{inside-past, inside-clear}
+use Rattle.search.proofs.Walks.{partners-none, partners-hit, swept-none, swept-clear, swept-all, swept-before, swept-from, targets-end, targets-hit, stopped-there, stopped-end}
 use borrow.Author.Needs.{needs}
 use Rattle.search.proofs.first_by_partner.Statement.{statement}
 use Rattle.search.proofs.first_by_partner.Tie as tie
 
 abbrev Inv-loop : tie.InvT-loop
-Inv-loop words marks start may kind low end base found₀ t stamps e p₀ found p = (p ≤ e) × ((found ≡ Nothing) × (Partners words marks t e × (Stamps (entry (view words marks) t .clause) stamps × ((length stamps ≡ 3072) × ((q : ℕ) → q < p → applies (getD words 0 0) (view words marks) (step (kindOf kind) t q 0) ≡ false)))))
+Inv-loop words marks start may kind low end base found₀ t stamps e from p₀ found p = (found ≡ Nothing) × (Partners words marks t e × (Stamps (entry (view words marks) t .clause) stamps × ((length stamps ≡ 3072) × ((q : ℕ) → q < p → applies (getD words 0 0) (view words marks) (step (kindOf kind) t q 0) ≡ false))))
 
 abbrev μ-loop : tie.MeasureT-loop
-μ-loop words marks start may kind low end base found₀ t stamps e p₀ found p = e - p
+μ-loop words marks start may kind low end base found₀ t stamps e from p₀ found p = e - p
 
 abbrev Inv-search : tie.InvT-search
 Inv-search words marks start may₀ kind low end base found₀ t₀ may found t = (found ≡ Nothing) × ((base ≡ kind * 2048) × (Swept words marks may₀ may kind × Inside may kind t end))
@@ -43,7 +43,7 @@ search-holds : tie.Need-search-holds Inv-loop μ-loop Inv-search μ-search
 search-holds c = (refl, (ap (λ x. x * 2048) (c .wide .ensures .0), (swept-none _ _ _ _ (c .before .before .before .before .before .pre .1 .1 .1 .0), c .before .before .before .before .before .pre .1 .1 .1 .1)))
 
 add-if1 : tie.Need-add-if1 Inv-loop μ-loop Inv-search μ-search
-add-if1 c = omega (arith, c .before .search .inv .1 .0, few (c), c .before .before .before .before .before .before .before .pre .1 .1 .0 .high)
+add-if1 c = omega (arith, c .before .search .inv .1 .0, few c, c .before .before .before .before .before .before .before .pre .1 .1 .0 .high)
 
 mul-if1 : tie.Need-mul-if1 Inv-loop μ-loop Inv-search μ-search
 mul-if1 c = omega (arith, c .before .search .inv .1 .0, few c, c .before .before .before .before .before .before .before .pre .1 .1 .0 .high)
@@ -51,33 +51,52 @@ mul-if1 c = omega (arith, c .before .search .inv .1 .0, few c, c .before .before
 slice-read-if1 : tie.Need-slice-read-if1 Inv-loop μ-loop Inv-search μ-search
 slice-read-if1 c = omega (arith, c .before .before .search .inv .1 .0, c .before .before .search .inv .1 .1 .0 .calm .rows .long, few (c .before), c .before .before .before .before .before .before .before .before .pre .1 .1 .0 .high)
 
-slice-aggregate-stamp-clause :
-    tie.Need-slice-aggregate-stamp-clause Inv-loop μ-loop Inv-search μ-search
-slice-aggregate-stamp-clause c = search needs
-
 stamp-clause-requires : tie.Need-stamp-clause-requires Inv-loop μ-loop Inv-search μ-search
 stamp-clause-requires c κs = (c .before .before .before .before .before .before .before .before .before .before .pre .0, (few (c .before .before .before) .1, refl))
 
 partners-requires : tie.Need-partners-requires Inv-loop μ-loop Inv-search μ-search
 partners-requires c κs = (c .before .before .before .before .before .before .before .before .before .before .before .before .pre .0, few (c .before .before .before .before .before) .1)
 
-loop-holds : tie.Need-loop-holds Inv-loop μ-loop Inv-search μ-search
-loop-holds c = (search needs, (c .before .before .before .before .before .before .before .search .inv .0, (c .partners .ensures, (c .before .before .stamp-clause .ensures .0, (c .before .before .stamp-clause .ensures .1, λ q l. absurd (omega arith))))))
+add-wide : tie.Need-add-wide Inv-loop μ-loop Inv-search μ-search
+add-wide c = omega (arith, c .before .before .before .before .before .before .before .search .inv .1 .0, few (c .before .before .before .before .before .before), c .before .before .before .before .before .before .before .before .before .before .before .before .before .pre .1 .1 .0 .high)
 
-slice-aggregate-partner-applies :
-    tie.Need-slice-aggregate-partner-applies Inv-loop μ-loop Inv-search μ-search
-slice-aggregate-partner-applies c = search needs
+mul-wide : tie.Need-mul-wide Inv-loop μ-loop Inv-search μ-search
+mul-wide c = omega (arith, c .before .before .before .before .before .before .before .search .inv .1 .0, few (c .before .before .before .before .before .before), c .before .before .before .before .before .before .before .before .before .before .before .before .before .pre .1 .1 .0 .high)
+
+slice-read-wide : tie.Need-slice-read-wide Inv-loop μ-loop Inv-search μ-search
+slice-read-wide c = omega (arith, c .before .before .before .before .before .before .before .before .search .inv .1 .0, c .before .before .before .before .before .before .before .before .search .inv .1 .1 .0 .calm .rows .long, few (c .before .before .before .before .before .before .before), c .before .before .before .before .before .before .before .before .before .before .before .before .before .before .pre .1 .1 .0 .high)
+
+sub-from : tie.Need-sub-from Inv-loop μ-loop Inv-search μ-search
+sub-from c = let z = c .before .before .before .before .before .before .if1 .taken in omega (arith, c .wide2 .ensures .0)
+
+loop-holds : tie.Need-loop-holds Inv-loop μ-loop Inv-search μ-search
+loop-holds c =
+    let inv = c .before .before .before .before .before .before .before .before .before .search .inv in
+    let k = c .before .before .before .before .before .before .before .before .before .before .before .before .before .before .before .pre .1 .1 .0 in
+    let e : c .wide2 .result ≡ flags (c .before .before .before .before .before .before .before .before .before .search .may) (c .before .before .before .before .before .before .before .before .before .before .before .before .before .before .before .args .kind) (c .before .before .before .before .before .before .before .before .before .search .t) = c .wide2 .ensures .0 ∙ ap (λ b. getD (c .before .before .before .before .before .before .before .before .before .search .may) (b + c .before .before .before .before .before .before .before .before .before .search .t) 0) (inv .1 .0) in (
+      inv .0,
+      (
+        c .before .before .partners .ensures,
+        (
+          c .before .before .before .before .stamp-clause .ensures .0,
+          (
+            c .before .before .before .before .stamp-clause .ensures .1,
+            λ q l. swept-from _ _ _ _ _ (inv .1 .1 .0) (c .before .before .before .before .before .before .before .before .before .search .t) _ (inv .1 .1 .1) (passed-limits _ (c .before .before .before .before .before .before .before .before .before .before .before .before .before .before .before .pre .0 .placed .passed) .fewClauses) k q (omega (arith, e)),
+          ),
+        ),
+      ),
+    )
 
 partner-applies-requires : tie.Need-partner-applies-requires Inv-loop μ-loop Inv-search μ-search
 partner-applies-requires c κs =
     let i = c .before .before .loop .inv in
-    (c .before .before .before .before .before .before .before .before .before .before .before .before .before .before .before .before .pre .0, (omega (arith, c .before .loop-test .taken, i .1 .1 .0 .most), (i .1 .1 .1 .1 .0, (i .1 .1 .1 .0, (c .before .before .before .before .before .before .before .before .before .before .before .before .before .before .before .before .pre .1 .1 .0, i .1 .1 .0 .kept (omega (arith, c .before .loop-test .taken)))))))
+    (c .before .before .before .before .before .before .before .before .before .before .before .before .before .before .before .before .before .before .pre .0, (omega (arith, c .before .loop-test .taken, i .1 .0 .most), (i .1 .1 .1 .0, (i .1 .1 .0, (c .before .before .before .before .before .before .before .before .before .before .before .before .before .before .before .before .before .before .pre .1 .1 .0, i .1 .0 .kept (omega (arith, c .before .loop-test .taken)))))))
 
 narrow-requires : tie.Need-narrow-requires Inv-loop μ-loop Inv-search μ-search
-narrow-requires c κs = omega (arith, few (c .before .before .before .before .before .before .before .before .before .before .before))
+narrow-requires c κs = omega (arith, few (c .before .before .before .before .before .before .before .before .before .before .before .before .before))
 
 narrow-requires-2 : tie.Need-narrow-requires-2 Inv-loop μ-loop Inv-search μ-search
-narrow-requires-2 c κs = omega (arith, few (c .before .before .before .before .before .before .before .before .before .before .before .before), c .before .before .before .before .loop-test .taken, c .before .before .before .before .before .loop .inv .1 .1 .0 .most, passed-limits _ (c .before .before .before .before .before .before .before .before .before .before .before .before .before .before .before .before .before .before .before .pre .0 .placed .passed) .fewClauses)
+narrow-requires-2 c κs = omega (arith, c .before .before .before .before .loop-test .taken, c .before .before .before .before .before .loop .inv .1 .0 .most, passed-limits _ (c .before .before .before .before .before .before .before .before .before .before .before .before .before .before .before .before .before .before .before .before .before .pre .0 .placed .passed) .fewClauses)
 
 loop-less : tie.Need-loop-less Inv-loop μ-loop Inv-search μ-search
 loop-less c = omega (arith, c .before .before .before .loop-test .taken)
@@ -85,16 +104,16 @@ loop-less c = omega (arith, c .before .before .before .loop-test .taken)
 loop-again : tie.Need-loop-again Inv-loop μ-loop Inv-search μ-search
 loop-again c =
     let i = c .before .before .before .before .loop .inv in
-    (search needs, (i .1 .0, (i .1 .1 .0, (i .1 .1 .1 .0, (i .1 .1 .1 .1 .0, below-more _ _ (i .1 .1 .1 .1 .1) (sym (c .before .partner-applies .ensures) ∙ c .if2 .left))))))
+    (i .0, (i .1 .0, (i .1 .1 .0, (i .1 .1 .1 .0, below-more _ _ (i .1 .1 .1 .1) (sym (c .before .partner-applies .ensures) ∙ c .if2 .left)))))
 
 add-may : tie.Need-add-may Inv-loop μ-loop Inv-search μ-search
-add-may c = omega (arith, c .before .before .before .before .before .before .before .before .before .search .inv .1 .0, few (c .before .before .before .before .before .before .before .before), c .before .before .before .before .before .before .before .before .before .before .before .before .before .before .before .pre .1 .1 .0 .high)
+add-may c = omega (arith, c .before .before .before .before .before .before .before .before .before .before .before .search .inv .1 .0, few (c .before .before .before .before .before .before .before .before .before .before), c .before .before .before .before .before .before .before .before .before .before .before .before .before .before .before .before .before .pre .1 .1 .0 .high)
 
 mul-may : tie.Need-mul-may Inv-loop μ-loop Inv-search μ-search
-mul-may c = omega (arith, c .before .before .before .before .before .before .before .before .before .search .inv .1 .0, few (c .before .before .before .before .before .before .before .before), c .before .before .before .before .before .before .before .before .before .before .before .before .before .before .before .pre .1 .1 .0 .high)
+mul-may c = omega (arith, c .before .before .before .before .before .before .before .before .before .before .before .search .inv .1 .0, few (c .before .before .before .before .before .before .before .before .before .before), c .before .before .before .before .before .before .before .before .before .before .before .before .before .before .before .before .before .pre .1 .1 .0 .high)
 
 slice-write-may : tie.Need-slice-write-may Inv-loop μ-loop Inv-search μ-search
-slice-write-may c = omega (arith, c .before .before .before .before .before .before .before .before .before .search .inv .1 .0, c .before .before .before .before .before .before .before .before .before .search .inv .1 .1 .0 .calm .rows .long, few (c .before .before .before .before .before .before .before .before), c .before .before .before .before .before .before .before .before .before .before .before .before .before .before .before .pre .1 .1 .0 .high)
+slice-write-may c = omega (arith, c .before .before .before .before .before .before .before .before .before .before .before .search .inv .1 .0, c .before .before .before .before .before .before .before .before .before .before .before .search .inv .1 .1 .0 .calm .rows .long, few (c .before .before .before .before .before .before .before .before .before .before), c .before .before .before .before .before .before .before .before .before .before .before .before .before .before .before .before .before .pre .1 .1 .0 .high)
 
 search-again : tie.Need-search-again Inv-loop μ-loop Inv-search μ-search
 search-again c =
@@ -104,8 +123,8 @@ search-again c =
     let k = c .before .before .before .before .before .before .before .before .before .pre .1 .1 .0 .high in
     let r : c .before .before .before .before .before .before .before .before .before .args .kind * 2048 + c .before .before .before .search .t < length (c .before .before .before .search .may) = omega (arith, l, s .calm .rows .long, k) in
     ⊎-elim
-    (λ w. let i = w .5 .inv in let e = partners-none (c .before .before .before .before .before .before .before .before .before .args .words .now) (c .before .before .before .before .before .before .before .before .before .args .marks .now) (c .before .before .before .before .before .before .before .before .before .args .kind) _ _ (i .1 .1 .0) (c .before .before .before .before .before .before .before .before .before .pre .1 .1 .0) (λ q k. i .1 .1 .1 .1 .1 q (omega (arith, w .6 .left))) in
-    (w .8 ∙ i .1 .0, (inv .1 .0, rw (w .7, inv .1 .0) (swept-clear _ _ _ _ _ s (omega arith) _ l e, inside-clear (c .before .before .before .search .may) (c .before .before .before .before .before .before .before .before .before .args .kind) (c .before .before .before .search .t) _ (inv .1 .1 .1) r))))
+    (λ w. let i = w .7 .inv in let e = partners-none (c .before .before .before .before .before .before .before .before .before .args .words .now) (c .before .before .before .before .before .before .before .before .before .args .marks .now) (c .before .before .before .before .before .before .before .before .before .args .kind) _ _ (i .1 .0) (c .before .before .before .before .before .before .before .before .before .pre .1 .1 .0) (λ q k. i .1 .1 .1 .1 q (omega (arith, w .8 .left))) in
+    (w .10 ∙ i .0, (inv .1 .0, rw (w .9, inv .1 .0) (swept-clear _ _ _ _ _ s (omega arith) _ l e, inside-clear (c .before .before .before .search .may) (c .before .before .before .before .before .before .before .before .before .args .kind) (c .before .before .before .search .t) _ (inv .1 .1 .1) r))))
     (λ w. (w .2 ∙ inv .0, (inv .1 .0, rw (w .1) (s, inside-past (c .before .before .before .search .may) (c .before .before .before .before .before .before .before .before .before .args .kind) (c .before .before .before .search .t) _ (inv .1 .1 .1) (rw (inv .1 .0) at (w .0 .left))))))
     (c .if1 .came)
 
@@ -119,18 +138,21 @@ returns c =
     (inv .0 ∙ targets-end (c .before .before .before .before .before .before .before .args .words .now) (c .before .before .before .before .before .before .before .args .marks .now) (c .before .before .before .before .before .before .before .args .kind) (swept-all _ _ _ _ _ (inv .1 .1 .0) _ _ (inv .1 .1 .1) l (c .search-test .left)), (inv .1 .1 .0, stopped-end (c .before .search .may) (c .before .before .before .before .before .before .before .args .kind) _ _ (inv .1 .1 .1) _ (inv .0) (c .search-test .left)))
 
 same-length-2 : tie.Need-same-length-2 Inv-loop μ-loop Inv-search μ-search
-same-length-2 c = c .before .before .before .before .before .before .before .before .before .before .before .before .before .before .before .search .inv .1 .1 .0 .calm .rows .long ∙ sym (c .before .before .before .before .before .before .before .before .before .before .before .before .before .before .before .before .before .before .before .before .before .pre .1 .1 .1 .0 .rows .long)
+same-length-2 c = c .before .before .before .before .before .before .before .before .before .before .before .before .before .before .before .before .before .search .inv .1 .1 .0 .calm .rows .long ∙ sym (c .before .before .before .before .before .before .before .before .before .before .before .before .before .before .before .before .before .before .before .before .before .before .before .pre .1 .1 .1 .0 .rows .long)
 
 returns-2 : tie.Need-returns-2 Inv-loop μ-loop Inv-search μ-search
 returns-2 c =
-    let k = c .before .before .before .before .before .before .before .before .before .before .before .before .before .before .before .before .before .before .before .before .before .pre .1 .1 .0 in
+    let k = c .before .before .before .before .before .before .before .before .before .before .before .before .before .before .before .before .before .before .before .before .before .before .before .pre .1 .1 .0 in
     let i = c .before .before .before .before .before .before .before .loop .inv in
-    let inv = c .before .before .before .before .before .before .before .before .before .before .before .before .before .before .before .search .inv in
-    let l = passed-limits _ (c .before .before .before .before .before .before .before .before .before .before .before .before .before .before .before .before .before .before .before .before .before .pre .0 .placed .passed) .fewClauses in
-    let b = swept-before _ _ _ _ _ (inv .1 .1 .0) (c .before .before .before .before .before .before .before .before .before .before .before .before .before .before .before .search .t) _ (inv .1 .1 .1) l (omega (arith, c .before .before .before .before .before .before .before .before .before .before .before .before .before .before .search-test .taken, c .before .before .before .before .before .before .before .before .before .before .before .before .before .before .before .before .before .before .before .before .before .pre .1 .0)) in
-    (ap One (c .new .ensures) ∙ rw (c .before .before .narrow .ensures, c .before .narrow2 .ensures) (targets-hit (c .before .before .before .before .before .before .before .before .before .before .before .before .before .before .before .before .before .before .before .before .before .args .words .now) (c .before .before .before .before .before .before .before .before .before .before .before .before .before .before .before .before .before .before .before .before .before .args .marks .now) (c .before .before .before .before .before .before .before .before .before .before .before .before .before .before .before .before .before .before .before .before .before .args .kind) (k .low) (k .high) (c .before .before .before .before .before .before .before .before .before .before .before .before .before .before .before .search .t) _ _ (omega (arith, c .before .before .before .before .before .before .before .before .before .before .before .before .before .before .search-test .taken, c .before .before .before .before .before .before .before .before .before .before .before .before .before .before .before .before .before .before .before .before .before .pre .1 .0)) b (partners-hit _ _ _ _ _ (i .1 .1 .0) k _ (c .before .before .before .before .before .before .loop-test .taken) (i .1 .1 .1 .1 .1) (sym (c .before .before .before .before .partner-applies .ensures) ∙ c .before .before .before .if2 .taken))), (inv .1 .1 .0, stopped-there (c .before .before .before .before .before .before .before .before .before .before .before .before .before .before .before .search .may) (c .before .before .before .before .before .before .before .before .before .before .before .before .before .before .before .before .before .before .before .before .before .args .kind) (c .before .before .before .before .before .before .before .before .before .before .before .before .before .before .before .search .t) _ (inv .1 .1 .1) _ _ refl (ap (λ x. x .target) (c .new .ensures) ∙ c .before .before .narrow .ensures)))
+    let inv = c .before .before .before .before .before .before .before .before .before .before .before .before .before .before .before .before .before .search .inv in
+    let l = passed-limits _ (c .before .before .before .before .before .before .before .before .before .before .before .before .before .before .before .before .before .before .before .before .before .before .before .pre .0 .placed .passed) .fewClauses in
+    let b = swept-before _ _ _ _ _ (inv .1 .1 .0) (c .before .before .before .before .before .before .before .before .before .before .before .before .before .before .before .before .before .search .t) _ (inv .1 .1 .1) l (omega (arith, c .before .before .before .before .before .before .before .before .before .before .before .before .before .before .before .before .search-test .taken, c .before .before .before .before .before .before .before .before .before .before .before .before .before .before .before .before .before .before .before .before .before .before .before .pre .1 .0)) in (
+      ap One (c .new .ensures) ∙ rw (c .before .before .narrow .ensures, c .before .narrow2 .ensures) (targets-hit (c .before .before .before .before .before .before .before .before .before .before .before .before .before .before .before .before .before .before .before .before .before .before .before .args .words .now) (c .before .before .before .before .before .before .before .before .before .before .before .before .before .before .before .before .before .before .before .before .before .before .before .args .marks .now) (c .before .before .before .before .before .before .before .before .before .before .before .before .before .before .before .before .before .before .before .before .before .before .before .args .kind) (k .low) (k .high) (c .before .before .before .before .before .before .before .before .before .before .before .before .before .before .before .before .before .search .t) _ _ (omega (arith, c .before .before .before .before .before .before .before .before .before .before .before .before .before .before .before .before .search-test .taken, c .before .before .before .before .before .before .before .before .before .before .before .before .before .before .before .before .before .before .before .before .before .before .before .pre .1 .0)) b
+          (partners-hit _ _ _ _ _ (i .1 .0) k _ (c .before .before .before .before .before .before .loop-test .taken) (i .1 .1 .1 .1) (sym (c .before .before .before .before .partner-applies .ensures) ∙ c .before .before .before .if2 .taken))),
+      (inv .1 .1 .0, stopped-there (c .before .before .before .before .before .before .before .before .before .before .before .before .before .before .before .before .before .search .may) (c .before .before .before .before .before .before .before .before .before .before .before .before .before .before .before .before .before .before .before .before .before .before .before .args .kind) (c .before .before .before .before .before .before .before .before .before .before .before .before .before .before .before .before .before .search .t) _ (inv .1 .1 .1) _ _ refl (ap (λ x. x .target) (c .new .ensures) ∙ c .before .before .narrow .ensures)),
+    )
 
 pub first-by-partner-spec : {M : Type 1} → statement M
 first-by-partner-spec =
     tie.close
-    (tie.spec Inv-loop μ-loop Inv-search μ-search (λ c κs. search needs) mul-base search-holds add-if1 mul-if1 slice-read-if1 slice-aggregate-stamp-clause stamp-clause-requires partners-requires loop-holds slice-aggregate-partner-applies partner-applies-requires narrow-requires narrow-requires-2 (λ c κs. search needs) (λ c. search needs) loop-less loop-again add-may mul-may slice-write-may (λ c. search needs) (λ c. search needs) search-again same-length returns same-length-2 returns-2)
+    (tie.spec Inv-loop μ-loop Inv-search μ-search (λ c κs. search needs) mul-base search-holds add-if1 mul-if1 slice-read-if1 (λ c. search needs) stamp-clause-requires partners-requires add-wide mul-wide slice-read-wide (λ c κs. search needs) sub-from loop-holds (λ c. search needs) partner-applies-requires narrow-requires narrow-requires-2 (λ c κs. search needs) (λ c. search needs) loop-less loop-again add-may mul-may slice-write-may (λ c. search needs) (λ c. search needs) search-again same-length returns same-length-2 returns-2)

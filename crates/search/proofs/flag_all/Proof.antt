@@ -21,7 +21,7 @@ loop-holds : tie.Need-loop-holds Inv-loop μ-loop
 loop-holds c = (search needs, (raising-none _ _ _, λ i l. absurd (omega arith)))
 
 flag-requires : tie.Need-flag-requires Inv-loop μ-loop
-flag-requires c κs = (c .before .before .before .before .pre .0, (omega (arith, c .before .loop-test .taken, c .before .before .before .before .pre .1 .0), c .before .before .loop .inv .1 .0 .long ∙ c .before .before .before .before .pre .1 .1))
+flag-requires c κs = (c .before .before .before .before .pre .0, (omega (arith, c .before .loop-test .taken, c .before .before .before .before .pre .1 .0), (omega arith, c .before .before .loop .inv .1 .0 .long ∙ c .before .before .before .before .pre .1 .1)))
 
 loop-again : tie.Need-loop-again Inv-loop μ-loop
 loop-again c =
@@ -29,7 +29,7 @@ loop-again c =
     let g = c .before .before .flag .ensures .0 in
     let h = c .before .before .before .before .before .before .before .pre in
     let l = c .before .before .before .before .loop-test .taken in
-    (search needs, (raising-more _ _ _ _ _ _ _ (omega arith) (omega arith) (inv .1 .0) g, below-more _ _ (λ i k. raising-keeps _ _ _ _ g _ i (h .0) (omega (arith, h)) (inv .1 .1 i k)) (c .before .before .flag .ensures .1)))
+    (search needs, (raising-more _ _ _ _ _ _ _ (omega arith) (omega arith) (inv .1 .0) g, below-more _ _ (λ i k. raising-keeps _ _ _ _ g _ i (h .0) (omega (arith, h)) (inv .1 .1 i k)) (c .before .before .flag .ensures .1 .0)))
 
 same-length : tie.Need-same-length Inv-loop μ-loop
 same-length c = c .before .loop .inv .1 .0 .long

@@ -32,13 +32,13 @@ loop-again : tie.Need-loop-again Inv-loop μ-loop
 loop-again c = (search needs, (c .before .before .before .loop .inv .1 .0, spreading-past _ _ _ _ _ _ _ _ (c .before .before .before .loop .inv .1 .1) (sym (c .before .holds .ensures) ∙ not-true _ (c .if1 .taken))))
 
 flag-requires : tie.Need-flag-requires Inv-loop μ-loop
-flag-requires c κs = let r = c .before .before .before .before .loop .inv .1 .0 in (omega (arith, c .before .before .before .before .before .before .before .before .before .before .before .before .pre .1 .1 .1 .0), (few (c .before .before .before) .0, c .before .before .before .before .loop .inv .1 .1 .raising .long ∙ c .before .before .before .before .before .before .before .before .before .before .before .before .pre .1 .1 .1 .1 .1))
+flag-requires c κs = let r = c .before .before .before .before .loop .inv .1 .0 in (omega (arith, c .before .before .before .before .before .before .before .before .before .before .before .before .pre .1 .1 .1 .0), (few (c .before .before .before) .0, (omega (arith, c .before .before .before .before .before .before .before .before .before .before .before .before .pre .1 .1 .0, passed-limits _ (c .before .before .before .before .before .before .before .before .before .before .before .before .pre .0 .placed .passed) .fewClauses), c .before .before .before .before .loop .inv .1 .1 .raising .long ∙ c .before .before .before .before .before .before .before .before .before .before .before .before .pre .1 .1 .1 .1 .1)))
 
 loop-again-2 : tie.Need-loop-again-2 Inv-loop μ-loop
 loop-again-2 c =
     let inv = c .before .before .before .before .before .before .before .loop .inv in
     let f = few (c .before .before .before .before .before .before) in
-    (search needs, (inv .1 .0, spreading-on _ _ _ _ _ _ _ _ (inv .1 .1) (c .before .before .flag .last .0) (omega (arith, c .before .before .before .before .before .before .before .before .before .before .before .before .before .before .before .pre .1 .1 .1 .0)) (f .0) (f .1) (subst (λ r. Raising (c .before .before .before .before .before .before .before .loop .may) (c .before .before .flag .last .0) r (c .before .before .before .before .before .before .before .loop .t + 1)) (inv .1 .0) (c .before .before .flag .ensures .0)) (subst (λ r. flags (c .before .before .flag .last .0) r (c .before .before .before .before .before .before .before .loop .t) ≢ 0) (inv .1 .0) (c .before .before .flag .ensures .1))))
+    (search needs, (inv .1 .0, spreading-on _ _ _ _ _ _ _ _ (inv .1 .1) (c .before .before .flag .last .0) (omega (arith, c .before .before .before .before .before .before .before .before .before .before .before .before .before .before .before .pre .1 .1 .1 .0)) (f .0) (f .1) (subst (λ r. Raising (c .before .before .before .before .before .before .before .loop .may) (c .before .before .flag .last .0) r (c .before .before .before .before .before .before .before .loop .t + 1)) (inv .1 .0) (c .before .before .flag .ensures .0)) (subst (λ r. (flags (c .before .before .flag .last .0) r (c .before .before .before .before .before .before .before .loop .t) ≢ 0) × (flags (c .before .before .flag .last .0) r (c .before .before .before .before .before .before .before .loop .t) ≤ c .before .before .before .before .before .before .before .before .before .before .before .before .before .before .before .args .p + 1)) (inv .1 .0) (c .before .before .flag .ensures .1))))
 
 same-length : tie.Need-same-length Inv-loop μ-loop
 same-length c = c .before .loop .inv .1 .1 .raising .long

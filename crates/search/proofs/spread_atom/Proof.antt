@@ -15,9 +15,25 @@ returns c = spread-headed _ _ _ _ _ _ (c .before .before .before .before .before
 spread-along-requires : tie.Need-spread-along-requires
 spread-along-requires c κs =
     let p = c .before .before .before .before .before .before .before .before .before .before .pre in
-    let k = p .1 .1 .1 in
-    (p .0 .ready, (p .1 .0, (heads-bounds _ k, (heads-known _ _ _ _ _ k (p .0 .counted), (p .0 .rows .long, (p .1 .1 .0,
-    subst (λ x. Clue (c .before .before .before .before .before .before .before .before .before .before .args .words .now) (c .before .before .before .before .before .before .before .before .before .before .args .marks .now) (c .before .before .before .before .before .before .before .before .before .before .args .kind) 0 (c .before .before .before .before .before .before .before .before .before .before .args .atom) x (c .before .before .before .before .before .before .before .before .before .before .args .atom)) (sym (c .walked-part .ensures)) (clue-atom _ _ _ _ k)))))))
+    let k = p .1 .1 .1 in (
+      p .0 .ready,
+      (
+        p .1 .0,
+        (
+          heads-bounds _ k,
+          (
+            heads-known _ _ _ _ _ k (p .0 .counted),
+            (
+              p .0 .rows .long,
+              (
+                p .1 .1 .0,
+                subst (λ x. Clue (c .before .before .before .before .before .before .before .before .before .before .args .words .now) (c .before .before .before .before .before .before .before .before .before .before .args .marks .now) (c .before .before .before .before .before .before .before .before .before .before .args .kind) 0 (c .before .before .before .before .before .before .before .before .before .before .args .atom) x (c .before .before .before .before .before .before .before .before .before .before .args .atom)) (sym (c .walked-part .ensures)) (clue-atom _ _ _ _ k),
+              ),
+            ),
+          ),
+        ),
+      ),
+    )
 
 returns-2 : tie.Need-returns-2
 returns-2 c = c .before .before .spread-along .ensures

@@ -22,9 +22,22 @@ spread-along-requires : tie.Need-spread-along-requires
 spread-along-requires c κs =
     let p = c .before .before .before .before .before .before .before .before .before .before .pre in
     let e = sym (c .before .before .before .empty .ensures) ∙ not-true _ (c .before .before .if1 .taken) in
-    let a = c .before .first-atom .ensures in
-    (p .0, (p .1 .1 .0, ((omega arith, omega arith), (partner-known _ _ _ _ subsumed refl, (p .1 .1 .1,
-    (subst (λ b. b < 1024) (sym a) (part-small _ _ (p .0 .placed .passed) _ _ Pos (first-in _ e)), subst (λ b. Clue (c .before .before .before .before .before .before .before .before .before .before .args .words .now) (c .before .before .before .before .before .before .before .before .before .before .args .marks .now) 8 (c .before .before .before .before .before .before .before .before .before .before .args .x) 0 Pos b) (sym a) (clue-pos _ _ _ e)))))))
+    let a = c .before .first-atom .ensures in (
+      p .0,
+      (
+        p .1 .1 .0,
+        (
+          (omega arith, omega arith),
+          (
+            partner-known _ _ _ _ subsumed refl,
+            (
+              p .1 .1 .1,
+              (subst (λ b. b < 1024) (sym a) (part-small _ _ (p .0 .placed .passed) _ _ Pos (first-in _ e)), subst (λ b. Clue (c .before .before .before .before .before .before .before .before .before .before .args .words .now) (c .before .before .before .before .before .before .before .before .before .before .args .marks .now) 8 (c .before .before .before .before .before .before .before .before .before .before .args .x) 0 Pos b) (sym a) (clue-pos _ _ _ e)),
+            ),
+          ),
+        ),
+      ),
+    )
 
 returns : tie.Need-returns
 returns c = c .before .before .spread-along .ensures
@@ -39,9 +52,22 @@ spread-along-requires-2 : tie.Need-spread-along-requires-2
 spread-along-requires-2 c κs =
     let p = c .before .before .before .before .before .before .before .before .before .before .before .before .pre in
     let e = sym (c .before .before .before .empty2 .ensures) ∙ not-true _ (c .before .before .if2 .taken) in
-    let a = c .before .first-atom2 .ensures in
-    (p .0, (p .1 .1 .0, ((omega arith, omega arith), (partner-known _ _ _ _ subsumed refl, (p .1 .1 .1,
-    (subst (λ b. b < 1024) (sym a) (part-small _ _ (p .0 .placed .passed) _ _ Neg (first-in _ e)), subst (λ b. Clue (c .before .before .before .before .before .before .before .before .before .before .before .before .args .words .now) (c .before .before .before .before .before .before .before .before .before .before .before .before .args .marks .now) 8 (c .before .before .before .before .before .before .before .before .before .before .before .before .args .x) 0 Neg b) (sym a) (clue-neg _ _ _ e)))))))
+    let a = c .before .first-atom2 .ensures in (
+      p .0,
+      (
+        p .1 .1 .0,
+        (
+          (omega arith, omega arith),
+          (
+            partner-known _ _ _ _ subsumed refl,
+            (
+              p .1 .1 .1,
+              (subst (λ b. b < 1024) (sym a) (part-small _ _ (p .0 .placed .passed) _ _ Neg (first-in _ e)), subst (λ b. Clue (c .before .before .before .before .before .before .before .before .before .before .before .before .args .words .now) (c .before .before .before .before .before .before .before .before .before .before .before .before .args .marks .now) 8 (c .before .before .before .before .before .before .before .before .before .before .before .before .args .x) 0 Neg b) (sym a) (clue-neg _ _ _ e)),
+            ),
+          ),
+        ),
+      ),
+    )
 
 returns-2 : tie.Need-returns-2
 returns-2 c = c .before .before .spread-along2 .ensures

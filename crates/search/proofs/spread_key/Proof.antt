@@ -38,7 +38,7 @@ returns-4 c =
     let may' = c .before .before .flag-all .last .0 in
     let g = subst (λ r. Raising (c .before .before .before .before .before .before .before .before .before .before .before .before .before .before .before .args .may .now) may' r (c .before .before .before .before .before .before .before .before .before .before .before .before .before .before .before .args .m) × AllFlagged may' r (c .before .before .before .before .before .before .before .before .before .before .before .before .before .before .before .args .m)) (c .before .before .before .wide .ensures .0) (c .before .before .flag-all .ensures) in
     let h = subst (λ x. Raising (c .before .before .before .before .before .before .before .before .before .before .before .before .before .before .before .args .may .now) may' (c .before .before .before .before .before .before .before .before .before .before .before .before .before .before .before .args .kind) x × AllFlagged may' (c .before .before .before .before .before .before .before .before .before .before .before .before .before .before .before .args .kind) x) (c .before .before .before .before .before .before .before .before .before .before .before .before .before .before .before .pre .1 .0) g in
-    key-all _ _ _ may' _ _ (h .0) (h .1)
+    key-all _ _ _ may' _ _ (sym (c .before .before .before .before .before .before .before .before .uses-partner .ensures) ∙ c .before .before .before .before .before .before .before .if1 .left) (h .0) (h .1)
 
 returns-5 : tie.Need-returns-5
 returns-5 c = key-empty _ _ _ _ _ (sym (c .before .before .before .before .before .before .before .before .before .before .before .pre .1 .0) ∙ c .if5 .taken)

@@ -28,9 +28,22 @@ spread-along-requires c κs =
     let k = p .1 .1 .1 .0 in
     let e = sym (c .before .before .before .before .empty .ensures) ∙ not-true _ (c .before .before .before .if1 .taken) in
     let a = c .before .before .first-atom .ensures in
-    let w = subst (λ b. Clue (c .before .before .before .before .before .before .before .before .before .before .before .args .words .now) (c .before .before .before .before .before .before .before .before .before .before .before .args .marks .now) (c .before .before .before .before .before .before .before .before .before .before .before .args .kind) (c .before .before .before .before .before .before .before .before .before .before .before .args .x) 0 (targetPart (c .before .before .before .before .before .before .before .before .before .before .before .args .kind)) b) (sym a) (clue-head _ _ _ _ k e) in
-    (p .0, (p .1 .1 .0, ((k .low, k .high), (partner-known _ _ _ _ (kindOf (c .before .before .before .before .before .before .before .before .before .before .before .args .kind)) (k .uses), (p .1 .1 .1 .1,
-    (subst (λ b. b < 1024) (sym a) (part-small _ _ (p .0 .placed .passed) _ _ Head (first-in _ e)), subst (λ x. Clue (c .before .before .before .before .before .before .before .before .before .before .before .args .words .now) (c .before .before .before .before .before .before .before .before .before .before .before .args .marks .now) (c .before .before .before .before .before .before .before .before .before .before .before .args .kind) (c .before .before .before .before .before .before .before .before .before .before .before .args .x) 0 x (c .before .before .first-atom .result)) (sym (c .target-part .ensures)) w))))))
+    let w = subst (λ b. Clue (c .before .before .before .before .before .before .before .before .before .before .before .args .words .now) (c .before .before .before .before .before .before .before .before .before .before .before .args .marks .now) (c .before .before .before .before .before .before .before .before .before .before .before .args .kind) (c .before .before .before .before .before .before .before .before .before .before .before .args .x) 0 (targetPart (c .before .before .before .before .before .before .before .before .before .before .before .args .kind)) b) (sym a) (clue-head _ _ _ _ k e) in (
+      p .0,
+      (
+        p .1 .1 .0,
+        (
+          (k .low, k .high),
+          (
+            partner-known _ _ _ _ (kindOf (c .before .before .before .before .before .before .before .before .before .before .before .args .kind)) (k .uses),
+            (
+              p .1 .1 .1 .1,
+              (subst (λ b. b < 1024) (sym a) (part-small _ _ (p .0 .placed .passed) _ _ Head (first-in _ e)), subst (λ x. Clue (c .before .before .before .before .before .before .before .before .before .before .before .args .words .now) (c .before .before .before .before .before .before .before .before .before .before .before .args .marks .now) (c .before .before .before .before .before .before .before .before .before .before .before .args .kind) (c .before .before .before .before .before .before .before .before .before .before .before .args .x) 0 x (c .before .before .first-atom .result)) (sym (c .target-part .ensures)) w),
+            ),
+          ),
+        ),
+      ),
+    )
 
 returns : tie.Need-returns
 returns c = c .before .before .spread-along .ensures
