@@ -6,7 +6,8 @@ use lib.ListN.{length, getD}
 use Rattle.table.specs.View.{view}
 use Rattle.table.proofs.Encoding.{passed-limits}
 use Rattle.reach.specs.Counts.{Spread, Rest}
-use Rattle.reach.proofs.Counts.{spread-none, spread-trans, rest-start, room-same}
+use Rattle.reach.proofs.Queue.{spread-none, spread-trans}
+use Rattle.reach.proofs.Counts.{rest-start, room-same}
 use borrow.Author.Needs.{needs}
 use Rattle.reach.proofs.begin.Statement.{statement}
 use Rattle.reach.proofs.begin.Tie as tie

@@ -2,7 +2,7 @@
 use mathlib.Core.Path.{sym, ap, _∙_}
 use Rattle.parts.specs.declared.Part.the-variants.{Pos}
 use Rattle.parts.proofs.Laws.{part-is, part-marked}
-use Rattle.reach.proofs.Counts.{part-short}
+use Rattle.reach.proofs.Queue.{part-short}
 use lib.ListN.{length}
 use borrow.Author.Needs.{needs}
 use Rattle.reach.proofs.count_pos.Statement.{statement}

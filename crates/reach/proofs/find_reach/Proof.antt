@@ -6,7 +6,8 @@ use lib.ListN.{length, getD, length-replicate}
 use Rattle.table.specs.View.{view}
 use Rattle.reach.specs.Counts.{Spread, Rest}
 use Rattle.reach.proofs.Laws.{grown-trans, reached-by}
-use Rattle.reach.proofs.Counts.{queued-few, queued-none, spread-none, spread-trans, rest-closed}
+use Rattle.reach.proofs.Queue.{queued-few, queued-none, spread-none, spread-trans}
+use Rattle.reach.proofs.Counts.{rest-closed}
 use borrow.Author.Needs.{needs}
 use Rattle.reach.proofs.find_reach.Statement.{statement}
 use Rattle.reach.proofs.find_reach.Tie as tie

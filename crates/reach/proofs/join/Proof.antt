@@ -4,7 +4,7 @@ use mathlib.Core.Path.{_≡_, sym, subst}
 use Prim.Native.Nat.{_+_}
 use lib.ListN.{getD, set}
 use Rattle.reach.specs.Counts.{Joined}
-use Rattle.reach.proofs.Counts.{join-old, join-room, join-new}
+use Rattle.reach.proofs.Queue.{join-old, join-room, join-new}
 use borrow.Author.Needs.{needs}
 use Rattle.reach.proofs.join.Statement.{statement}
 use Rattle.reach.proofs.join.Tie as tie

@@ -4,7 +4,7 @@ use mathlib.Core.Path.{_≡_, refl, _∙_}
 use Prim.Native.Nat.{_≤_, _-_}
 use lib.ListN.{length}
 use Rattle.reach.specs.Counts.{Joined}
-use Rattle.reach.proofs.Counts.{Among, joined-none, joined-past, joined-on, joined-end}
+use Rattle.reach.proofs.Queue.{Among, joined-none, joined-past, joined-on, joined-end}
 use borrow.Author.Needs.{needs}
 use Rattle.reach.proofs.join_all.Statement.{statement}
 use Rattle.reach.proofs.join_all.Tie as tie

@@ -1,7 +1,7 @@
 -- `reach::join_head` meets its contract.
 use Rattle.parts.specs.declared.Part.the-variants.{Head}
 use Rattle.parts.proofs.Laws.{part-is, part-marked}
-use Rattle.reach.proofs.Counts.{part-small, joined-of}
+use Rattle.reach.proofs.Queue.{part-small, joined-of}
 use borrow.Author.Needs.{needs}
 use Rattle.reach.proofs.join_head.Statement.{statement}
 use Rattle.reach.proofs.join_head.Tie as tie

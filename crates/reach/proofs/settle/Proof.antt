@@ -2,7 +2,7 @@
 use mathlib.Core.Path.{sym, _∙_}
 use borrow.Author.Tests.{not-true, not-false}
 use Rattle.table.specs.View.{view}
-use Rattle.reach.proofs.Counts.{spread-none, fired-gone, spread-head}
+use Rattle.reach.proofs.Queue.{spread-none, fired-gone, spread-head}
 use borrow.Author.Needs.{needs}
 use Rattle.reach.proofs.settle.Statement.{statement}
 use Rattle.reach.proofs.settle.Tie as tie

@@ -8,7 +8,8 @@ use Rattle.table.proofs.Encoding.{passed-limits}
 use Rattle.parts.specs.Parts.{Stands, ownerAt}
 use Rattle.parts.specs.declared.Part.the-variants.{Pos}
 use Rattle.reach.specs.Counts.{Spread}
-use Rattle.reach.proofs.Counts.{queued-few, queued-at, spread-none, spread-trans, room-same, Walk, walk-start, walk-due, walk-on, walk-end, latest-less}
+use Rattle.reach.proofs.Queue.{queued-few, queued-at, spread-none, spread-trans}
+use Rattle.reach.proofs.Counts.{room-same, Walk, walk-start, walk-due, walk-on, walk-end, latest-less}
 use Rattle.reach.proofs.take_atom.Statement.{statement}
 use Rattle.reach.proofs.take_atom.Tie as tie
 
