@@ -3,10 +3,9 @@ use mathlib.Core.Path.{_≡_, refl, sym, ap, subst, _∙_}
 use mathlib.Core.Logic.{by-cases}
 use mathlib.Core.Bool.{Bool, true, false, cond}
 use mathlib.Core.List.{List, _∷_, List·Memᴰ·head, List·Memᴰ·tail}
-use Prim.Native.Nat.{ℕ, zero, suc, _+_, _-_, _≤_, _<_}
+use Prim.Native.Nat.{ℕ, zero, suc, _+_, _≤_, _<_}
 use native.Mathlib.Omega.{arith}
 use native.Mathlib.Decide.{decLt, ℕ-discrete}
-use native.Mathlib.Numerals.{add-one}
 use lib.Dec.{eqb}
 use lib.ListN.{length, getD, set, length-set}
 use lib.Seq.{getD-set-same, getD-set-other}
@@ -14,7 +13,7 @@ use borrow.Author.Tests.{eq-eqb}
 use Rattle.semantics.specs.Lists.{_∈_}
 use Rattle.rewriting.specs.Marked.{entry}
 use Rattle.table.specs.Questions.{Passed}
-use Rattle.table.specs.Places.{headAt, posAt, negAt, nextAt, startFrom, startOf}
+use Rattle.table.specs.Places.{nextAt, startFrom, startOf}
 use Rattle.table.specs.View.{part, view}
 use Rattle.table.proofs.Encoding.{passed-limits}
 use Rattle.table.proofs.Places.{passed-good, start-suc}

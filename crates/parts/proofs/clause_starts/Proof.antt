@@ -1,7 +1,7 @@
 -- `parts::clause_starts` meets its contract. The invariant: the clauses before t are in the index, and clause t starts at `at`.
 use native.Mathlib.Omega.{arith}
-use mathlib.Core.Path.{_≡_, refl, sym, ap, subst, _∙_}
-use Prim.Native.Nat.{ℕ, _≤_, _-_}
+use mathlib.Core.Path.{_≡_, refl, _∙_}
+use Prim.Native.Nat.{_≤_, _-_}
 use lib.ListN.{length, getD, length-set}
 use Rattle.table.specs.Places.{startFrom, startOf}
 use Rattle.table.proofs.Encoding.{passed-limits}

@@ -1,6 +1,6 @@
 -- `parts::clear_last` meets its contract. The invariant: what was passed is 0.
 use native.Mathlib.Omega.{arith}
-use mathlib.Core.Path.{_≡_, refl, sym, ap, subst, _∙_}
+use mathlib.Core.Path.{_≡_, refl}
 use Prim.Native.Nat.{ℕ, _≤_, _<_, _-_}
 use lib.ListN.{length, getD, length-set}
 use Rattle.parts.proofs.Index.{cleared-more}

@@ -1,11 +1,10 @@
 -- `parts::index_clause` meets its contract.
 use native.Mathlib.Omega.{arith}
-use mathlib.Core.Path.{_≡_, refl, sym, ap, subst, _∙_}
-use lib.ListN.{length, length-set}
+use mathlib.Core.Path.{sym, subst, _∙_}
+use lib.ListN.{length-set}
 use Rattle.parts.specs.Parts.{Indexed}
 use Rattle.parts.proofs.Laws.{start-next}
 use Rattle.parts.proofs.Index.{index-fits, index-counts, index-start}
-use borrow.Author.Needs.{needs}
 use Rattle.parts.proofs.index_clause.Statement.{statement}
 use Rattle.parts.proofs.index_clause.Tie as tie
 

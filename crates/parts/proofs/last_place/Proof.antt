@@ -1,6 +1,6 @@
 -- `parts::last_place` meets its contract.
 use native.Mathlib.Omega.{arith}
-use mathlib.Core.Path.{_≡_, refl, sym, ap, subst, _∙_}
+use mathlib.Core.Path.{sym, ap, subst, _∙_}
 use lib.ListN.{length, getD}
 use Rattle.parts.specs.Parts.{Latest}
 use Rattle.parts.proofs.Index.{last-range}

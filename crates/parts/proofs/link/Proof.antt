@@ -1,9 +1,9 @@
 -- `parts::link` meets its contract.
 use native.Mathlib.Omega.{arith}
-use mathlib.Core.Path.{_≡_, refl, sym, ap, subst, _∙_}
+use mathlib.Core.Path.{sym, subst}
 use Prim.Native.Nat.{_+_}
 use lib.ListN.{getD, set, length-set}
-use Rattle.parts.specs.Parts.{Indexed, lastAt}
+use Rattle.parts.specs.Parts.{Indexed}
 use Rattle.parts.proofs.Index.{stands-small, last-range, index-on}
 use borrow.Author.Needs.{needs}
 use Rattle.parts.proofs.link.Statement.{statement}

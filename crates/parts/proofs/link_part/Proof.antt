@@ -1,7 +1,7 @@
 -- `parts::link_part` meets its contract. The invariant: the places passed are linked.
 use native.Mathlib.Omega.{arith}
 use mathlib.Core.Path.{_≡_, refl, sym, ap, subst, _∙_}
-use Prim.Native.Nat.{ℕ, _+_, _≤_, _<_, _-_}
+use Prim.Native.Nat.{_≤_, _-_}
 use lib.ListN.{length}
 use Rattle.parts.specs.Parts.{spanOf, Indexed}
 use Rattle.parts.proofs.Index.{index-fits, span-stands, span-order}

@@ -1,6 +1,6 @@
 -- `parts::place_before` meets its contract.
 use native.Mathlib.Omega.{arith}
-use mathlib.Core.Path.{_≡_, refl, sym, ap, subst, _∙_}
+use mathlib.Core.Path.{sym, subst}
 use Rattle.table.proofs.Encoding.{passed-limits}
 use Rattle.parts.specs.Parts.{Latest}
 use borrow.Author.Needs.{needs}

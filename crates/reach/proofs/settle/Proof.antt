@@ -1,20 +1,25 @@
 -- `reach::settle` meets its contract.
-use native.Mathlib.Omega.{arith}
-use Rattle.reach.proofs.Laws.{grown-none, grown-fired}
+use mathlib.Core.Path.{sym, _∙_}
+use borrow.Author.Tests.{not-true, not-false}
+use Rattle.table.specs.View.{view}
+use Rattle.reach.proofs.Queue.{spread-none, fired-gone, spread-head}
 use borrow.Author.Needs.{needs}
 use Rattle.reach.proofs.settle.Statement.{statement}
 use Rattle.reach.proofs.settle.Tie as tie
 
-wait-requires : tie.Need-wait-requires
-wait-requires c κs = omega (arith, c .before .before .before .before .before .before .before .before .before .before .before .before .shared-slice-known .given 1, c .before .before .before .before .before .before .before .before .before .before .before .before .before .pre .1)
-
 returns : tie.Need-returns
-returns c = grown-none _ _
+returns c = (spread-none _ _ _ _ (c .before .before .before .before .before .before .pre .1 .1 .1 .0), λ k z. absurd (c .if1 .taken z))
 
 returns-2 : tie.Need-returns-2
-returns-2 c = rw (c .before .before .fire .ensures .1) (grown-fired _ _ (c .before .before .before .before .before .before .before .before .before .before .before .before .before .before .args .t))
+returns-2 c = (spread-none _ _ _ _ (c .before .before .before .before .before .before .before .before .pre .1 .1 .1 .0), fired-gone (view (c .before .before .before .before .before .before .before .before .args .words .now) (c .before .before .before .before .before .before .before .before .args .marks .now)) (c .before .before .before .before .before .before .before .before .args .t) (c .before .before .before .before .before .before .before .before .args .bytes .now) (c .before .before .before .before .before .before .before .before .args .left) (sym (c .before .kept .ensures) ∙ not-true _ (c .if2 .taken)))
+
+join-head-requires : tie.Need-join-head-requires
+join-head-requires c κs = (c .before .before .before .before .before .before .before .before .before .before .pre .0, (c .before .before .before .before .before .before .before .before .before .before .pre .1 .0, (c .before .before .before .before .before .before .before .before .before .before .pre .1 .1 .0, c .before .before .before .before .before .before .before .before .before .before .pre .1 .1 .1 .0)))
+
+returns-3 : tie.Need-returns-3
+returns-3 c = (spread-head _ (c .before .before .before .before .before .before .before .before .before .before .before .before .before .before .before .args .t) (sym (c .before .before .before .before .before .before .before .before .kept .ensures) ∙ not-false _ (c .before .before .before .before .before .before .before .if2 .left)) (c .before .before .before .before .before .before .before .before .before .before .before .before .before .before .before .pre .1 .1 .1 .1 (c .before .before .before .before .before .before .before .before .before .if1 .left)) (c .before .before .before .before .join-head .ensures), λ k z. c .before .before .before .before .join-head .ensures .holds)
 
 pub settle-spec : {M : Type 1} → statement M
 settle-spec =
     tie.close
-    (tie.spec (λ c κs. search needs) (λ c κs. search needs) (λ c κs. search needs) (λ c. search needs) (λ c. search needs) (λ c κs. search needs) wait-requires (λ c. search needs) (λ c. search needs) returns (λ c κs. search needs) (λ c. search needs) returns-2)
+    (tie.spec returns (λ c κs. search needs) returns-2 join-head-requires (λ c. search needs) (λ c. search needs) returns-3)
