@@ -15,7 +15,7 @@ use Rattle.table.specs.declared.Walk.the-variants.{To, Stop}
 use Rattle.table.specs.declared.Checked.{Checked}
 use Rattle.table.specs.declared.Checked.the-variants.{Valid, Refused}
 use Rattle.table.specs.Refusals.{refusalNumber}
-use Rattle.table.specs.Questions.{ask, andThen, onTo, partFrom, partsFrom, clauseFrom, clausesFrom, askTable, allUsed, numbers, tableOf}
+use Rattle.table.specs.Questions.{ask, andThen, onTo, atomsFrom, partFrom, partsFrom, clauseFrom, clausesFrom, askTable, allUsed, numbers, tableOf}
 
 -- a walk that is refused, is refused by one of questions 1 to 8
 abbrev Small : Walk → Type 0
@@ -42,7 +42,7 @@ on-small (To e) f a b = b e
 on-small (Stop r) f a b = a
 
 part-small : (ws : List ℕ) (n low at k : ℕ) → Small (partFrom ws n low at k)
-unfolding partFrom
+unfolding atomsFrom
 part-small ws n low at zero = tt
 part-small ws n low at (suc k) = ask-small (ltb (getD ws at 0) n) (Word AtomBelow at) _ (omega arith)
     (ask-small (leb low (getD ws at 0)) (Word Ascending at) _ (omega arith) (part-small ws n (getD ws at 0 + 1) (at + 1) k))

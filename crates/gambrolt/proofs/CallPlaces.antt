@@ -1,5 +1,5 @@
 -- The place of a refused call, and the value of one that is taken, are at most 65,536: of a set, of marks, of the cycle answer.
-use Prim.Native.Nat.{ℕ, zero, suc, _≤_, _<_, _-_, _+_}
+use Prim.Native.Nat.{ℕ, zero, suc, _≤_, _-_, _+_}
 use mathlib.Core.Path.{_≡_, refl}
 use mathlib.Core.List.{List}
 use mathlib.Core.Bool.{Bool, true, false}
@@ -8,8 +8,9 @@ use native.Mathlib.Omega.{arith}
 use lib.Dec.{leb}
 use lib.ListN.{length, getD}
 use Rattle.table.specs.declared.CallQuestion.the-variants.{MarksLength, TableRoom}
+use Rattle.table.specs.declared.EntryQuestion.the-variants.{EntryBelow, EntryAscending}
 use Rattle.table.specs.declared.Refusal.{Refusal}
-use Rattle.table.specs.declared.Refusal.the-variants.{Call}
+use Rattle.table.specs.declared.Refusal.the-variants.{Call, Entry}
 use Rattle.table.specs.declared.Walk.{Walk}
 use Rattle.table.specs.declared.Walk.the-variants.{To, Stop}
 use Rattle.table.specs.declared.Checked.{Checked}
@@ -21,25 +22,19 @@ use Rattle.compaction.specs.declared.CompactAnswer.{CompactAnswer}
 use Rattle.compaction.specs.declared.CompactAnswer.the-variants as compacted
 use Rattle.compaction.specs.Reduced.{allowed, marksFrom, reduced, askCall, onMarks, onTable as onCompact, roomAnswer, markedAnswer, reducedAnswer}
 use Rattle.compaction.proofs.Limits.{left-within}
-use Rattle.stability.specs.Answer.{entriesFrom, setOf, onSet, onTable, testOf}
+use Rattle.stability.specs.Answer.{setOf, onSet, onTable, testOf}
 use Rattle.stability.specs.declared.TestAnswer.{TestAnswer}
 use Rattle.stability.specs.declared.TestAnswer.the-variants as tested
 use Rattle.dependency.specs.Answer.{onTable as onCycle, cycleOf}
 use Rattle.dependency.specs.declared.CycleAnswer.{CycleAnswer}
 use Rattle.dependency.specs.declared.CycleAnswer.the-variants as cycled
-use Rattle.gambrolt.proofs.Places.{Near, near-ask, Checks, table-checks}
+use Rattle.gambrolt.proofs.Places.{Near, near-ask, atoms-near, Checks, table-checks}
 
 -- ---- a set
 
-entries-near : (set : List ℕ) (n low at k b : ℕ) → at + k ≤ b → Near b (entriesFrom set n low at k)
-unfolding entriesFrom
-entries-near set n low at zero b h = omega arith
-entries-near set n low at (suc k) b h =
-    near-ask b _ _ _ (omega arith) (λ _. near-ask b _ _ _ (omega arith) (λ _. entries-near set n _ (at + 1) k b (omega arith)))
-
 set-near : (set : List ℕ) (n : ℕ) → Near 16 (setOf set n)
 unfolding setOf
-set-near set n = near-ask 16 _ _ _ (omega arith) (λ t. let h = leb-true (length set) 16 t in entries-near set n 0 0 (length set) 16 (omega arith))
+set-near set n = near-ask 16 _ _ _ (omega arith) (λ t. let h = leb-true (length set) 16 t in atoms-near (Entry EntryBelow) (Entry EntryAscending) (λ i. refl) (λ i. refl) set n 0 0 (length set) 16 (omega arith))
 
 abbrev Tests : TestAnswer → Type 0
 Tests (tested.Accepted b) = Unit {0}

@@ -1,20 +1,22 @@
 -- The place of a refused table is at most its length, so at most 65,536: number and place share one number.
-use Prim.Native.Nat.{ℕ, zero, suc, _≤_, _<_, _-_, _+_}
-use mathlib.Core.Path.{_≡_, refl, sym, ap, _∙_}
+use Prim.Native.Nat.{ℕ, zero, suc, _≤_, _-_, _+_}
+use mathlib.Core.Path.{_≡_, refl}
 use mathlib.Core.List.{List}
-use mathlib.Core.Bool.{Bool, true, false, _&&_}
-use borrow.Author.Tests.{leb-true, ltb-true}
+use mathlib.Core.Bool.{Bool, true, false}
+use borrow.Author.Tests.{leb-true}
 use native.Mathlib.Omega.{arith}
-use lib.Dec.{leb, ltb}
+use lib.Dec.{leb}
 use lib.ListN.{length, getD}
 use Rattle.semantics.proofs.Tests.{and-iff}
+use Rattle.table.specs.declared.WordQuestion.the-variants.{AtomBelow, Ascending}
 use Rattle.table.specs.declared.Refusal.{Refusal}
+use Rattle.table.specs.declared.Refusal.the-variants.{Word}
 use Rattle.table.specs.declared.Walk.{Walk}
 use Rattle.table.specs.declared.Walk.the-variants.{To, Stop}
 use Rattle.table.specs.declared.Checked.{Checked}
 use Rattle.table.specs.declared.Checked.the-variants as checked
 use Rattle.table.specs.Refusals.{refusalPlace}
-use Rattle.table.specs.Questions.{ask, andThen, onTo, partFrom, partsFrom, clauseFrom, clausesFrom, askTable, allUsed, tableOf}
+use Rattle.table.specs.Questions.{ask, andThen, onTo, atomsFrom, partFrom, partsFrom, clauseFrom, clausesFrom, askTable, allUsed, tableOf}
 
 -- ---- walks over words
 
@@ -38,20 +40,24 @@ unfolding onTo
 near-on b (To e) f h k = k e h
 near-on b (Stop r) f h k = h
 
+-- what is asked of atoms one by one, where a refusal has the atom's place
+pub atoms-near : (below above : ℕ → Refusal) → ((i : ℕ) → refusalPlace (below i) ≡ i) → ((i : ℕ) → refusalPlace (above i) ≡ i) → (ws : List ℕ) (n low at k b : ℕ) → at + k ≤ b → Near b (atomsFrom below above ws n low at k)
+unfolding atomsFrom
+atoms-near below above f g ws n low at zero b h = omega arith
+atoms-near below above f g ws n low at (suc k) b h =
+    near-ask b _ _ _ (omega (arith, f at)) (λ _. near-ask b _ _ _ (omega (arith, g at)) (λ _. atoms-near below above f g ws n _ (at + 1) k b (omega arith)))
+
 -- ---- a table
 
-part-near : (ws : List ℕ) (n low at k b : ℕ) → at + k ≤ b → Near b (partFrom ws n low at k)
-unfolding partFrom
-part-near ws n low at zero b h = omega arith
-part-near ws n low at (suc k) b h =
-    near-ask b _ _ _ (omega arith) (λ _. near-ask b _ _ _ (omega arith) (λ _. part-near ws n _ (at + 1) k b (omega arith)))
+part-near : (ws : List ℕ) (n at k b : ℕ) → at + k ≤ b → Near b (partFrom ws n 0 at k)
+part-near ws n at k b h = atoms-near (Word AtomBelow) (Word Ascending) (λ i. refl) (λ i. refl) ws n 0 at k b h
 
 clause-near : (ws : List ℕ) (n at : ℕ) → at ≤ length ws → Near (length ws) (clauseFrom ws n at)
 unfolding clauseFrom partsFrom
 clause-near ws n at h =
     near-ask _ _ _ _ h (λ t. let l = leb-true 3 (length ws - at) t in
     near-ask _ _ _ _ h (λ u. let k = leb-true (getD ws at 0 + getD ws (at + 1) 0 + getD ws (at + 2) 0) (length ws - at - 3) u in
-    near-then _ _ _ (part-near ws n 0 _ _ _ (omega arith)) (near-then _ _ _ (part-near ws n 0 _ _ _ (omega arith)) (part-near ws n 0 _ _ _ (omega arith)))))
+    near-then _ _ _ (part-near ws n _ _ _ (omega arith)) (near-then _ _ _ (part-near ws n _ _ _ (omega arith)) (part-near ws n _ _ _ (omega arith)))))
 
 clauses-near : (ws : List ℕ) (n m at : ℕ) → at ≤ length ws → Near (length ws) (clausesFrom ws n m at)
 unfolding clausesFrom
