@@ -28,7 +28,7 @@ use Rattle.compaction.specs.declared.CompactAnswer.{CompactAnswer}
 use Rattle.compaction.specs.declared.CompactAnswer.the-variants.{Accepted, Refused}
 use Rattle.compaction.specs.Reduced.{allowed, marksFrom, leftProgram, reduced, askCall, onMarks, onTable, roomAnswer, markedAnswer, reducedAnswer, written, reducedOut}
 use Rattle.compaction.proofs.Answers.{answer-few, answer-mark, answer-table, answer-valid, answer-room, answer-accepted}
-use Rattle.claims.proofs.Numbers.{table-number}
+use Rattle.table.proofs.Refused.{table-refused}
 
 -- ---- the reduced table is the table of the program as left, and passes questions 1 to 8: `left-within`, `reduced-passes`
 
@@ -179,7 +179,7 @@ module _ (ws ms out : List ℕ) where
       let a = answer-table ws ms out r q in
       let e : r ≡ Call TableRoom = cc in
       let n : refusalNumber r ≡ 18 = ap refusalNumber e in
-      absurd (omega (arith, table-number ws r q))
+      absurd (omega (arith, table-refused ws r q .0))
 
   -- "Does not fit" is said exactly when all before it is answered yes and the slice is shorter than the words.
   pub reduced-room : (reducedAnswer ws ms out ≡ Refused (Call TableRoom)) ↔ (Asked ws ms × (length out < length (reduced ws ms)))

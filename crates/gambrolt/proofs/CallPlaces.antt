@@ -28,19 +28,25 @@ use Rattle.stability.specs.declared.TestAnswer.the-variants as tested
 use Rattle.dependency.specs.Answer.{onTable as onCycle, cycleOf}
 use Rattle.dependency.specs.declared.CycleAnswer.{CycleAnswer}
 use Rattle.dependency.specs.declared.CycleAnswer.the-variants as cycled
-use Rattle.gambrolt.proofs.Places.{Near, near-ask, atoms-near, Checks, table-checks}
+use Rattle.table.proofs.Refused.{Near, near-ask, atoms-near}
+use Rattle.gambrolt.proofs.Places.{Checks, table-checks}
 
 -- ---- a set
 
-set-near : (set : List ℕ) (n : ℕ) → Near 16 (setOf set n)
+-- a walk comes to a place of at most b, or is refused at one
+abbrev NearBy : ℕ → Walk → Type 0
+NearBy b w = Near (λ r. refusalPlace r ≤ b) b w
+
+set-near : (set : List ℕ) (n : ℕ) → NearBy 16 (setOf set n)
 unfolding setOf
-set-near set n = near-ask 16 _ _ _ (omega arith) (λ t. let h = leb-true (length set) 16 t in atoms-near (Entry EntryBelow) (Entry EntryAscending) (λ i. refl) (λ i. refl) set n 0 0 (length set) 16 (omega arith))
+set-near set n = near-ask (λ r. refusalPlace r ≤ 16) 16 _ _ _ (omega arith) (λ t. let h = leb-true (length set) 16 t in
+    atoms-near (λ r. refusalPlace r ≤ 16) 16 (Entry EntryBelow) (Entry EntryAscending) (λ i l. l) (λ i l. l) set n 0 0 (length set) (omega arith))
 
 abbrev Tests : TestAnswer → Type 0
 Tests (tested.Accepted b) = Unit {0}
 Tests (tested.Refused r) = refusalPlace r ≤ 65536
 
-on-set : (w : Walk) (b : Bool) → Near 16 w → Tests (onSet w b)
+on-set : (w : Walk) (b : Bool) → NearBy 16 w → Tests (onSet w b)
 unfolding onSet
 on-set (To e) b h = tt
 on-set (Stop r) b h = omega arith
@@ -59,10 +65,10 @@ test-place ws set r q = rw q at (test-tests ws set)
 
 -- ---- the reduced table
 
-marks-near : (f : ℕ → Bool) (at k b : ℕ) → at + k ≤ b → Near b (marksFrom f at k)
+marks-near : (f : ℕ → Bool) (at k b : ℕ) → at + k ≤ b → NearBy b (marksFrom f at k)
 unfolding marksFrom
 marks-near f at zero b h = omega arith
-marks-near f at (suc k) b h = near-ask b _ _ _ (omega arith) (λ _. marks-near f (at + 1) k b (omega arith))
+marks-near f at (suc k) b h = near-ask (λ r. refusalPlace r ≤ b) b _ _ _ (omega arith) (λ _. marks-near f (at + 1) k b (omega arith))
 
 abbrev Compacts : CompactAnswer → Type 0
 Compacts (compacted.Accepted k) = k ≤ 65536
@@ -73,7 +79,7 @@ unfolding askCall
 compacts-ask true r a h y = y
 compacts-ask false r a h y = h
 
-on-marks : (w : Walk) (a : CompactAnswer) → Near 8192 w → Compacts a → Compacts (onMarks w a)
+on-marks : (w : Walk) (a : CompactAnswer) → NearBy 8192 w → Compacts a → Compacts (onMarks w a)
 unfolding onMarks
 on-marks (To e) a h k = k
 on-marks (Stop r) a h k = omega arith

@@ -1,4 +1,5 @@
 pub mod Laws
+pub mod Refused
 pub mod Stands
 pub mod Rising
 pub mod Encoding
