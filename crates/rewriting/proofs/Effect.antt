@@ -19,7 +19,7 @@ use Rattle.rewriting.proofs.Left.{left-each, kept-lt, closed-left}
 use Rattle.rewriting.proofs.Reach.{inNoHead-iff, reach-closed, reach-least}
 use Rattle.rewriting.proofs.Sound.{single-elim, partner-other, applies-ask}
 use Rattle.rewriting.specs.Kinds.{drops}
-use Rattle.rewriting.proofs.Below.{Below, below-same, below-rewritten, rewritten-kept}
+use Rattle.rewriting.proofs.Subclauses.{Below, below-same, below-rewritten, rewritten-kept}
 
 -- ---- heads and the reach of what is left, by the clauses' numbers
 

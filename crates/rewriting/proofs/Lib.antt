@@ -5,7 +5,7 @@ pub mod Sound
 pub mod Measure
 pub mod Search
 pub mod Greedy
-pub mod Below
+pub mod Subclauses
 pub mod Effect
 pub mod Reopen
 pub mod Quiet

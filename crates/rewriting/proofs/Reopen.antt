@@ -16,7 +16,7 @@ use Rattle.semantics.proofs.Models.{All}
 use Rattle.rewriting.specs.Marked.{Marked, entry, left}
 use Rattle.rewriting.specs.Reach.{reach}
 use Rattle.rewriting.specs.Steps.{Step, step, Kind, tautology, contradiction, success, noHead, blocked, failure, loop, subsumed, usesPartner, fact, inNoHead, condition, conditionHolds, applies, effect, number}
-use Rattle.rewriting.proofs.Below.{Keeps, back}
+use Rattle.rewriting.proofs.Subclauses.{Keeps, back}
 use Rattle.rewriting.proofs.Effect.{asks, at-other, is-deleted, heads-back, reach-drop, reach-idle, reach-twin}
 pub use Rattle.rewriting.specs.Kinds.{drops, asksHeads}
 pub use Rattle.rewriting.proofs.Effect.{partner-asked, effect-below, reach-less, drop-reach, idle-reach}
