@@ -1,7 +1,7 @@
 -- The marks that an accepted list leaves pass question 10, so that the reduced table of the reducer's marks is never refused but by 18.
-use mathlib.Core.Path.{_≡_, refl, sym, ap, subst, _∙_}
+use mathlib.Core.Path.{_≡_, refl, sym, subst}
 use mathlib.Core.Logic.{_⊎_, inl, inr, by-cases}
-use mathlib.Core.Bool.{Bool, true, false, cond, _&&_, _||_, So, false≢true}
+use mathlib.Core.Bool.{Bool, true, false, cond, _&&_, _||_, So}
 use mathlib.Core.List.{List, [], _∷_}
 use Prim.Native.Nat.{ℕ, zero, suc, _+_, _≤_, _<_}
 use native.Mathlib.Omega.{arith}
@@ -11,7 +11,7 @@ use lib.ListN.{length, getD, set}
 use lib.Seq.{getD-set-same, getD-set-other}
 use borrow.Author.Tests.{eq-eqb, le-leb, lt-ltb}
 use Rattle.semantics.specs.Programs.{Clause}
-use Rattle.semantics.proofs.Tests.{and-iff}
+use Rattle.semantics.proofs.Tests.{or-left, or-right, and-iff}
 use Rattle.rewriting.specs.Marked.{entry}
 use Rattle.rewriting.specs.Steps.{Kind, tautology, contradiction, success, noHead, blocked, failure, loop, subsumed, Step, applies, accepted}
 use Rattle.table.specs.Questions.{Passed}
@@ -24,7 +24,7 @@ use Rattle.compaction.specs.Reduced.{clearableIn, clearableFrom, allowed, reduc
 use Rattle.reducer.specs.declared.ReduceAnswer.the-variants as answer
 use Rattle.reducer.specs.Reductions.{stepsOf, reduction}
 use Rattle.reducer.proofs.Taken.{taken, steps-accepted, lengths-kept}
-use Rattle.claims.proofs.Reduced.{Asked, reduced-fits}
+use Rattle.claims.proofs.Reduced.{reduced-fits}
 
 -- ---- the places that a step clears
 
@@ -47,14 +47,6 @@ clears-where ws blocked at d a = inl refl
 clears-where ws failure at d a = inl refl
 clears-where ws loop at d a = inl refl
 clears-where ws subsumed at d a = inl refl
-
-or-left : (a b : Bool) → So a → So (a || b)
-or-left true b h = refl
-or-left false b h = absurd (false≢true h)
-
-or-right : (a b : Bool) → So b → So (a || b)
-or-right true b h = refl
-or-right false b h = h
 
 clearable-in : (ws : List ℕ) (at i : ℕ) → (i ≡ at) ⊎ (posAt ws at ≤ i) → i < nextAt ws at → So (clearableIn ws at i)
 clearable-in ws at i (inl e) h = or-left (eqb i at) _ (eq-eqb i at e)

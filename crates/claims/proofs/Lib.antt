@@ -1,4 +1,3 @@
-pub mod Numbers
 pub mod Tests
 pub mod Texts
 pub mod Reductions

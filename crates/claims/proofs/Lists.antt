@@ -1,21 +1,19 @@
 -- Checking a list keeps the stable models, whatever its answer; what a refused call leaves; and marks past the table.
-use mathlib.Core.Path.{_≡_, refl, sym, ap, subst, _∙_}
+use mathlib.Core.Path.{_≡_, refl, sym, subst, _∙_}
 use mathlib.Core.Logic.{_↔_, Iff·trans, Iff·rfl}
 use mathlib.Core.Bool.{Bool, true, false, So}
-use mathlib.Core.List.{List, [], _∷_, _++_}
-use Prim.Native.Nat.{ℕ, zero, suc, _+_, _-_, _*_, _/_, _≤_, _<_}
+use mathlib.Core.List.{List}
+use Prim.Native.Nat.{ℕ, zero, suc, _+_, _-_, _/_, _≤_, _<_}
 use native.Mathlib.Omega.{arith}
-use native.Mathlib.Nat.{add-zero}
 use lib.Dec.{leb}
-use lib.ListN.{length, getD, set, take, drop, replicate, length-replicate}
+use lib.ListN.{length, getD, drop, replicate, length-replicate}
 use lib.Seq.{drop-set-lt, drop-at}
 use borrow.Author.Tests.{leb-true}
 use Rattle.semantics.specs.Programs.{Atoms, Program, program, Stable}
 use Rattle.rewriting.specs.Marked.{left}
-use Rattle.rewriting.specs.Steps.{applies, effect}
+use Rattle.rewriting.specs.Steps.{applies}
 use Rattle.rewriting.proofs.Sound.{step-sound}
 use Rattle.table.specs.declared.StepQuestion.{StepQuestion}
-use Rattle.table.specs.declared.CallQuestion.{CallQuestion}
 use Rattle.table.specs.declared.CallQuestion.the-variants.{MarksLength, ListLength}
 use Rattle.table.specs.declared.Refusal.{Refusal}
 use Rattle.table.specs.declared.Refusal.the-variants as refusal
@@ -29,7 +27,6 @@ use Rattle.table.proofs.Encoding.{valid-passed}
 use Rattle.table.proofs.View.{view-after, length-after, clears-lt}
 use Rattle.table.proofs.Parts.{left-allKept, length-allKept}
 use Rattle.conditions.specs.Known.{stepOf}
-use Rattle.checker.specs.declared.CheckAnswer.{CheckAnswer}
 use Rattle.checker.specs.declared.CheckAnswer.the-variants.{Accepted, Refused}
 use Rattle.checker.specs.declared.Verdict.{Verdict}
 use Rattle.checker.specs.declared.Verdict.the-variants.{Fine, No}

@@ -7,12 +7,10 @@ use Prim.Native.Nat.{ℕ, zero, suc, _+_, _≤_, _<_}
 use native.Mathlib.Omega.{arith}
 use native.Mathlib.Decide.{decLt}
 use lib.Dec.{leb}
-use lib.ListN.{length, getD, take, drop}
+use lib.ListN.{length, take, drop}
 use lib.Seq.{sets, sets-eq, take-at, drop-at}
 use borrow.Author.Tests.{leb-true}
-use Rattle.semantics.specs.Programs.{Clause, Atoms, Stable}
-use Rattle.rewriting.specs.Marked.{left}
-use Rattle.rewriting.proofs.Left.{left-each}
+use Rattle.semantics.specs.Programs.{Atoms, Stable}
 use Rattle.table.specs.declared.CallQuestion.the-variants.{TableRoom}
 use Rattle.table.specs.declared.WordQuestion.the-variants.{MarkAllowed}
 use Rattle.table.specs.declared.Refusal.{Refusal}
@@ -23,17 +21,14 @@ use Rattle.table.specs.declared.Checked.{Checked}
 use Rattle.table.specs.declared.Checked.the-variants.{Valid, Refused as NoTable}
 use Rattle.table.specs.Refusals.{refusalNumber}
 use Rattle.table.specs.Questions.{ask, tableOf, Passed}
-use Rattle.table.specs.Encoding.{encode, OrderedClause, Within}
+use Rattle.table.specs.Encoding.{encode}
 use Rattle.table.specs.Places.{programOf}
-use Rattle.table.specs.View.{view}
-use Rattle.table.proofs.Encoding.{encode-passes, program-encode, passed-limits, valid-passed}
-use Rattle.table.proofs.Parts.{Straight, view-straight}
+use Rattle.table.proofs.Encoding.{program-encode, valid-passed}
 use Rattle.compaction.specs.declared.CompactAnswer.{CompactAnswer}
 use Rattle.compaction.specs.declared.CompactAnswer.the-variants.{Accepted, Refused}
 use Rattle.compaction.specs.Reduced.{allowed, marksFrom, leftProgram, reduced, askCall, onMarks, onTable, roomAnswer, markedAnswer, reducedAnswer, written, reducedOut}
-use Rattle.compaction.proofs.Limits.{left-within, reduced-passes}
 use Rattle.compaction.proofs.Answers.{answer-few, answer-mark, answer-table, answer-valid, answer-room, answer-accepted}
-use Rattle.claims.proofs.Numbers.{table-number}
+use Rattle.table.proofs.Refused.{table-refused}
 
 -- ---- the reduced table is the table of the program as left, and passes questions 1 to 8: `left-within`, `reduced-passes`
 
@@ -184,7 +179,7 @@ module _ (ws ms out : List ℕ) where
       let a = answer-table ws ms out r q in
       let e : r ≡ Call TableRoom = cc in
       let n : refusalNumber r ≡ 18 = ap refusalNumber e in
-      absurd (omega (arith, table-number ws r q))
+      absurd (omega (arith, table-refused ws r q .0))
 
   -- "Does not fit" is said exactly when all before it is answered yes and the slice is shorter than the words.
   pub reduced-room : (reducedAnswer ws ms out ≡ Refused (Call TableRoom)) ↔ (Asked ws ms × (length out < length (reduced ws ms)))

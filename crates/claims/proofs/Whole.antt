@@ -1,41 +1,37 @@
 -- Demand 3 whole, for the reducer and the checker together: the checker takes the reducer's list, with any marks that pass 9, and leaves
 -- the marks that the reducer left; with any four words behind it, it is refused at step s.
 use mathlib.Core.Path.{_≡_, refl, sym, ap, subst, _∙_}
-use mathlib.Core.Logic.{_↔_}
-use mathlib.Core.Bool.{Bool, true, false, _&&_, So}
+use mathlib.Core.Bool.{true, So}
 use mathlib.Core.List.{List, [], _∷_, _++_, append-nil}
-use Prim.Native.Nat.{ℕ, zero, suc, _+_, _-_, _*_, _/_, _%_, _≤_, _<_}
+use Prim.Native.Nat.{ℕ, suc, _+_, _-_, _*_, _/_, _%_, _≤_, _<_}
 use native.Mathlib.Omega.{arith}
 use native.Mathlib.Nat.{add-zero, mul-div-right, mul-mod-right}
-use lib.Dec.{eqb, leb}
 use lib.ListN.{length, getD, take, drop, length-append}
-use lib.Seq.{getD-drop}
 use borrow.Author.Tests.{eq-eqb, le-leb}
-use Rattle.semantics.specs.Programs.{Clause, Program}
 use Rattle.semantics.proofs.Tests.{and-iff}
-use Rattle.rewriting.specs.Marked.{Marked, whole, left}
-use Rattle.rewriting.specs.Steps.{Step, step, number, kindOf, targetKept, partnerKept, atomKnown, conditionHolds, applies, accepted, leaves}
-use Rattle.rewriting.specs.Reducer.{weight, measure}
+use Rattle.rewriting.specs.Marked.{Marked, whole}
+use Rattle.rewriting.specs.Steps.{Step, step, number, applies, accepted, leaves}
 use Rattle.rewriting.proofs.Search.{kindOf-number, number-bounds}
 use Rattle.rewriting.proofs.Greedy.{greedy-end, accepted-measure}
 use Rattle.table.specs.declared.StepQuestion.{StepQuestion}
 use Rattle.table.specs.declared.Refusal.the-variants as refusal
 use Rattle.table.specs.Questions.{Passed}
-use Rattle.table.specs.Encoding.{clauseWords, clausesWords, encode, Within}
 use Rattle.table.specs.Places.{programOf}
 use Rattle.table.specs.View.{view, allKept, marksAfter, marksAfterAll}
-use Rattle.table.proofs.Encoding.{past, passed-within}
+use Rattle.table.proofs.Stands.{past, word-at}
+use Rattle.table.proofs.Encoding.{passed-within}
+use Rattle.table.proofs.Measures.{measure-within}
 use Rattle.table.proofs.View.{view-after, view-afterAll, length-after}
 use Rattle.table.proofs.Parts.{allKept-one, view-allKept, length-allKept}
 use Rattle.conditions.specs.declared.Step as words
 use Rattle.conditions.specs.Known.{stepOf}
 use Rattle.reducer.specs.declared.ReduceAnswer.the-variants as answer
-use Rattle.reducer.specs.Reductions.{wordsOf, room, stepsOf, reduction}
+use Rattle.reducer.specs.Reductions.{wordsOf, stepsOf, reduction}
 use Rattle.reducer.proofs.Taken.{taken, whole-tidy, steps-greedy, steps-accepted, steps-room}
 use Rattle.checker.specs.declared.CheckAnswer.the-variants.{Accepted, Refused}
 use Rattle.checker.specs.declared.Verdict.{Verdict}
 use Rattle.checker.specs.declared.Verdict.the-variants.{Fine, No}
-use Rattle.checker.specs.Lists.{stepAt, kindKnown, ask, shapeQuestions, stepQuestions, Outcome, refused, onward, stepsFrom, listFits, checkList}
+use Rattle.checker.specs.Lists.{stepAt, ask, shapeQuestions, stepQuestions, onward, stepsFrom, listFits, checkList}
 use Rattle.checker.proofs.Laws.{known-kind, fine-applies, check-made}
 use Rattle.text.proofs.Slices.{sets-written, take-written}
 use Rattle.claims.proofs.Agree.{afterAll-agree}
@@ -47,9 +43,6 @@ wordsStep s = record { kind = number (s .kind); target = s .target; partner = s 
 
 step-words : (s : Step) → stepOf (wordsStep s) ≡ s
 step-words s = ap (λ k. step k (s .target) (s .partner) (s .atom)) (kindOf-number (s .kind))
-
-word-at : (ls : List ℕ) (at i x : ℕ) (l : List ℕ) → drop at ls ≡ l → getD l i 0 ≡ x → getD ls (at + i) 0 ≡ x
-word-at ls at i x l e h = sym (getD-drop at ls i 0) ∙ ap (λ y. getD y i 0) e ∙ h
 
 step-at : (ls r : List ℕ) (k : ℕ) (s : Step) (l : List Step) → drop (4 * k) ls ≡ wordsOf (s ∷ l) ++ r → stepAt ls k ≡ wordsStep s
 unfolding wordsOf
@@ -125,26 +118,10 @@ fits-of ls k e h = (
 
 -- ---- the reducer's list
 
-measure-few : (cs : List Clause) → measure (whole cs) + 2 * length cs ≤ length (clausesWords cs)
-unfolding measure weight clausesWords
-measure-few [] = omega arith
-measure-few (c ∷ cs) = omega (arith, length-append (clauseWords c) (clausesWords cs), length-append (c .head) (c .pos ++ c .neg), length-append (c .pos) (c .neg), measure-few cs)
-
-few : (cs : List Clause) (s : ℕ) → s ≤ measure (whole cs) → measure (whole cs) + 2 * length cs ≤ 8190 → s ≤ 8188
-unfolding measure
-few [] s a b = omega arith
-few (c ∷ cs) s a b = omega arith
-
-words-few : (P : Program) → Within P → length (clausesWords (P .clauses)) ≤ 8190
-unfolding encode
-words-few P w = omega (arith, w .fewWords)
-
 -- It has at most 8,188 steps, so that the list with one step more never meets question 11.
 pub steps-few : (ws : List ℕ) → Passed ws → length (stepsOf ws) ≤ 8188
 steps-few ws p =
-    let cs = programOf ws .clauses in
-    few cs (length (stepsOf ws)) (omega (arith, accepted-measure (getD ws 0 0) (whole cs) (stepsOf ws) (whole-tidy ws p) (steps-accepted ws p)))
-    (omega (arith, measure-few cs, words-few (programOf ws) (passed-within ws p)))
+    omega (arith, accepted-measure (getD ws 0 0) (whole (programOf ws .clauses)) (stepsOf ws) (whole-tidy ws p) (steps-accepted ws p), measure-within (programOf ws) (passed-within ws p))
 
 module _ (ws ms : List ℕ) (p : Passed ws) (l : length ws ≤ length ms) where
   -- the marks that the reducer's list leaves, from all marks 1

@@ -8,6 +8,7 @@ use native.Mathlib.Nat.{sub-zero}
 use lib.Dec.{eqb, leb}
 use lib.ListN.{length, getD}
 use borrow.Author.Tests.{eq-eqb, ne-eqb, lt-ltb, le-ltb, le-leb, lt-leb}
+use Rattle.semantics.proofs.Tests.{or-false}
 use Rattle.table.specs.declared.WordQuestion.the-variants.{MarkAllowed}
 use Rattle.table.specs.declared.Refusal.{Refusal}
 use Rattle.table.specs.declared.Refusal.the-variants.{Word}
@@ -153,10 +154,6 @@ clearables-at : (ws : List ℕ) (m at t i : ℕ) → t < m → startFrom ws at t
 unfolding clearableFrom startFrom
 clearables-at ws zero at t i h a b = absurd (omega arith)
 clearables-at ws (suc m) at zero i h a b = rw (clearables-before ws m (nextAt ws at) i b) (or-false (clearableIn ws at i))
-  where
-    or-false : (t : Bool) → (t || false) ≡ t
-    or-false true = refl
-    or-false false = refl
 clearables-at ws (suc m) at (suc t) i h a b = rw (clearable-past ws at i (omega (arith, start-le ws (nextAt ws at) t))) (clearables-at ws m (nextAt ws at) t i (omega arith) a b)
 
 module _ (ws ms : List ℕ) where

@@ -8,12 +8,13 @@ use native.Mathlib.Omega.{arith}
 use native.Mathlib.Decide.{ℕ-discrete}
 use native.Mathlib.Numerals.{add-one}
 use lib.Dec.{eqb}
-use lib.ListN.{length, getD, set, length-append}
+use lib.ListN.{length, getD, length-append}
 use lib.Seq.{sets}
 use borrow.Author.Tests.{eq-eqb, ne-eqb}
 use Rattle.semantics.specs.Lists.{bit}
 use Rattle.semantics.proofs.Tests.{bit-bound}
 use Rattle.rewriting.specs.Marked.{Entry, Marked, left}
+use Rattle.table.proofs.Slices.{sets-append}
 use Rattle.table.specs.Encoding.{clauseWords, clausesWords}
 use Rattle.table.specs.Places.{headAt, posAt, negAt, nextAt}
 use Rattle.table.specs.View.{part, entryAt, entriesFrom}
@@ -74,11 +75,6 @@ part-append ws ms at (suc j) k =
         → cond t (getD ws at 0 ∷ part ws ms (suc at) (j + k)) (part ws ms (suc at) (j + k)) ≡ cond t (getD ws at 0 ∷ part ws ms (suc at) j) (part ws ms (suc at) j) ++ part ws ms (suc at + j) k
     go true e = ap (λ l. getD ws at 0 ∷ l) e
     go false e = e
-
--- one run of stores, then another
-pub sets-append : (out : List ℕ) (to : ℕ) (xs ys : List ℕ) → sets out to (xs ++ ys) ≡ sets (sets out to xs) (to + length xs) ys
-sets-append out to [] ys = ap (λ i. sets out i ys) (let q : to ≡ to + 0 = omega arith in q)
-sets-append out to (x ∷ xs) ys = sets-append (set out to x) (suc to) xs ys ∙ ap (λ i. sets (sets (set out to x) (suc to) xs) i ys) (let q : suc to + length xs ≡ to + suc (length xs) = omega arith in q)
 
 -- the first of two runs is stored, and the second is to come
 pub sets-next : (out o : List ℕ) (to t : ℕ) (vs xs ys rs : List ℕ) → vs ≡ xs ++ ys → t ≡ to + length xs → o ≡ sets out to xs → sets out to vs ≡ rs → sets o t ys ≡ rs

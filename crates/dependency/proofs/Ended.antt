@@ -17,7 +17,10 @@ use Rattle.table.proofs.Encoding.{passed-within, passed-limits}
 use Rattle.dependency.specs.Chains.{body, Link, Leads, link, chain, cyclic}
 use Rattle.dependency.specs.Search.{none, Ends, ends, Cyclic, start, Search, Nearer, Explored, explored, Visited, visited, Ready}
 use Rattle.dependency.proofs.Reached.{cyclic-iff}
-use Rattle.dependency.proofs.Moves.{pending-on, some, known, push, atoms, explored-start}
+use Rattle.dependency.proofs.Pending.{pending-on}
+use Rattle.dependency.proofs.Paths.{some}
+use Rattle.dependency.proofs.Moves.{known, push, atoms}
+use Rattle.dependency.proofs.Advance.{explored-start}
 
 module _ (ws : List ℕ) where
   abbrev cs : List Clause

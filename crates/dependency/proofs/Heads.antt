@@ -11,10 +11,11 @@ use Rattle.semantics.specs.Programs.{Clause}
 use Rattle.table.specs.Questions.{Passed}
 use Rattle.table.specs.Places.{posAt, nextAt, clauseOf, clausesOf, programOf}
 use Rattle.table.proofs.Encoding.{passed-limits, cut-length}
-use Rattle.clauses.proofs.Along.{Along, along-start, along-fits, along-ordered, along-next, clauses-more, clauses-none, clauses-all}
+use Rattle.table.proofs.Walks.{Along, along-start, along-fits, along-ordered, along-next, along-within, clauses-more, clauses-none, clauses-all}
 use Rattle.dependency.specs.Search.{ClauseAt, Places, stop, more, Pending, ToCome, Long, Listable, Chains, Headed, Listed, Blank}
 use Rattle.dependency.proofs.Updates.{at-set}
-use Rattle.dependency.proofs.Moves.{pending-by, getD-mem}
+use Rattle.table.proofs.Places.{getD-mem}
+use Rattle.dependency.proofs.Pending.{pending-by}
 
 places-low : {nexts : List ℕ} {w : ℕ} {ps : List ℕ} → Places nexts w ps → (p : ℕ) → p ∈ ps → p ≤ w
 places-low stop p m = absurd (List·Memᴰ·not-nil m)
@@ -153,7 +154,7 @@ pub record Listing (ws : List ℕ) (k at : ℕ) (first nexts owner : List ℕ) :
 module _ (ws first nexts owner : List ℕ) where
   pub listing-start : Blank ws first nexts owner → Listing ws 0 2 first nexts owner
   listing-start b = record {
-    along = along-start ws (b .passed);
+    along = along-start ws;
     inside = λ c m. subst (λ l. c ∈ l) (clauses-all ws) m;
     long = b .long;
     low = λ a. omega (arith, b .empty a);
@@ -195,7 +196,7 @@ module _ (ws first nexts owner : List ℕ) where
         let l : length (clauseOf ws at .head) ≤ posAt ws at - (at + 3) = omega (arith, cut-length ws (at + 3) (getD ws at 0) (omega arith)) in
         let e : drop (posAt ws at - (at + 3)) (clauseOf ws at .head) ≡ [] = drop-of-length-le (clauseOf ws at .head) l in
         record {
-          along = along-next ws k at p h (g .along);
+          along = along-next ws k at h (g .along);
           inside = λ c m. g .inside c (subst (λ l. c ∈ l) (sym (clauses-more ws k (getD ws 1 0) at h)) (List·Memᴰ·tail m));
           long = record { atoms = omega (arith, d .atoms, g .long .atoms); words = omega (arith, d .words, g .long .words); clauses = omega (arith, d .clauses, g .long .clauses) };
           low = λ a. omega (arith, c .low a);
@@ -205,6 +206,6 @@ module _ (ws first nexts owner : List ℕ) where
   pub listing-end : (k at : ℕ) → Passed ws → getD ws 1 0 ≤ k → Listing ws k at first nexts owner → Listed ws first nexts owner
   listing-end k at p h g = record {
     long = g .long;
-    place = λ a. omega (arith, g .low a, g .along .within, passed-limits ws p .short);
+    place = λ a. omega (arith, g .low a, along-within ws k at p (g .along), passed-limits ws p .short);
     heads = λ a l. pending-by (λ c m n. List·Memᴰ·not-nil (subst (λ z. c ∈ z) (clauses-none ws k (getD ws 1 0) at h) n)) (g .heads a l);
   }

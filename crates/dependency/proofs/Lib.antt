@@ -1,6 +1,10 @@
 pub mod Reached
 pub mod Updates
+pub mod Pending
+pub mod Bodies
+pub mod Paths
 pub mod Moves
+pub mod Advance
 pub mod Heads
 pub mod Ended
 pub mod Answered

@@ -1,128 +1,21 @@
 -- Each move of the search keeps what the search knows, and comes nearer to its end.
-use Prim.Native.Nat.{ℕ, zero, suc, _+_, _-_, _≤_, _<_}
+use Prim.Native.Nat.{ℕ, suc, _-_, _≤_, _<_}
 use mathlib.Core.Path.{_≡_, refl, sym, ap, subst, _∙_}
-use mathlib.Core.Logic.{_≢_, _⊎_, inl, inr, ⊎-elim}
-use mathlib.Core.List.{List, [], _∷_, _++_, List·Memᴰ·head, List·Memᴰ·tail, List·Memᴰ·not-nil, List·Memᴰ·cases-cons, List·Memᴰ·append-cases, List·Memᴰ·eq-of-singleton}
+use mathlib.Core.Logic.{_≢_, _⊎_, inr, ⊎-elim}
+use mathlib.Core.List.{List, _∷_, List·Memᴰ·head, List·Memᴰ·tail, List·Memᴰ·cases-cons, List·Memᴰ·append-cases, List·Memᴰ·eq-of-singleton}
 use native.Mathlib.Omega.{arith}
-use lib.ListN.{length, getD, take, drop, set, length-set}
-use lib.Seq.{take-add, drop-drop, getD-take, getD-drop, take-suc, take-all, getD-set-same, getD-set-other}
+use lib.ListN.{length, getD, take, set, length-set}
+use lib.Seq.{take-suc, take-all, getD-set-same, getD-set-other}
 use Rattle.semantics.specs.Lists.{_∈_}
-use Rattle.semantics.specs.Programs.{Clause}
-use Rattle.table.specs.Questions.{Passed}
-use Rattle.table.specs.Places.{cut, posAt, nextAt, clauseOf, programOf}
-use Rattle.table.proofs.Encoding.{passed-within, passed-limits, cut-length}
-use Rattle.dependency.specs.Chains.{body, Link, Leads, link, chain}
-use Rattle.dependency.specs.Search.{none, ClauseAt, Ends, ends, Cyclic, Places, stop, more, Pending, Path, start, step, AllEnd, Search, Looked, met, over, on, Nearer, moved, Explored}
-use Rattle.dependency.specs.declared.Move.{Move}
+use Rattle.table.specs.Places.{clauseOf, programOf}
+use Rattle.table.proofs.Encoding.{passed-limits}
+use Rattle.table.proofs.Places.{getD-mem}
+use Rattle.dependency.specs.Chains.{body, Link, link, chain}
+use Rattle.dependency.specs.Search.{none, ClauseAt, Ends, ends, Cyclic, Pending, step, AllEnd, Search, Nearer}
 use Rattle.dependency.proofs.Updates.{at-set, total-set}
-
--- ---- the parts of what is known
-
--- atoms are below n
-pub link-below : (ws : List ℕ) → Passed ws → {a b : ℕ} → Link body (programOf ws .clauses) a b → b < getD ws 0 0
-unfolding programOf
-link-below ws p {a} {b} l =
-    let o = passed-within ws p .ordered (l .via) (l .member) in
-    ⊎-elim (o .pos .below b) (o .neg .below b) (List·Memᴰ·append-cases (l .via .pos) (l .into))
-
-pub body-below : {ws : List ℕ} {at : ℕ} → ClauseAt ws at → (b : ℕ) → b ∈ body (clauseOf ws at) → b < getD ws 0 0
-body-below {ws} {at} k b m = ⊎-elim (k .ordered .pos .below b) (k .ordered .neg .below b) (List·Memᴰ·append-cases (clauseOf ws at .pos) m)
-
-pub pending-by : {ws nexts owner : List ℕ} {D E : Clause → Type 0} {a w : ℕ} → ((c : Clause) → a ∈ c .head → D c → E c) → Pending ws nexts owner D a w → Pending ws nexts owner E a w
-pending-by f p = record {
-  rest = p .rest;
-  places = p .places;
-  sound = p .sound;
-  complete = λ c m h. ⊎-elim (λ d. inl (f c h d)) (λ r. inr r) (p .complete c m h);
-}
-
-pub pending-on : {ws nexts owner : List ℕ} {D E : Clause → Type 0} {a w : ℕ} → ((c : Clause) → D c → E c) → Pending ws nexts owner D a w → Pending ws nexts owner E a w
-pending-on f = pending-by (λ c m. f c)
-
--- at the end of its chain, every clause with the atom in its head is done with
-pub pending-end : {ws nexts owner : List ℕ} {D : Clause → Type 0} {a w : ℕ} → w ≡ 0 → Pending ws nexts owner D a w → (c : Clause) → c ∈ programOf ws .clauses → a ∈ c .head → D c
-pending-end z p c m h = ⊎-elim (λ d. d) (λ r. absurd (empty (p .places) z (r .0) (r .1))) (p .complete c m h)
-  where
-    empty : {nexts : List ℕ} {w : ℕ} {ps : List ℕ} → Places nexts w ps → w ≡ 0 → (p : ℕ) → p ∈ ps → ⊥
-    empty stop z p m = List·Memᴰ·not-nil m
-    empty (more h l r) z p m = omega arith
-
--- where it is not at its end: the clause there, and the rest once that is done with
-pub record Front (ws nexts owner : List ℕ) (D : Clause → Type 0) (a w : ℕ) : Type 0 where
-  pub clause : ClauseAt ws (getD owner w 0)
-  pub head : a ∈ clauseOf ws (getD owner w 0) .head
-  pub down : getD nexts w 0 < w
-  pub later : D (clauseOf ws (getD owner w 0)) → Pending ws nexts owner D a (getD nexts w 0)
-
-pub pending-front : {ws nexts owner : List ℕ} {D : Clause → Type 0} {a w : ℕ} → w ≢ 0 → Pending ws nexts owner D a w → Front ws nexts owner D a w
-pending-front {ws} {nexts} {owner} {D} {a} {w} n p = go w n (p .rest) (p .places) (p .sound) (p .complete)
-  where
-    go : (w : ℕ) → w ≢ 0 → (ps : List ℕ) → Places nexts w ps
-        → ((p : ℕ) → p ∈ ps → ClauseAt ws (getD owner p 0) × (a ∈ clauseOf ws (getD owner p 0) .head))
-        → ((c : Clause) → c ∈ programOf ws .clauses → a ∈ c .head → D c ⊎ ((p : ℕ) × (p ∈ ps) × (clauseOf ws (getD owner p 0) ≡ c)))
-        → Front ws nexts owner D a w
-    go w n ps stop s f = absurd (n refl)
-    go w n ps (more {ps = qs} h l r) s f = record {
-      clause = s w (List·Memᴰ·head refl) .0;
-      head = s w (List·Memᴰ·head refl) .1;
-      down = l;
-      later = λ d. record {
-        rest = qs;
-        places = r;
-        sound = λ p m. s p (List·Memᴰ·tail m);
-        complete = λ c m k. ⊎-elim inl
-            (λ v. ⊎-elim (λ e. inl (subst D (ap (λ p. clauseOf ws (getD owner p 0)) (sym e) ∙ v .2) d)) (λ q. inr (v .0, q, v .2)) (List·Memᴰ·cases-cons (v .1)))
-            (f c m k);
-      };
-    }
-
--- ---- a clause's body, in its words
-
-pub body-is : (ws : List ℕ) (at : ℕ) → body (clauseOf ws at) ≡ cut ws (posAt ws at) (getD ws (at + 1) 0 + getD ws (at + 2) 0)
-body-is ws at = sym (take-add (getD ws (at + 1) 0) (getD ws (at + 2) 0) (drop (posAt ws at) ws)
-    ∙ ap (λ l. cut ws (posAt ws at) (getD ws (at + 1) 0) ++ take (getD ws (at + 2) 0) l) (drop-drop (getD ws (at + 1) 0) (posAt ws at) ws))
-
-pub body-length : (ws : List ℕ) (at : ℕ) → nextAt ws at ≤ length ws → length (body (clauseOf ws at)) ≡ getD ws (at + 1) 0 + getD ws (at + 2) 0
-body-length ws at h = ap length (body-is ws at) ∙ cut-length ws (posAt ws at) (getD ws (at + 1) 0 + getD ws (at + 2) 0) (omega arith)
-
-pub body-word : (ws : List ℕ) (at i : ℕ) → i < getD ws (at + 1) 0 + getD ws (at + 2) 0 → getD (body (clauseOf ws at)) i 0 ≡ getD ws (posAt ws at + i) 0
-body-word ws at i h = ap (λ l. getD l i 0) (body-is ws at) ∙ getD-take (getD ws (at + 1) 0 + getD ws (at + 2) 0) (drop (posAt ws at) ws) i 0 h ∙ getD-drop (posAt ws at) ws i 0
-
-pub getD-mem : (l : List ℕ) (i : ℕ) → i < length l → getD l i 0 ∈ l
-getD-mem [] i h = absurd (omega arith)
-getD-mem (x ∷ l) zero h = List·Memᴰ·head refl
-getD-mem (x ∷ l) (suc i) h = List·Memᴰ·tail (getD-mem l i (omega arith))
-
--- ---- the chain that is followed
-
-module _ {ws parent : List ℕ} where
-  pub popped : {t : ℕ} {l : List ℕ} → Path ws parent t l → t ≢ none → (k : List ℕ) × (l ≡ t ∷ k) × Path ws parent (getD parent t 0) k × ¬ (t ∈ k)
-  popped start n = absurd (n refl)
-  popped (step {l = l} p k q f) n = (l, refl, subst (λ u. Path ws parent u l) (sym q) p, f)
-
-  pub some : {t : ℕ} {l : List ℕ} → Path ws parent t l → ((a : ℕ) → a ∈ l → a ≢ none) → t ≡ none → (a : ℕ) → a ∈ l → ⊥
-  some start s e a m = List·Memᴰ·not-nil m
-  some (step p k q f) s e a m = s _ (List·Memᴰ·head refl) e
-
-  -- from each of its atoms to the last
-  pub path-leads : {t : ℕ} {l : List ℕ} → Path ws parent t l → ((a : ℕ) → a ∈ l → a ≢ none) → (a : ℕ) → a ∈ l → (a ≡ t) ⊎ Leads body (programOf ws .clauses) a t
-  path-leads start s a m = absurd (List·Memᴰ·not-nil m)
-  path-leads (step {t = t} {b = b} {l = l} p k q f) s a m =
-      let s′ : (c : ℕ) → c ∈ l → c ≢ none = λ c n. s c (List·Memᴰ·tail n) in
-      ⊎-elim inl (λ r. inr (go k (λ e. some p s′ e a r) (path-leads p s′ a r))) (List·Memᴰ·cases-cons m)
-    where
-      go : (t ≡ none) ⊎ Link body (programOf ws .clauses) t b → (t ≢ none) → (a ≡ t) ⊎ Leads body (programOf ws .clauses) a t → Leads body (programOf ws .clauses) a b
-      go (inl e) n w = absurd (n e)
-      go (inr k) n (inl e) = link (subst (λ x. Link body (programOf ws .clauses) x b) (sym e) k)
-      go (inr k) n (inr g) = chain g k
-
-  -- it stays the same where the parent of another atom changes
-  pub path-set : {t : ℕ} {l : List ℕ} (b v : ℕ) → ¬ (b ∈ l) → Path ws parent t l → Path ws (set parent b v) t l
-  path-set b v n start = start
-  path-set b v n (step {b = c} p k q f) =
-      step (path-set b v (λ m. n (List·Memᴰ·tail m)) p) k (getD-set-other parent b c v 0 (λ e. n (List·Memᴰ·head (sym e))) ∙ q) f
-
--- ---- the moves
+use Rattle.dependency.proofs.Pending.{link-below, body-below, pending-on, pending-end, Front, pending-front}
+use Rattle.dependency.proofs.Bodies.{body-length}
+use Rattle.dependency.proofs.Paths.{popped, path-leads, path-set}
 
 module _ {ws nexts owner cur state left parent : List ℕ} {t : ℕ} (s : Search ws nexts owner cur state left parent t) where
   pub atoms : getD ws 0 0 ≤ 1024
@@ -327,76 +220,3 @@ module _ {ws nexts owner cur state left parent : List ℕ} {t : ℕ} (s : Search
         -- b was not met: the chain goes on to it
         pub follow : getD state b 0 ≢ 1 → getD state b 0 ≢ 0 → Nearer ws nexts owner cur state left parent cur (set state b 1) left (set parent b t) b
         follow = push b b-below (inr step-on)
-
--- ---- the same in the code's terms
-
-module _ {ws nexts owner cur state left parent : List ℕ} {t : ℕ} (s : Search ws nexts owner cur state left parent t) (x : t ≢ none) (a w : ℕ) (ea : a ≡ t) (ew : w ≡ getD cur a 0) where
-  at-t : w ≡ getD cur t 0
-  at-t = ew ∙ ap (λ a. getD cur a 0) ea
-
-  pub atom-low : a < 1024
-  atom-low = omega (arith, top-below s x, atoms s)
-
-  pub word-low : w < 8192
-  word-low = omega (arith, s .place a)
-
-  pub finish-at : w ≡ 0 → Nearer ws nexts owner cur state left parent cur (set state a 0) left parent (getD parent a 0)
-  finish-at z = rw ea (finish s x (sym at-t ∙ z))
-
-  module _ (n : w ≢ 0) (at : ℕ) (eat : at ≡ getD owner w 0) where
-    at-here : at ≡ getD owner (getD cur t 0) 0
-    at-here = eat ∙ ap (λ w. getD owner w 0) at-t
-
-    front-at : Front ws nexts owner (AllEnd state) t (getD cur t 0)
-    front-at = front s x (λ z. n (at-t ∙ z))
-
-    pub clause-at : ClauseAt ws at
-    clause-at = subst (ClauseAt ws) (sym at-here) (front-at .clause)
-
-    pub clause-low : at < 8192
-    clause-low = omega (arith, clause-at .fits, passed-limits ws (s .passed) .short)
-
-    module _ (i : ℕ) (ei : i ≡ 8192 - getD left at 0) where
-      i-here : i ≡ 8192 - getD left (getD owner (getD cur t 0) 0) 0
-      i-here = ei ∙ ap (λ at. 8192 - getD left at 0) at-here
-
-      pub pass-at : length (body (clauseOf ws at)) ≤ i → Nearer ws nexts owner cur state left parent (set cur a (getD nexts w 0)) state left parent t
-      pass-at l = rw (ea, at-t) (pass-clause s x (λ z. n (at-t ∙ z)) (subst (λ at. length (body (clauseOf ws at)) ≤ 8192 - getD left at 0) at-here (rw ei at l)))
-
-      module _ (l : i < length (body (clauseOf ws at))) (b : ℕ) (eb : b ≡ getD (body (clauseOf ws at)) i 0) where
-        low : 8192 - getD left (getD owner (getD cur t 0) 0) 0 < length (body (clauseOf ws (getD owner (getD cur t 0) 0)))
-        low = subst (λ at. 8192 - getD left at 0 < length (body (clauseOf ws at))) at-here (rw ei at l)
-
-        is-b : b ≡ getD (body (clauseOf ws (getD owner (getD cur t 0) 0))) (8192 - getD left (getD owner (getD cur t 0) 0) 0) 0
-        is-b = eb ∙ ap (λ i. getD (body (clauseOf ws at)) i 0) ei ∙ ap (λ at. getD (body (clauseOf ws at)) (8192 - getD left at 0) 0) at-here
-
-        n′ : getD cur t 0 ≢ 0
-        n′ z = n (at-t ∙ z)
-
-        pub b-low : b < 1024
-        b-low = omega (arith, b-below s x n′ low b is-b, atoms s)
-
-        pub left-at : 0 < getD left at 0
-        left-at = rw at-here (left-some s x n′ low b is-b)
-
-        pub look-at : {state′ left′ parent′ : List ℕ} {r : Move} → Looked state left parent state′ left′ parent′ t at b r → moved ws nexts owner cur state left parent cur state′ left′ parent′ r
-        look-at (met q) = cycle-found s x n′ low b is-b q
-        look-at (over q e f g) = rw (e, f, g, at-here) (pass-atom s x n′ low b is-b q)
-        look-at (on u v e f g) = rw (e, f, g) (follow s x n′ low b is-b u v)
-
--- ---- one move after the other
-
-module _ {ws nexts owner cur state left parent : List ℕ} where
-  pub explored-start : {t : ℕ} → Search ws nexts owner cur state left parent t → Explored ws nexts owner cur state left parent cur state left parent t
-  explored-start s = record { search = s; falls = λ a. omega arith; curs = refl; states = refl; lefts = refl; parents = refl }
-
-  module _ {cur′ state′ left′ parent′ cur″ state″ left″ parent″ : List ℕ} {t : ℕ} (e : Explored ws nexts owner cur state left parent cur′ state′ left′ parent′ t) where
-    pub explored-next : {u : ℕ} → Nearer ws nexts owner cur′ state′ left′ parent′ cur″ state″ left″ parent″ u → Explored ws nexts owner cur state left parent cur″ state″ left″ parent″ u
-    explored-next n = record {
-      search = n .search;
-      falls = λ a. omega (arith, e .falls a, n .falls a);
-      curs = n .curs ∙ e .curs;
-      states = n .states ∙ e .states;
-      lefts = n .lefts ∙ e .lefts;
-      parents = n .parents ∙ e .parents;
-    }

@@ -1,31 +1,29 @@
 -- How long the output can be: at most 8,190 steps, each a line of at most 22 bytes.
-use mathlib.Core.Path.{_≡_, refl, sym, ap, subst, _∙_}
+use mathlib.Core.Path.{_≡_, refl, ap, subst, _∙_}
 use mathlib.Core.Bool.{Bool, true, false, cond, So}
 use mathlib.Core.List.{List, [], _∷_, _++_}
 use Prim.Native.Nat.{ℕ, zero, suc, _+_, _*_, _≤_, _<_}
 use native.Mathlib.Omega.{arith}
-use lib.ListN.{length, length-append, length-set}
+use lib.ListN.{length, length-append}
 use Rattle.semantics.specs.Lists.{_∈_, ascending}
 use Rattle.semantics.specs.Programs.{Clause, Program}
 use Rattle.semantics.proofs.Tests.{and-iff}
-use Rattle.rewriting.specs.Marked.{Entry, Marked, gone, entry, whole}
-use Rattle.rewriting.specs.Steps.{Kind, number, Step, usesPartner, usesAtom, applies, effect, accepted, leaves}
-use Rattle.rewriting.specs.Reducer.{measure, weight}
+use Rattle.rewriting.specs.Marked.{Marked, entry, whole}
+use Rattle.rewriting.specs.Steps.{number, Step, usesPartner, usesAtom, applies, effect, accepted}
+use Rattle.rewriting.specs.Reducer.{measure}
+use Rattle.rewriting.proofs.Effect.{length-effect}
 use Rattle.rewriting.proofs.Left.{kept-lt}
 use Rattle.rewriting.proofs.Measure.{Tidy}
 use Rattle.rewriting.proofs.Search.{partner-lt, atom-lt, number-bounds}
 use Rattle.rewriting.proofs.Greedy.{reduce-greedy, greedy-accepted, accepted-measure}
-use Rattle.table.specs.Encoding.{clauseWords, clausesWords, encode, OrderedClause, Within}
+use Rattle.table.specs.Encoding.{OrderedClause, Within}
+use Rattle.table.proofs.Measures.{measure-within}
 use Rattle.text.specs.Digits.{width, digits, others, commas}
 use Rattle.text.proofs.Numbers.{digits-length, width-four}
-use Rattle.writer.proofs.Laws.{line-length}
+use Rattle.text.proofs.Texts.{line-length}
 use Rattle.filter.specs.Output.{stepKey, stepText, stepsText, stepsOf}
 
 -- ---- the words of a step
-
-length-effect : (P : Marked) (s : Step) → length (effect P s) ≡ length P
-unfolding effect
-length-effect P s = simp length-set
 
 -- the words of an applicable step on m clauses and n atoms
 record Small (n m : ℕ) (s : Step) : Type 0 where
@@ -106,28 +104,21 @@ length-whole : (cs : List Clause) → length (whole cs) ≡ length cs
 length-whole [] = refl
 length-whole (c ∷ cs) = ap suc (length-whole cs)
 
-pub measure-words : (cs : List Clause) → measure (whole cs) ≤ length (clausesWords cs)
-unfolding measure weight clausesWords
-measure-words [] = omega arith
-measure-words (c ∷ cs) = omega (arith, length-append (clauseWords c) (clausesWords cs), length-append (c .head) (c .pos ++ c .neg), length-append (c .pos) (c .neg), measure-words cs)
-
 whole-tidy : (n : ℕ) (cs : List Clause) → ((c : Clause) → c ∈ cs → OrderedClause n c) → (i : ℕ) → Tidy (entry (whole cs) i)
 unfolding ascending
 whole-tidy n [] h i = (refl, refl)
 whole-tidy n (c ∷ cs) h zero = let o = h c (mathlib.Core.List.List·Memᴰ·head refl) in (o .pos .ascends, o .neg .ascends)
 whole-tidy n (c ∷ cs) h (suc i) = whole-tidy n cs (λ d m. h d (mathlib.Core.List.List·Memᴰ·tail m)) i
 
--- The reducer's list of a program within the limits is accepted, and has at most 8,190 steps.
+-- The reducer's list of a program within the limits is accepted, and has at most 8,188 steps.
 pub steps-accepted : (P : Program) → Within P → So (accepted (P .atoms) (whole (P .clauses)) (stepsOf P))
 steps-accepted P w = greedy-accepted (reduce-greedy (P .atoms) (measure (whole (P .clauses))) (whole (P .clauses)) (whole-tidy (P .atoms) (P .clauses) (w .ordered)) (omega arith))
 
-pub steps-few : (P : Program) → Within P → length (stepsOf P) ≤ 8190
-unfolding encode
+pub steps-few : (P : Program) → Within P → length (stepsOf P) ≤ 8188
 steps-few P w = omega (
   arith,
   accepted-measure (P .atoms) (whole (P .clauses)) (stepsOf P) (whole-tidy (P .atoms) (P .clauses) (w .ordered)) (steps-accepted P w),
-  measure-words (P .clauses),
-  w .fewWords,
+  measure-within P w,
 )
 
 -- Its lines take at most 180,180 bytes.

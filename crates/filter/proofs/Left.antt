@@ -1,6 +1,6 @@
 -- The reduced table in a local array, and its text.
 use Prim.Native.Nat.{ℕ, _-_, _≤_}
-use mathlib.Core.Path.{_≡_, refl, sym, ap, subst, _∙_}
+use mathlib.Core.Path.{_≡_, sym, ap, subst, _∙_}
 use mathlib.Core.List.{List}
 use native.Mathlib.Omega.{arith}
 use native.Mathlib.Nat.{sub-zero}
@@ -11,7 +11,6 @@ use Rattle.compaction.specs.Reduced.{leftProgram, reduced}
 use Rattle.compaction.specs.Parts.{Ready}
 use Rattle.compaction.proofs.Limits.{left-within, reduced-passes}
 use Rattle.text.specs.Render.{render}
-use Rattle.text.specs.Slices.{written}
 use Rattle.text.specs.Writer.{textOf, Puts}
 use Rattle.text.proofs.Slices.{sets-written, take-written}
 use Rattle.text.proofs.Calls.{text-encode, text-short}

@@ -1,33 +1,30 @@
 -- The output of a program that was reduced, out of what the reducer's call leaves; and how long an output can be.
-use mathlib.Core.Path.{_≡_, refl, sym, ap, subst, _∙_}
+use mathlib.Core.Path.{_≡_, sym, ap, _∙_}
 use mathlib.Core.List.{List, [], _∷_, _++_}
 use Prim.Native.Nat.{ℕ, _+_, _*_, _≤_}
 use native.Mathlib.Omega.{arith}
 use lib.ListN.{length, length-append, getD}
-use lib.Seq.{sets}
 use borrow.Author.Tests.{le-leb}
 use Rattle.semantics.specs.Programs.{program}
 use Rattle.rewriting.specs.Marked.{left, whole}
 use Rattle.rewriting.specs.Steps.{leaves}
-use Rattle.rewriting.specs.Reducer.{reduce, measure}
-use Rattle.table.specs.Questions.{tableOf, Passed}
-use Rattle.table.specs.Encoding.{encode, Within}
+use Rattle.rewriting.specs.Reducer.{reduce}
+use Rattle.table.specs.Questions.{Passed}
 use Rattle.table.specs.Places.{programOf}
 use Rattle.table.proofs.Encoding.{passed-within, passed-limits}
 use Rattle.compaction.specs.Reduced.{leftProgram}
 use Rattle.compaction.proofs.Limits.{left-within}
 use Rattle.reducer.specs.declared.ReduceAnswer.the-variants as answer
 use Rattle.reducer.specs.Reductions as reductions
-use Rattle.reducer.proofs.Room.{room-measure}
-use Rattle.reducer.proofs.Taken.{Taken, taken, marks-after, steps-room}
-use Rattle.text.specs.Digits.{width, digits, commas}
+use Rattle.reducer.proofs.Room.{room-measure, room-few}
+use Rattle.reducer.proofs.Taken.{taken, marks-after, steps-room}
+use Rattle.text.specs.Digits.{digits, commas}
 use Rattle.text.specs.Render.{lineText, render}
 use Rattle.text.proofs.Numbers.{digits-length, width-five}
-use Rattle.text.proofs.Texts.{render-short}
-use Rattle.writer.proofs.Laws.{line-length}
+use Rattle.text.proofs.Texts.{render-short, line-length}
 use Rattle.filter.specs.Output.{stepsKey, refusedKey, stepsText, stepsOf, reducedOf, reducedText, refusedText}
 use Rattle.filter.specs.Lines.{listLines}
-use Rattle.filter.proofs.Bounds.{pair-length, steps-few, steps-short, measure-words}
+use Rattle.filter.proofs.Bounds.{pair-length, steps-short}
 use Rattle.filter.proofs.Steps.{list-lines, length-words}
 
 -- ---- the reducer's list is the program's
@@ -37,10 +34,6 @@ unfolding reductions.stepsOf programOf
 steps-same ws = ap (λ k. reduce (getD ws 0 0) k (whole (programOf ws .clauses))) (sym (room-measure ws))
 
 -- ---- the call is always taken
-
-room-few : (ws : List ℕ) → Passed ws → reductions.room ws ≤ 8190
-unfolding encode
-room-few ws p = omega (arith, room-measure ws, measure-words (programOf ws .clauses), passed-within ws p .fewWords)
 
 pub always-taken : (ws ms ls : List ℕ) → Passed ws → 8192 ≤ length ms → 32768 ≤ length ls → reductions.reduction ws ms ls .answer ≡ answer.Accepted (length (reductions.stepsOf ws))
 unfolding reductions.reduction reductions.onTable

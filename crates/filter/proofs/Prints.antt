@@ -1,17 +1,15 @@
 -- From what the reader's call leaves to the whole output.
-use mathlib.Core.Path.{_≡_, refl, sym, ap, subst, _∙_}
-use mathlib.Core.List.{List, [], _∷_, _++_}
-use Prim.Native.Nat.{ℕ, _+_, _-_, _≤_}
+use mathlib.Core.Path.{_≡_, sym, ap, subst, _∙_}
+use mathlib.Core.List.{List}
+use Prim.Native.Nat.{ℕ, _-_, _≤_}
 use native.Mathlib.Omega.{arith}
 use native.Mathlib.Nat.{sub-zero}
-use lib.Dec.{leb}
-use lib.ListN.{length, length-append, length-drop, take, drop, replicate, length-replicate}
-use lib.Seq.{sets}
+use lib.ListN.{length, length-append, take, drop, replicate, length-replicate}
 use Rattle.semantics.specs.Programs.{Program}
 use Rattle.table.specs.declared.Refusal.{Refusal}
 use Rattle.table.specs.Refusals.{refusalNumber, refusalPlace}
 use Rattle.table.specs.Questions.{Passed}
-use Rattle.table.specs.Encoding.{encode, Within}
+use Rattle.table.specs.Encoding.{encode}
 use Rattle.table.specs.Places.{programOf}
 use Rattle.table.proofs.Encoding.{encode-passes, program-encode}
 use Rattle.text.specs.declared.ReadAnswer.the-variants as read
@@ -20,7 +18,7 @@ use Rattle.text.specs.Reader.{Read, done, stop, readText, answerOf, readAnswer,
 use Rattle.text.specs.Writer.{Puts}
 use Rattle.text.proofs.Slices.{sets-written, take-written}
 use Rattle.text.proofs.Texts.{read-render}
-use Rattle.text.proofs.Calls.{Reads, accepted-reads}
+use Rattle.text.proofs.Calls.{accepted-reads}
 use Rattle.compaction.specs.Reduced.{leftProgram}
 use Rattle.text.specs.Render.{render}
 use Rattle.reducer.specs.Reductions as reductions

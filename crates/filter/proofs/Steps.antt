@@ -1,15 +1,14 @@
 -- The lines of the steps in a list's words are the lines of the steps.
 use Prim.Native.Nat.{ℕ, _+_, _*_, _≤_}
-use mathlib.Core.Path.{_≡_, refl, sym, ap, _∙_}
-use mathlib.Core.List.{List, [], _∷_, _++_, append-nil}
+use mathlib.Core.Path.{_≡_, refl, ap}
+use mathlib.Core.List.{List, [], _∷_, _++_}
 use native.Mathlib.Omega.{arith}
-use lib.ListN.{length, drop, take}
+use lib.ListN.{length, drop}
 use lib.Seq.{sets}
 use Rattle.rewriting.specs.Steps.{Step, number}
-use Rattle.table.proofs.Encoding.{past}
+use Rattle.table.proofs.Stands.{past}
 use Rattle.text.specs.Digits.{digits}
 use Rattle.text.specs.Render.{lineText}
-use Rattle.text.specs.Slices.{written}
 use Rattle.text.proofs.Slices.{sets-written}
 use Rattle.reducer.specs.Reductions.{wordsOf}
 use Rattle.filter.specs.Output.{stepsKey, stepText, stepsText}

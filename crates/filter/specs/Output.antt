@@ -4,7 +4,7 @@ use mathlib.Core.Path.{_≡_}
 use mathlib.Core.List.{List, [], _∷_, _++_}
 use lib.ListN.{length}
 use Rattle.semantics.specs.Programs.{Program, program}
-use Rattle.rewriting.specs.Marked.{Marked, left, whole}
+use Rattle.rewriting.specs.Marked.{left, whole}
 use Rattle.rewriting.specs.Steps.{Step, number, leaves}
 use Rattle.rewriting.specs.Reducer.{reduce, measure}
 use Rattle.table.specs.Refusals.{refusalNumber, refusalPlace}

@@ -1,7 +1,6 @@
 // The program's whole work as one function on slices: text in, the reduced program and its steps out.
-ghost use mathlib.Core.Path.{_≡_};
 ghost use mathlib.Core.List.{[], _∷_};
-ghost use Prim.Native.Nat.{ℕ, _+_, _*_, _≤_, _<_};
+ghost use Prim.Native.Nat.{_+_, _*_, _≤_};
 ghost use lib.ListN.{length};
 ghost use Rattle.table.specs.Places.{cut, programOf};
 ghost use Rattle.text.specs.Digits.{commas};

@@ -1,5 +1,5 @@
 -- The place of a refused call, and the value of one that is taken, are at most 65,536: of a set, of marks, of the cycle answer.
-use Prim.Native.Nat.{ℕ, zero, suc, _≤_, _<_, _-_, _+_}
+use Prim.Native.Nat.{ℕ, zero, suc, _≤_, _-_, _+_}
 use mathlib.Core.Path.{_≡_, refl}
 use mathlib.Core.List.{List}
 use mathlib.Core.Bool.{Bool, true, false}
@@ -8,8 +8,9 @@ use native.Mathlib.Omega.{arith}
 use lib.Dec.{leb}
 use lib.ListN.{length, getD}
 use Rattle.table.specs.declared.CallQuestion.the-variants.{MarksLength, TableRoom}
+use Rattle.table.specs.declared.EntryQuestion.the-variants.{EntryBelow, EntryAscending}
 use Rattle.table.specs.declared.Refusal.{Refusal}
-use Rattle.table.specs.declared.Refusal.the-variants.{Call}
+use Rattle.table.specs.declared.Refusal.the-variants.{Call, Entry}
 use Rattle.table.specs.declared.Walk.{Walk}
 use Rattle.table.specs.declared.Walk.the-variants.{To, Stop}
 use Rattle.table.specs.declared.Checked.{Checked}
@@ -21,31 +22,31 @@ use Rattle.compaction.specs.declared.CompactAnswer.{CompactAnswer}
 use Rattle.compaction.specs.declared.CompactAnswer.the-variants as compacted
 use Rattle.compaction.specs.Reduced.{allowed, marksFrom, reduced, askCall, onMarks, onTable as onCompact, roomAnswer, markedAnswer, reducedAnswer}
 use Rattle.compaction.proofs.Limits.{left-within}
-use Rattle.stability.specs.Answer.{entriesFrom, setOf, onSet, onTable, testOf}
+use Rattle.stability.specs.Answer.{setOf, onSet, onTable, testOf}
 use Rattle.stability.specs.declared.TestAnswer.{TestAnswer}
 use Rattle.stability.specs.declared.TestAnswer.the-variants as tested
 use Rattle.dependency.specs.Answer.{onTable as onCycle, cycleOf}
 use Rattle.dependency.specs.declared.CycleAnswer.{CycleAnswer}
 use Rattle.dependency.specs.declared.CycleAnswer.the-variants as cycled
-use Rattle.gambrolt.proofs.Places.{Near, near-ask, Checks, table-checks}
+use Rattle.table.proofs.Refused.{Near, near-ask, atoms-near}
+use Rattle.gambrolt.proofs.Places.{Checks, table-checks}
 
 -- ---- a set
 
-entries-near : (set : List ℕ) (n low at k b : ℕ) → at + k ≤ b → Near b (entriesFrom set n low at k)
-unfolding entriesFrom
-entries-near set n low at zero b h = omega arith
-entries-near set n low at (suc k) b h =
-    near-ask b _ _ _ (omega arith) (λ _. near-ask b _ _ _ (omega arith) (λ _. entries-near set n _ (at + 1) k b (omega arith)))
+-- a walk comes to a place of at most b, or is refused at one
+abbrev NearBy : ℕ → Walk → Type 0
+NearBy b w = Near (λ r. refusalPlace r ≤ b) b w
 
-set-near : (set : List ℕ) (n : ℕ) → Near 16 (setOf set n)
+set-near : (set : List ℕ) (n : ℕ) → NearBy 16 (setOf set n)
 unfolding setOf
-set-near set n = near-ask 16 _ _ _ (omega arith) (λ t. let h = leb-true (length set) 16 t in entries-near set n 0 0 (length set) 16 (omega arith))
+set-near set n = near-ask (λ r. refusalPlace r ≤ 16) 16 _ _ _ (omega arith) (λ t. let h = leb-true (length set) 16 t in
+    atoms-near (λ r. refusalPlace r ≤ 16) 16 (Entry EntryBelow) (Entry EntryAscending) (λ i l. l) (λ i l. l) set n 0 0 (length set) (omega arith))
 
 abbrev Tests : TestAnswer → Type 0
 Tests (tested.Accepted b) = Unit {0}
 Tests (tested.Refused r) = refusalPlace r ≤ 65536
 
-on-set : (w : Walk) (b : Bool) → Near 16 w → Tests (onSet w b)
+on-set : (w : Walk) (b : Bool) → NearBy 16 w → Tests (onSet w b)
 unfolding onSet
 on-set (To e) b h = tt
 on-set (Stop r) b h = omega arith
@@ -64,10 +65,10 @@ test-place ws set r q = rw q at (test-tests ws set)
 
 -- ---- the reduced table
 
-marks-near : (f : ℕ → Bool) (at k b : ℕ) → at + k ≤ b → Near b (marksFrom f at k)
+marks-near : (f : ℕ → Bool) (at k b : ℕ) → at + k ≤ b → NearBy b (marksFrom f at k)
 unfolding marksFrom
 marks-near f at zero b h = omega arith
-marks-near f at (suc k) b h = near-ask b _ _ _ (omega arith) (λ _. marks-near f (at + 1) k b (omega arith))
+marks-near f at (suc k) b h = near-ask (λ r. refusalPlace r ≤ b) b _ _ _ (omega arith) (λ _. marks-near f (at + 1) k b (omega arith))
 
 abbrev Compacts : CompactAnswer → Type 0
 Compacts (compacted.Accepted k) = k ≤ 65536
@@ -78,7 +79,7 @@ unfolding askCall
 compacts-ask true r a h y = y
 compacts-ask false r a h y = h
 
-on-marks : (w : Walk) (a : CompactAnswer) → Near 8192 w → Compacts a → Compacts (onMarks w a)
+on-marks : (w : Walk) (a : CompactAnswer) → NearBy 8192 w → Compacts a → Compacts (onMarks w a)
 unfolding onMarks
 on-marks (To e) a h k = k
 on-marks (Stop r) a h k = omega arith

@@ -1,13 +1,7 @@
 -- The two halves of an answer: a refusal's number and place come back from it, and a value that is taken is below 2^48.
-use Prim.Native.Nat.{ℕ, _≤_, _<_, _+_, _*_, _/_, _%_}
-use mathlib.Core.Path.{_≡_, refl}
-use mathlib.Core.List.{List}
-use mathlib.Core.Bool.{Bool, true, false, cond}
+use Prim.Native.Nat.{_≤_, _/_, _%_}
+use mathlib.Core.Path.{_≡_}
 use native.Mathlib.Omega.{arith}
-use lib.Dec.{leb}
-use lib.ListN.{length}
-use Rattle.semantics.specs.Lists.{bit}
-use Rattle.semantics.specs.Programs.{Program}
 use Rattle.table.specs.declared.Refusal.{Refusal}
 use Rattle.table.specs.Refusals.{refusalNumber, refusalPlace}
 use Rattle.gambrolt.specs.Codes.{refusalCode}

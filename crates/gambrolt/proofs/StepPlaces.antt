@@ -1,8 +1,7 @@
 -- The place of a refused list is the number of a step, so at most 8,190, and so is the number of steps of one that is checked or made.
-use Prim.Native.Nat.{ℕ, zero, suc, _≤_, _<_, _+_, _*_, _/_, _%_}
+use Prim.Native.Nat.{ℕ, zero, suc, _≤_, _+_, _*_, _/_, _%_}
 use mathlib.Core.Path.{_≡_, refl}
-use mathlib.Core.List.{List, [], _∷_}
-use mathlib.Core.Option.{Option, none, some}
+use mathlib.Core.List.{List}
 use mathlib.Core.Bool.{Bool, true, false, cond}
 use borrow.Author.Tests.{leb-true}
 use native.Mathlib.Omega.{arith}
@@ -18,12 +17,8 @@ use Rattle.table.specs.declared.Checked.{Checked}
 use Rattle.table.specs.declared.Checked.the-variants as checked
 use Rattle.table.specs.Refusals.{refusalPlace}
 use Rattle.table.specs.Questions.{Passed, tableOf}
-use Rattle.table.specs.Places.{programOf}
 use Rattle.table.specs.View.{view, allKept, marksAfter, marksAfterAll}
 use Rattle.table.proofs.Encoding.{valid-passed}
-use Rattle.rewriting.specs.Marked.{Marked, whole}
-use Rattle.rewriting.specs.Steps.{Step, effect}
-use Rattle.rewriting.specs.Reducer.{firstStep, reduce}
 use Rattle.conditions.specs.Known.{stepOf}
 use Rattle.checker.specs.declared.CheckAnswer.{CheckAnswer}
 use Rattle.checker.specs.declared.CheckAnswer.the-variants.{Accepted, Refused}
@@ -34,6 +29,7 @@ use Rattle.reducer.specs.declared.ReduceAnswer.{ReduceAnswer}
 use Rattle.reducer.specs.declared.ReduceAnswer.the-variants as made
 use Rattle.reducer.specs.Reductions.{room, stepsOf, wordsOf, Reduction, refused, onTable, reduction}
 use Rattle.reducer.proofs.Room.{room-few}
+use Rattle.reducer.proofs.Taken.{steps-room}
 use Rattle.gambrolt.proofs.Places.{Checks, table-checks}
 
 -- a list is taken or refused with a number of at most 65,536
@@ -78,19 +74,8 @@ list-value ws ms ls k q = rw q at (list-lists ws ms ls)
 
 -- ---- reducing
 
-reduce-few : (n fuel : ℕ) (P : Marked) → length (reduce n fuel P) ≤ fuel
-unfolding reduce
-reduce-few n zero P = omega arith
-reduce-few n (suc fuel) P = go (firstStep n P) (λ s. reduce-few n fuel (effect P s))
-  where
-    go : (o : Option Step) → ((s : Step) → length (reduce n fuel (effect P s)) ≤ fuel)
-        → length {A = Step} (elim o [ none ↦ [] | some s ↦ s ∷ reduce n fuel (effect P s) ]) ≤ suc fuel
-    go none r = omega arith
-    go (some s) r = let h = r s in omega arith
-
 steps-few : (ws : List ℕ) → Passed ws → length (stepsOf ws) ≤ 8192
-unfolding stepsOf
-steps-few ws p = omega (arith, room-few ws p, reduce-few (getD ws 0 0) (room ws) (whole (programOf ws .clauses)))
+steps-few ws p = omega (arith, room-few ws p, steps-room ws p)
 
 abbrev Reduces : ReduceAnswer → Type 0
 Reduces (made.Accepted k) = k ≤ 65536

@@ -1,13 +1,13 @@
 -- The place of a refused text is at most its length, so at most 65,536; so are the words read and the bytes written.
-use Prim.Native.Nat.{ℕ, zero, suc, _≤_, _<_, _-_, _+_}
+use Prim.Native.Nat.{ℕ, zero, suc, _≤_, _-_, _+_}
 use mathlib.Core.Path.{_≡_, refl}
 use mathlib.Core.List.{List}
 use mathlib.Core.Bool.{Bool, true, false, cond}
 use borrow.Author.Tests.{leb-true}
 use native.Mathlib.Omega.{arith}
-use lib.Dec.{leb, eqb}
+use lib.Dec.{leb}
 use lib.ListN.{length}
-use Rattle.semantics.specs.Programs.{Clause, Program}
+use Rattle.semantics.specs.Programs.{Program}
 use Rattle.table.specs.declared.ByteQuestion.{ByteQuestion}
 use Rattle.table.specs.declared.ByteQuestion.the-variants.{TextAtomLimit, TextClauseLimit}
 use Rattle.table.specs.declared.CallQuestion.the-variants.{TextRoom}
@@ -22,10 +22,9 @@ use Rattle.text.specs.declared.Span.{Span}
 use Rattle.text.specs.declared.Span.the-variants.{Value, Missing}
 use Rattle.text.specs.declared.Order.{Order}
 use Rattle.text.specs.declared.Order.the-variants.{Ascends, NotBelow, NotAbove}
-use Rattle.text.specs.declared.ReadAnswer.{ReadAnswer}
 use Rattle.text.specs.declared.ReadAnswer.the-variants.{Accepted, Refused}
 use Rattle.text.specs.Render.{headKey, posKey, negKey, atomsKey, clausesKey}
-use Rattle.text.specs.Reader.{Read, done, stop, ask, then, spanAt, onSpan, valueOf, valueAt, numberAt, countAt, order, onOrder, listOf, listAt, clauseAt, clausesAt, restAt, programAt, readText, answerOf, readAnswer}
+use Rattle.text.specs.Reader.{Read, done, stop, ask, then, onSpan, valueOf, valueAt, numberAt, countAt, onOrder, listOf, listAt, clauseAt, clausesAt, restAt, programAt, readText, answerOf, readAnswer}
 use Rattle.text.specs.Writer.{textOf, writeAnswer}
 use Rattle.text.specs.Writer as writer
 use Rattle.text.specs.declared.WriteAnswer.{WriteAnswer}

@@ -1,6 +1,6 @@
 // The library as C calls it: numbers and slices in, one number out.
 ghost use mathlib.Core.Path.{_≡_};
-ghost use Prim.Native.Nat.{ℕ, _+_, _*_, _≤_, _<_};
+ghost use Prim.Native.Nat.{_+_, _*_, _≤_};
 ghost use lib.ListN.{length};
 ghost use Rattle.semantics.specs.Lists.{bit};
 ghost use Rattle.table.specs.Refusals.{refusalPlace};

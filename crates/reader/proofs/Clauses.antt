@@ -14,7 +14,7 @@ use Rattle.table.specs.Encoding.{clauseWords, clausesWords}
 use Rattle.text.specs.Render.{headKey, posKey, negKey}
 use Rattle.text.specs.Reader.{Read, done, stop, then, listAt, clauseAt, clausesAt, Stores, listWords}
 use Rattle.text.proofs.Lines.{list-inv}
-use Rattle.text.proofs.Slices.{sets-append, set-sets}
+use Rattle.table.proofs.Slices.{sets-append, set-sets}
 use Rattle.text.proofs.Texts.{clause-inv}
 use Rattle.reader.proofs.Answers.{stores-done, Held}
 

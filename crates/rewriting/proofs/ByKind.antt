@@ -1,8 +1,8 @@
 -- The steps at the clause that they change. Kinds 1, 2, 3, 5 and 8 keep the models below every M; 4, 6 and 7 below an M without the atom.
 use mathlib.Core.Path.{_≡_, subst}
-use mathlib.Core.Logic.{_↔_, _≢_, by-cases}
+use mathlib.Core.Logic.{_≢_, by-cases}
 use mathlib.Core.Bool.{So, false≢true}
-use mathlib.Core.List.{List, [], _∷_, List·Memᴰ·not-nil, List·Memᴰ·eq-of-singleton}
+use mathlib.Core.List.{[], _∷_, List·Memᴰ·not-nil, List·Memᴰ·eq-of-singleton}
 use Prim.Native.Nat.{ℕ}
 use native.Mathlib.Decide.{ℕ-discrete}
 use lib.ListN.{set}
@@ -10,7 +10,7 @@ use lib.Seq.{getD-set-other}
 use Rattle.semantics.specs.Lists.{_∈_}
 use Rattle.semantics.specs.Programs.{Clause, Atoms, Subset}
 use Rattle.semantics.proofs.Tests.{without-sub, without-keeps}
-use Rattle.semantics.proofs.Models.{Holds, Same}
+use Rattle.semantics.proofs.Models.{Same}
 use Rattle.rewriting.specs.Marked.{Entry, Marked, gone, entry, left}
 use Rattle.rewriting.specs.Steps.{deleted, dropPos, dropNeg}
 use Rattle.rewriting.proofs.Left.{each-set, each-unset, set-kept, HoldsAt, ModelsAt, models-left}

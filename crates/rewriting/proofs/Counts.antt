@@ -1,18 +1,19 @@
 -- The numbers that the reducer keeps: the kept clauses with an atom in their head; and "is a fact" by the literals left.
 use mathlib.Core.Path.{_≡_, refl}
 use mathlib.Core.Logic.{_↔_}
-use mathlib.Core.Bool.{Bool, not, _&&_, _||_, So, false≢true, true, false, cond}
+use mathlib.Core.Bool.{Bool, not, _&&_, _||_, So, true, false, cond}
 use mathlib.Core.List.{List, [], _∷_}
 use Prim.Native.Nat.{ℕ, zero, suc, _+_, _<_}
 use native.Mathlib.Omega.{arith}
-use lib.ListN.{length, getD, set}
+use lib.ListN.{length, set}
 use Rattle.semantics.specs.Lists.{any, mem, count, bit}
 use Rattle.semantics.specs.Programs.{Clause}
 use Rattle.semantics.proofs.Tests.{bit-true, bit-false, or-iff, not-iff}
-use Rattle.rewriting.specs.Marked.{Entry, Marked, gone, entry, left}
+use Rattle.rewriting.specs.Marked.{Entry, Marked, entry, left}
 use Rattle.rewriting.specs.Steps.{Step, Kind, tautology, contradiction, success, noHead, blocked, failure, loop, subsumed, inNoHead, applies, rewritten, effect}
 use Rattle.rewriting.proofs.Left.{kept-lt}
-use Rattle.rewriting.proofs.Reopen.{drops, target-kept}
+use Rattle.rewriting.specs.Kinds.{drops}
+use Rattle.rewriting.proofs.Effect.{target-kept}
 
 -- ---- kept heads of an atom
 

@@ -1,21 +1,18 @@
 -- The reducer's list: the smallest step each time, until none applies. It is accepted, no step is open behind it, and its length is
 -- what the measure lost.
 use mathlib.Core.Path.{_≡_, refl}
-use mathlib.Core.Logic.{_↔_}
-use mathlib.Core.Bool.{Bool, true, false, cond, So}
-use mathlib.Core.List.{List, [], _∷_, _++_}
+use mathlib.Core.Bool.{So}
+use mathlib.Core.List.{List, [], _∷_}
 use mathlib.Core.Option.{Option, none, some}
 use Prim.Native.Nat.{ℕ, zero, suc, _+_, _≤_}
 use native.Mathlib.Omega.{arith}
 use lib.ListN.{length}
-use Rattle.semantics.specs.Programs.{Atoms, Stable, program}
-use Rattle.semantics.proofs.Tests.{and-iff, so-false}
-use Rattle.rewriting.specs.Marked.{Marked, entry, left}
+use Rattle.semantics.proofs.Tests.{and-iff}
+use Rattle.rewriting.specs.Marked.{Marked, entry}
 use Rattle.rewriting.specs.Steps.{Step, applies, effect, accepted, leaves}
-use Rattle.rewriting.specs.Reducer.{measure, firstStep, reduce, IsFirst, Greedy, stop, take}
+use Rattle.rewriting.specs.Reducer.{measure, firstStep, reduce, Greedy, stop, take}
 use Rattle.rewriting.proofs.Measure.{Tidy, step-measure, tidy-effect}
 use Rattle.rewriting.proofs.Search.{firstStep-none, firstStep-some}
-use Rattle.rewriting.proofs.Sound.{list-sound}
 
 -- The reducer's list takes the smallest applicable step each time, until none applies.
 pub reduce-greedy : (n fuel : ℕ) (P : Marked) → ((i : ℕ) → Tidy (entry P i)) → measure P ≤ fuel → Greedy n P (reduce n fuel P)
@@ -40,12 +37,6 @@ unfolding leaves
 greedy-end (stop h) = h
 greedy-end {n} (take {P = P} {s = s} f g) = rw (f .applicable) (greedy-end g)
 
--- With any step behind it, it is refused, and leaves what it left.
-pub greedy-more : {n : ℕ} {P : Marked} {l : List Step} → Greedy n P l → (u : Step) → (accepted n P (l ++ u ∷ []) ≡ false) × (leaves n P (l ++ u ∷ []) ≡ leaves n P l)
-unfolding accepted leaves
-greedy-more (stop h) u = rw (so-false _ (h u)) (refl, refl)
-greedy-more (take f g) u = rw (f .applicable) (greedy-more g u)
-
 -- The number of steps of an accepted list is what the measure lost.
 pub accepted-measure : (n : ℕ) (P : Marked) (l : List Step) → ((i : ℕ) → Tidy (entry P i)) → So (accepted n P l) → length l + measure (leaves n P l) ≡ measure P
 unfolding accepted leaves
@@ -53,7 +44,3 @@ accepted-measure n P [] u h = omega arith
 accepted-measure n P (s ∷ l) u h =
     let w = and-iff (applies n P s) (accepted n (effect P s) l) .0 h in
     rw (w .0) (omega (arith, step-measure n P s u (w .0), accepted-measure n (effect P s) l (tidy-effect P s u) (w .1)))
-
--- The reducer keeps the stable models.
-pub reduce-sound : (n fuel : ℕ) (P : Marked) (M : Atoms) → Stable (program n (left P)) M ↔ Stable (program n (left (leaves n P (reduce n fuel P)))) M
-reduce-sound n fuel P M = list-sound n P (reduce n fuel P) M

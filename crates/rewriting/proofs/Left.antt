@@ -3,13 +3,13 @@ use mathlib.Core.Path.{_≡_, refl, sym, subst}
 use mathlib.Core.Logic.{_↔_}
 use mathlib.Core.Bool.{Bool, true, false, cond, So, false≢true}
 use mathlib.Core.List.{List, [], _∷_, List·Memᴰ·head, List·Memᴰ·tail}
-use Prim.Native.Nat.{ℕ, zero, suc, _<_}
+use Prim.Native.Nat.{ℕ, zero, suc, _≤_, _<_}
 use native.Mathlib.Omega.{arith}
 use lib.ListN.{length, set}
 use Rattle.semantics.specs.Lists.{_∈_}
 use Rattle.semantics.specs.Programs.{Clause, Atoms}
 use Rattle.semantics.proofs.Models.{Holds, Models, All, Closed}
-use Rattle.rewriting.specs.Marked.{Entry, Marked, gone, entry, left, whole}
+use Rattle.rewriting.specs.Marked.{Entry, Marked, entry, left, whole}
 
 -- what holds of every kept clause holds of every number whose clause is kept
 pub left-each : (Q : Clause → Type 0) (P : Marked) → ((c : Clause) → c ∈ left P → Q c) ↔ ((i : ℕ) → So (entry P i .kept) → Q (entry P i .clause))
@@ -38,14 +38,20 @@ left-each Q P = (to P, from P)
     from [] h c m = absurd (mathlib.Core.List.List·Memᴰ·not-nil m)
     from (e ∷ P) h c m = join e P (e .kept) (h zero) (from P (λ i. h (suc i))) c m
 
--- a kept clause is one of those left
-pub kept-left : (P : Marked) (i : ℕ) → So (entry P i .kept) → entry P i .clause ∈ left P
-kept-left P = left-each (λ c. c ∈ left P) P .0 (λ c m. m)
-
 pub kept-lt : (P : Marked) (i : ℕ) → So (entry P i .kept) → i < length P
 kept-lt [] i k = absurd (false≢true k)
 kept-lt (e ∷ P) zero k = omega arith
 kept-lt (e ∷ P) (suc i) k = omega (arith, kept-lt P i k)
+
+-- no more clauses are left than there were
+pub left-le : (P : Marked) → length (left P) ≤ length P
+unfolding left
+left-le [] = omega arith
+left-le (e ∷ P) = go (e .kept) (left-le P)
+  where
+    go : (t : Bool) → length (left P) ≤ length P → length (cond t (e .clause ∷ left P) (left P)) ≤ suc (length P)
+    go true h = omega arith
+    go false h = omega arith
 
 pub left-whole : (cs : List Clause) → left (whole cs) ≡ cs
 unfolding left

@@ -5,6 +5,8 @@ pub mod Sound
 pub mod Measure
 pub mod Search
 pub mod Greedy
+pub mod Subclauses
+pub mod Effect
 pub mod Reopen
 pub mod Quiet
 pub mod Counts

@@ -1,11 +1,11 @@
 -- Every applicable step takes exactly one from kept clauses plus body literals.
-use mathlib.Core.Path.{_≡_, refl}
-use mathlib.Core.Bool.{Bool, false, So, false≢true}
+use mathlib.Core.Path.{_≡_}
+use mathlib.Core.Bool.{Bool, So, false≢true}
 use mathlib.Core.List.{List, [], _∷_}
 use Prim.Native.Nat.{ℕ, zero, suc, _+_}
 use native.Mathlib.Omega.{arith}
-use lib.ListN.{length, getD, set}
-use Rattle.semantics.specs.Lists.{_∈_, mem, ascending, bit}
+use lib.ListN.{getD, set}
+use Rattle.semantics.specs.Lists.{mem, ascending}
 use Rattle.semantics.specs.Programs.{Clause}
 use Rattle.semantics.proofs.Tests.{and-iff, mem-iff, bit-true, length-without, ascending-without}
 use Rattle.rewriting.specs.Marked.{Entry, Marked, entry}

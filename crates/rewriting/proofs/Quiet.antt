@@ -2,22 +2,21 @@
 -- The key is what a step names beside its target: the partner, or the atom. Flags and fresh keys are given as functions of the number.
 use mathlib.Core.Path.{_≡_, refl, sym, ap, subst, _∙_}
 use mathlib.Core.Logic.{_≢_, by-cases, ⊎-elim}
-use mathlib.Core.Bool.{Bool, true, false, cond, So, false≢true}
-use mathlib.Core.List.{List}
+use mathlib.Core.Bool.{cond, So, false≢true}
 use mathlib.Core.Option.{Option, none, some}
 use Prim.Native.Nat.{ℕ, zero, suc, _<_}
 use native.Mathlib.Omega.{arith}
 use native.Mathlib.Decide.{ℕ-discrete, decLt}
 use lib.ListN.{length}
-use Rattle.semantics.specs.Lists.{_∈_}
 use Rattle.semantics.proofs.Tests.{so-false}
 use Rattle.semantics.proofs.Models.{All}
 use Rattle.rewriting.specs.Marked.{Marked, entry, left}
 use Rattle.rewriting.specs.Reach.{reach}
-use Rattle.rewriting.specs.Steps.{Step, step, Kind, tautology, contradiction, success, noHead, blocked, failure, loop, subsumed, usesPartner, usesAtom, inNoHead, applies, effect}
+use Rattle.rewriting.specs.Steps.{Step, step, Kind, loop, usesPartner, usesAtom, applies, effect}
+use Rattle.rewriting.specs.Kinds.{drops, asksHeads}
 use Rattle.rewriting.specs.Reducer.{least, given, firstAtom, firstPartner}
 use Rattle.rewriting.proofs.Search.{no-step}
-use Rattle.rewriting.proofs.Reopen.{drops, asksHeads, reopens, ready, Twin, not-reopened, Opens, opened, openPartner, openHead, openReach}
+use Rattle.rewriting.proofs.Reopen.{reopens, ready, Twin, not-reopened, Opens, opened, openPartner, openHead, openReach}
 
 -- ---- the search's answer
 
@@ -102,36 +101,6 @@ module _ (n : ℕ) (P : Marked) (s : Step) (h : So (applies n P s)) (k : Kind) (
       only u e (openPartner y p f r) z = o (subst (λ j. So (ready j (entry (effect P s) (s .target) .clause))) e r) (subst (λ b. fresh' b ≡ 0) (ap (λ b. cond b (u .partner) (u .atom)) p ∙ f) z)
       only u e (openHead y a m i) z = y d
       only u e (openReach y f a t) z = y d
-
-  -- kinds 4 and 6 by a deletion: the atoms of the head that are in no kept head now become fresh keys
-  pub quiet-bare : (fresh' : ℕ → ℕ) → So (asksHeads k) → Raised fresh fresh'
-      → ((a : ℕ) → a ∈ entry P (s .target) .clause .head → So (inNoHead (left (effect P s)) a) → fresh' a ≢ 0) → Quiet n (effect P s) k may fresh'
-  quiet-bare fresh' x g o = quiet-step n P k may fresh q may fresh' s h (λ i z. z) g (λ u e a p m z. only u e p z)
-    where
-      atom-key : (j : Kind) (p a : ℕ) → So (asksHeads j) → cond (usesPartner j) p a ≡ a
-      atom-key noHead p a y = refl
-      atom-key failure p a y = refl
-      atom-key tautology p a y = absurd (false≢true y)
-      atom-key contradiction p a y = absurd (false≢true y)
-      atom-key success p a y = absurd (false≢true y)
-      atom-key blocked p a y = absurd (false≢true y)
-      atom-key loop p a y = absurd (false≢true y)
-      atom-key subsumed p a y = absurd (false≢true y)
-
-      only : (u : Step) → u .kind ≡ k → Opens P s u → fresh' (key u) ≢ 0
-      only u e (openHead y a m i) z = o (u .atom) m i (subst (λ j. fresh' j ≡ 0) (atom-key (u .kind) (u .partner) (u .atom) a) z)
-      only u e (openPartner y p f r) z = no (u .kind) (subst (λ j. So (asksHeads j)) (sym e) x) p
-        where
-          no : (j : Kind) → So (asksHeads j) → ¬ So (usesPartner j)
-          no noHead a b = false≢true b
-          no failure a b = false≢true b
-          no tautology a b = false≢true a
-          no contradiction a b = false≢true a
-          no success a b = false≢true a
-          no blocked a b = false≢true a
-          no loop a b = false≢true a
-          no subsumed a b = false≢true a
-      only u e (openReach y f g t) z = false≢true (subst (λ j. So (asksHeads j)) (sym e ∙ f) x)
 
   -- kind 7 by a deletion of a clause that did not fire, or in whose place its partner fires: nothing to do
   pub quiet-reach : k ≡ loop → ¬ (All (reach (left P)) (entry P (s .target) .clause .pos) × ¬ Twin P s) → Quiet n (effect P s) k may fresh

@@ -1,15 +1,15 @@
 -- The reach: the computed set is the smallest closed one. A closed set that lacks an atom keeps the atom out of every stable model.
-use mathlib.Core.Path.{_≡_, refl, sym, subst}
+use mathlib.Core.Path.{_≡_, refl, sym}
 use mathlib.Core.Logic.{_↔_, _⊎_, inl, inr, ⊎-elim}
-use mathlib.Core.Bool.{Bool, true, false, not, cond, _&&_, _||_, So, false≢true}
+use mathlib.Core.Bool.{Bool, true, false, not, cond, _||_, So}
 use mathlib.Core.List.{List, [], _∷_, _++_, List·Memᴰ·head, List·Memᴰ·tail, List·Memᴰ·not-nil, List·Memᴰ·append-cases, Memᴰ·cast, Memᴰ·append-left, Memᴰ·append-right}
 use Prim.Native.Nat.{ℕ, zero, suc, _+_, _≤_, _<_}
 use native.Mathlib.Omega.{arith}
 use lib.Dec.{eqb}
 use lib.ListN.{length}
 use borrow.Author.Tests.{eqb-true, eq-eqb}
-use Rattle.semantics.specs.Lists.{_∈_, any, all, mem, within, count}
-use Rattle.semantics.specs.Programs.{Clause, Atoms, Subset, Stable, program}
+use Rattle.semantics.specs.Lists.{_∈_, all, mem, within, count}
+use Rattle.semantics.specs.Programs.{Clause, Atoms, Stable, program}
 use Rattle.semantics.proofs.Tests.{and-iff, not-iff, or-iff, all-iff, any-iff, mem-iff, so-by, not-so, count-bound, count-none, count-lt}
 use Rattle.semantics.proofs.Models.{All, Same, same-stable, same-sym, Closed, stable-within}
 use Rattle.rewriting.specs.Reach.{closed, IsReach, ready, fire, reachFrom, reach}
@@ -147,7 +147,3 @@ reach-is cs = record {
 -- The smallest closed set is one.
 pub reach-unique : (cs : List Clause) (R S : Atoms) → IsReach cs R → IsReach cs S → (a : ℕ) → So (R a) ↔ So (S a)
 reach-unique cs R S r s a = (λ h. r .least S (s .holds) a h, λ h. s .least R (r .holds) a h)
-
--- from any start: closed, and within every closed predicate that holds of the start
-pub reachFrom-full : (cs : List Clause) (S : List ℕ) → Closed (among (reachFrom cs (length cs) S)) cs
-reachFrom-full cs S = reachFrom-closed cs (length cs) S (inl (count-bound (missing S) cs))

@@ -1,19 +1,19 @@
 -- An applicable step keeps the stable models, and so does every list of steps, accepted or refused at a step.
-use mathlib.Core.Path.{_≡_, refl, sym, subst}
+use mathlib.Core.Path.{_≡_, refl}
 use mathlib.Core.Logic.{_↔_, _≢_, Iff·trans, Iff·rfl}
 use mathlib.Core.Bool.{Bool, true, false, not, cond, _&&_, So, false≢true}
-use mathlib.Core.List.{List, [], _∷_, _++_}
+use mathlib.Core.List.{List, [], _∷_}
 use Prim.Native.Nat.{ℕ}
 use lib.Dec.{eqb}
 use lib.ListN.{getD, set}
 use borrow.Author.Tests.{eq-eqb}
-use Rattle.semantics.specs.Lists.{_∈_, all, null, mem, within}
+use Rattle.semantics.specs.Lists.{all, mem}
 use Rattle.semantics.specs.Programs.{Clause, Atoms, Stable, program}
 use Rattle.semantics.proofs.Tests.{and-iff, not-iff, mem-iff, within-iff, null-iff}
-use Rattle.semantics.proofs.Models.{Same, same-iff, same-trans, same-append, Closed}
+use Rattle.semantics.proofs.Models.{Same, same-iff, same-trans, Closed}
 use Rattle.rewriting.specs.Marked.{Entry, Marked, entry, left}
 use Rattle.rewriting.specs.Reach.{reach}
-use Rattle.rewriting.specs.Steps.{Kind, tautology, contradiction, success, noHead, blocked, failure, loop, subsumed, Step, usesPartner, fact, single, inNoHead, condition, partnerKept, conditionHolds, applies, deleted, dropPos, dropNeg, rewritten, effect, accepted, leaves}
+use Rattle.rewriting.specs.Steps.{Kind, tautology, contradiction, success, noHead, blocked, failure, loop, subsumed, Step, usesPartner, single, inNoHead, condition, conditionHolds, applies, deleted, dropNeg, rewritten, effect, leaves}
 use Rattle.rewriting.proofs.Left.{each-set, ClosedAt, closed-left}
 use Rattle.rewriting.proofs.ByKind.{same-tautology, same-contradiction, same-outside, same-dropNeg, same-blocked, same-subsumed, same-success}
 use Rattle.rewriting.proofs.Reach.{others, others-closed, others-not, reach-closed, same-without}

@@ -1,5 +1,5 @@
 -- The reach of clauses: what it has to be, and how it is computed.
-use mathlib.Core.Bool.{Bool, true, false, not, cond, _&&_, _||_, So}
+use mathlib.Core.Bool.{Bool, not, cond, _&&_, _||_, So}
 use mathlib.Core.List.{List, [], _∷_, _++_}
 use Prim.Native.Nat.{ℕ, zero, suc}
 use lib.ListN.{length}

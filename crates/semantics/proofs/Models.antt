@@ -3,11 +3,11 @@
 use mathlib.Core.Path.{_≡_, refl}
 use mathlib.Core.Logic.{_↔_, Iff·symm, Iff·trans}
 use mathlib.Core.Bool.{Bool, true, false, not, cond, _&&_, So}
-use mathlib.Core.List.{List, [], _∷_, _++_, List·Memᴰ·head, List·Memᴰ·tail, List·Memᴰ·append-cases, Memᴰ·append-left, Memᴰ·append-right}
+use mathlib.Core.List.{List, _∷_, _++_, List·Memᴰ·head, List·Memᴰ·tail, List·Memᴰ·append-cases, Memᴰ·append-left, Memᴰ·append-right}
 use mathlib.Core.Logic.{⊎-elim}
 use Prim.Native.Nat.{ℕ, _<_}
 use Rattle.semantics.specs.Lists.{_∈_, any}
-use Rattle.semantics.specs.Programs.{Clause, Program, program, Atoms, satisfies, strip, reduct, models, Subset, Proper, Stable}
+use Rattle.semantics.specs.Programs.{Clause, Program, program, Atoms, satisfies, strip, reduct, models, Subset, Stable}
 use Rattle.semantics.proofs.Tests.{and-iff, not-iff, or-iff, all-iff, any-iff, so-by, so-false, not-so}
 
 -- ---- the working form

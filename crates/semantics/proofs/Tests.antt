@@ -3,11 +3,11 @@ use mathlib.Core.Path.{_≡_, refl, sym, ap, subst, _∙_}
 use mathlib.Core.Logic.{_↔_, _≢_, _⊎_, inl, inr}
 use mathlib.Core.Bool.{Bool, true, false, not, cond, _&&_, _||_, So, true≢false, false≢true}
 use mathlib.Core.List.{List, [], _∷_, List·Memᴰ·head, List·Memᴰ·tail, List·Memᴰ·cases-cons, Memᴰ·cast, cons≢nil}
-use Prim.Native.Nat.{ℕ, suc, _+_, _≤_, _<_}
+use Prim.Native.Nat.{ℕ, suc, _≤_, _<_}
 use native.Mathlib.Omega.{arith}
 use lib.Dec.{eqb, ltb}
 use lib.ListN.{length}
-use borrow.Author.Tests.{eqb-true, eqb-false, eq-eqb, ne-eqb, ltb-true}
+use borrow.Author.Tests.{eqb-true, eq-eqb, ne-eqb, ltb-true}
 use Rattle.semantics.specs.Lists.{bit, _∈_, any, all, null, keep, count, mem, within, without, ascending}
 
 -- ---- tests
@@ -23,6 +23,16 @@ not-iff false = (λ h k. false≢true k, λ h. refl)
 pub or-iff : (a b : Bool) → So (a || b) ↔ (¬ So a → So b)
 or-iff true b = (λ h k. absurd (k refl), λ h. refl)
 or-iff false b = (λ h k. h, λ h. h (λ k. false≢true k))
+
+pub or-left : (a b : Bool) → So a → So (a || b)
+or-left a b h = or-iff a b .1 (λ k. absurd (k h))
+
+pub or-right : (a b : Bool) → So b → So (a || b)
+or-right a b h = or-iff a b .1 (λ k. h)
+
+pub or-false : (b : Bool) → (b || false) ≡ b
+or-false true = refl
+or-false false = refl
 
 pub so-dec : (b : Bool) → Dec (So b)
 so-dec true = yes refl
@@ -87,10 +97,6 @@ module _ {A : Type 0} (p : A → Bool) where
       elims [] h = absurd (false≢true h)
       elims (y ∷ l) h = step y l (p y) refl h (elims l)
 
-      or-right : (b c : Bool) → So c → So (b || c)
-      or-right true c h = refl
-      or-right false c h = h
-
       intro : (l : List A) (x : A) → x ∈ l → So (p x) → So (any p l)
       intro (y ∷ l) x (List·Memᴰ·head e) h = subst (λ b. So (b || any p l)) (sym h ∙ ap p e) refl
       intro (y ∷ l) x (List·Memᴰ·tail m) h = or-right (p y) (any p l) (intro l x m h)
@@ -149,14 +155,6 @@ without-keeps a b (x ∷ l) m d = step (eqb a x) refl (λ k. without-keeps _ _ _
     step true q f (inr m) = f m
     step false q f (inl e) = List·Memᴰ·head e
     step false q f (inr m) = List·Memᴰ·tail (f m)
-
-pub without-not : (a b : ℕ) (l : List ℕ) → b ∈ without a l → b ≢ a
-without-not a b (x ∷ l) m = step (eqb a x) refl (λ k. without-not a b l k) m
-  where
-    step : (t : Bool) → eqb a x ≡ t → (b ∈ without a l → b ≢ a) → b ∈ cond t (without a l) (x ∷ without a l) → b ≢ a
-    step true q f m = f m
-    step false q f (List·Memᴰ·head e) = λ d. eqb-false a x q (sym d ∙ e)
-    step false q f (List·Memᴰ·tail m) = f m
 
 pub without-none : (a : ℕ) (l : List ℕ) → ¬ (a ∈ l) → without a l ≡ l
 without-none a [] h = refl

@@ -13,7 +13,7 @@ use Rattle.semantics.specs.Decide.{among}
 use Rattle.table.specs.Questions.{Passed}
 use Rattle.table.specs.Places.{nextAt, clauseOf, clausesOf, programOf}
 use Rattle.table.proofs.Encoding.{passed-limits}
-use Rattle.clauses.proofs.Along.{Along, along-start, along-fits, along-next, clauses-more, clauses-none, clauses-all}
+use Rattle.table.proofs.Walks.{Along, along-start, along-fits, along-next, clauses-more, clauses-none, clauses-all}
 use Rattle.stability.specs.Masks.{maskOf, allBelow, holds, modelled, enters, clauseHolds}
 use Rattle.stability.specs.Kept.{Room, Added, Ready, Filled}
 use Rattle.stability.proofs.Search.{allBelow-ext}
@@ -52,7 +52,6 @@ added-one s c bs hs n b h l k q e f = record {
 -- k clauses are listed, and the next is at `at`
 pub record Filling (ws s bs hs : List ℕ) (k at n : ℕ) : Type 0 where
   pub along : Along ws k at
-  pub within : k ≤ getD ws 1 0
   pub most : n ≤ k
   pub body : 2048 ≤ length bs
   pub head : 2048 ≤ length hs
@@ -71,8 +70,7 @@ module _ (ws s bs hs : List ℕ) where
   pub filling-start : Ready ws s bs hs → Filling ws s bs hs 0 2 0
   unfolding modelled allBelow
   filling-start r = record {
-    along = along-start ws (r .passed);
-    within = omega arith;
+    along = along-start ws;
     most = omega arith;
     body = r .body;
     head = r .head;
@@ -87,8 +85,7 @@ module _ (ws s bs hs : List ℕ) where
 
     pub filling-next : k < getD ws 1 0 → (bs′ hs′ : List ℕ) (r : ℕ) → Added s (clauseOf ws at) bs hs n bs′ hs′ r → Filling ws s bs′ hs′ (k + 1) (nextAt ws at) r
     filling-next h bs′ hs′ r a = record {
-      along = along-next ws k at p h (f .along);
-      within = omega arith;
+      along = along-next ws k at h (f .along);
       most = omega arith;
       body = omega arith;
       head = omega arith;
@@ -103,7 +100,7 @@ module _ (ws s bs hs : List ℕ) where
     filling-end h =
         let m = passed-limits ws p .fewClauses in
         record {
-          body = omega arith;
-          head = omega arith;
+          body = omega (arith, f .along .most);
+          head = omega (arith, f .along .most);
           asks = λ x. sym (and-true (modelled bs hs n x)) ∙ ap (λ cs. modelled bs hs n x && all (λ c. clauseHolds s x c) cs) (sym (clauses-none ws k (getD ws 1 0) at h)) ∙ f .asks x;
         }

@@ -1,8 +1,8 @@
 -- The test's answer: questions 1 to 8, 19 to 21, then whether the set is a stable model.
 use mathlib.Core.Bool.{Bool}
 use mathlib.Core.List.{List}
-use Prim.Native.Nat.{ℕ, zero, suc, _+_}
-use lib.Dec.{ltb, leb}
+use Prim.Native.Nat.{ℕ}
+use lib.Dec.{leb}
 use lib.ListN.{length, getD}
 use Rattle.semantics.specs.Decide.{stableTest}
 use Rattle.table.specs.declared.CallQuestion.the-variants.{SetLength}
@@ -12,23 +12,18 @@ use Rattle.table.specs.declared.Walk.{Walk}
 use Rattle.table.specs.declared.Walk.the-variants.{To, Stop}
 use Rattle.table.specs.declared.Checked.{Checked}
 use Rattle.table.specs.declared.Checked.the-variants.{Valid, Refused}
-use Rattle.table.specs.Questions.{ask, tableOf}
+use Rattle.table.specs.Questions.{ask, atomsFrom, tableOf}
 use Rattle.table.specs.Places.{programOf}
 use Rattle.stability.specs.declared.TestAnswer.{TestAnswer}
 use Rattle.stability.specs.declared.TestAnswer.the-variants as answer
 
--- "entry by entry, place the entry: 20 Is it below n? 21 Is it above the one before?"
--- for `left` entries from `at`; `low` is one above the entry before, 0 at the first
-unfoldable pub entriesFrom : List ℕ → ℕ → ℕ → ℕ → ℕ → Walk
-entriesFrom set n low at zero = To at
-entriesFrom set n low at (suc left) =
-    ask (ltb (getD set at 0) n) (Entry EntryBelow at)
-    (ask (leb low (getD set at 0)) (Entry EntryAscending at)
-    (entriesFrom set n (getD set at 0 + 1) (at + 1) left))
+-- "Then entry by entry, place the entry: 20 Is it below n? 21 Is it above the one before?"
+abbrev pub entriesFrom : List ℕ → ℕ → ℕ → ℕ → ℕ → Walk
+entriesFrom set n low at left = atomsFrom (Entry EntryBelow) (Entry EntryAscending) set n low at left
 
 -- "Testing a set, given as ascending words: 19 Are there at most 16?"
 unfoldable pub setOf : List ℕ → ℕ → Walk
-unfolding entriesFrom ask
+unfolding atomsFrom ask
 setOf set n = ask (leb (length set) 16) (Call SetLength) (entriesFrom set n 0 0 (length set))
 
 unfoldable pub onSet : Walk → Bool → TestAnswer

@@ -1,78 +1,65 @@
--- Laws of the definitions of specs/Words.antt, one step at a time, in the code's own terms.
-use Prim.Native.Nat.{ℕ, zero, suc, _≤_, _<_, _-_, _+_}
-use mathlib.Core.Path.{_≡_, refl, sym, ap, _∙_}
+-- Questions 1 to 8, one step at a time in the code's own terms; and what a walk says that is not refused.
+use Prim.Native.Nat.{ℕ, suc, _≤_, _<_, _-_, _+_}
+use mathlib.Core.Path.{_≡_, refl, ap}
 use mathlib.Core.List.{List}
 use mathlib.Core.Bool.{Bool, true, false}
-use borrow.Author.Tests.{le-ltb, lt-ltb, le-leb, lt-leb, leb-true}
+use borrow.Author.Tests.{le-ltb, lt-ltb, le-leb, lt-leb}
 use native.Mathlib.Omega.{arith}
 use lib.ListN.{length, getD}
-use Rattle.table.specs.declared.WordQuestion.the-variants.{AtomBelow, Ascending}
-use Rattle.table.specs.declared.Refusal.the-variants.{Word}
 use Rattle.table.specs.declared.Refusal.{Refusal}
 use Rattle.table.specs.declared.Walk.{Walk}
 use Rattle.table.specs.declared.Walk.the-variants.{To, Stop}
-use Rattle.table.specs.Questions.{ask, andThen, onTo, askTable, partFrom, partsFrom, clauseFrom, clausesFrom, allUsed, tableOf}
+use Rattle.table.specs.declared.Table.{Table}
+use Rattle.table.specs.declared.Checked.{Checked}
+use Rattle.table.specs.declared.Checked.the-variants.{Valid}
+use Rattle.table.specs.Questions.{atomsFrom, ask, andThen, onTo, askTable, clauseFrom, clausesFrom, allUsed, tableOf}
 
 -- one more than what is left after a step
 pub one-left : (i e : ℕ) → i < e → e - i ≡ suc (e - (i + 1))
 one-left i e h = omega arith
 
-module _ (ws : List ℕ) (n low i e : ℕ) (h : i < e) where
-  pub part-on : getD ws i 0 < n → low ≤ getD ws i 0 → partFrom ws n low i (e - i) ≡ partFrom ws n (getD ws i 0 + 1) (i + 1) (e - (i + 1))
-  unfolding partFrom ask
-  part-on a b = rw (one-left i e h) (simp (lt-ltb _ _ a, le-leb _ _ b))
+-- ---- questions 6 and 7, and 20 and 21
 
-  pub part-atom : n ≤ getD ws i 0 → partFrom ws n low i (e - i) ≡ Stop (Word AtomBelow i)
-  unfolding partFrom ask
-  part-atom a = rw (one-left i e h) (simp (le-ltb _ _ a))
+module _ (below above : ℕ → Refusal) (ws : List ℕ) (n low i e : ℕ) where
+  pub atoms-on : i < e → getD ws i 0 < n → low ≤ getD ws i 0 → atomsFrom below above ws n low i (e - i) ≡ atomsFrom below above ws n (getD ws i 0 + 1) (i + 1) (e - (i + 1))
+  unfolding atomsFrom ask
+  atoms-on h a b = rw (one-left i e h) (simp (lt-ltb _ _ a, le-leb _ _ b))
 
-  pub part-order : getD ws i 0 < n → getD ws i 0 < low → partFrom ws n low i (e - i) ≡ Stop (Word Ascending i)
-  unfolding partFrom ask
-  part-order a b = rw (one-left i e h) (simp (lt-ltb _ _ a, lt-leb _ _ b))
+  pub atoms-below : i < e → n ≤ getD ws i 0 → atomsFrom below above ws n low i (e - i) ≡ Stop (below i)
+  unfolding atomsFrom ask
+  atoms-below h a = rw (one-left i e h) (simp (le-ltb _ _ a))
 
-pub part-end : (ws : List ℕ) (n low i e : ℕ) → e ≤ i → i ≤ e → partFrom ws n low i (e - i) ≡ To e
-unfolding partFrom
-part-end ws n low i e h h′ = let z : e - i ≡ 0 = omega arith in let q : i ≡ e = omega arith in rw z (ap To q)
+  pub atoms-above : i < e → getD ws i 0 < n → getD ws i 0 < low → atomsFrom below above ws n low i (e - i) ≡ Stop (above i)
+  unfolding atomsFrom ask
+  atoms-above h a b = rw (one-left i e h) (simp (lt-ltb _ _ a, lt-leb _ _ b))
 
--- a walk that is not refused had every question answered yes
-ask-yes : (b : Bool) (r : Refusal) (w : Walk) (e : ℕ) → ask b r w ≡ To e → b ≡ true
+  pub atoms-end : e ≤ i → i ≤ e → atomsFrom below above ws n low i (e - i) ≡ To e
+  unfolding atomsFrom
+  atoms-end h h′ = let z : e - i ≡ 0 = omega arith in let q : i ≡ e = omega arith in rw z (ap To q)
+
+-- ---- a walk that is not refused had every question answered yes
+
+pub ask-inv : (t : Bool) (r : Refusal) (w : Walk) (e : ℕ) → ask t r w ≡ To e → (t ≡ true) × (w ≡ To e)
 unfolding ask
-ask-yes true r w e h = refl
-ask-yes false r w e h = cc
+ask-inv true r w e h = (refl, h)
+ask-inv false r w e h = let z : _≡_ {A = ℕ} 0 1 = cc in absurd (omega arith)
 
-ask-to : (b : Bool) (r : Refusal) (w : Walk) (e : ℕ) → ask b r w ≡ To e → w ≡ To e
-unfolding ask
-ask-to true r w e h = h
-ask-to false r w e h = cc
+pub askTable-inv : (t : Bool) (r : Refusal) (w : Checked) (v : Table) → askTable t r w ≡ Valid v → (t ≡ true) × (w ≡ Valid v)
+unfolding askTable
+askTable-inv true r w e h = (refl, h)
+askTable-inv false r w e h = let z : _≡_ {A = ℕ} 0 1 = cc in absurd (omega arith)
 
-then-to : (w v : Walk) (e : ℕ) → andThen w v ≡ To e → v ≡ To e
+pub and-inv : (w v : Walk) (e : ℕ) → andThen w v ≡ To e → (d : ℕ) × (w ≡ To d) × (v ≡ To e)
 unfolding andThen
-then-to (To x) v e h = h
-then-to (Stop r) v e h = cc
+and-inv (To x) v e h = (x, refl, h)
+and-inv (Stop r) v e h = let z : _≡_ {A = ℕ} 0 1 = cc in absurd (omega arith)
 
--- a part that is not refused ends where it should, and so does a clause
-pub part-to : (ws : List ℕ) (n low i k e : ℕ) → partFrom ws n low i k ≡ To e → e ≡ i + k
-unfolding partFrom
-part-to ws n low i zero e h = let q : i ≡ e = cc in omega arith
-part-to ws n low i (suc k) e h =
-    let q : e ≡ i + 1 + k = part-to ws n (getD ws i 0 + 1) (i + 1) k e (ask-to _ _ _ e (ask-to _ _ _ e h)) in omega arith
+pub on-inv : (w : Walk) (f : ℕ → Walk) (e : ℕ) → onTo w f ≡ To e → (d : ℕ) × (w ≡ To d) × (f d ≡ To e)
+unfolding onTo
+on-inv (To d) f e h = (d, refl, h)
+on-inv (Stop r) f e h = let z : _≡_ {A = ℕ} 0 1 = cc in absurd (omega arith)
 
-pub parts-to : (ws : List ℕ) (n a b c d e : ℕ) → c ≤ d → partsFrom ws n a b c d ≡ To e → e ≡ d
-unfolding partsFrom
-parts-to ws n a b c d e l h = let q : e ≡ c + (d - c) = part-to ws n 0 c (d - c) e (then-to _ _ e (then-to _ _ e h)) in omega arith
-
-pub clause-to : (ws : List ℕ) (n at e : ℕ) → clauseFrom ws n at ≡ To e → e ≤ length ws
-unfolding clauseFrom
-clause-to ws n at e h =
-    let h′ = ask-to _ _ _ e h in
-    let l = leb-true 3 (length ws - at) (ask-yes _ _ _ e h) in
-    let l′ = leb-true (getD ws at 0 + getD ws (at + 1) 0 + getD ws (at + 2) 0) (length ws - at - 3) (ask-yes _ _ _ e h′) in
-    let q = parts-to ws n _ _ _ _ e (omega arith) (ask-to _ _ _ e h′) in
-    omega arith
-
-pub clause-next : (ws : List ℕ) (n at e : ℕ) → clauseFrom ws n at ≡ To e → e ≡ at + 3 + getD ws at 0 + getD ws (at + 1) 0 + getD ws (at + 2) 0
-unfolding clauseFrom
-clause-next ws n at e h = parts-to ws n _ _ _ _ e (omega arith) (ask-to _ _ _ e (ask-to _ _ _ e h))
+-- ---- clause by clause, and the whole
 
 -- one clause more
 module _ (ws : List ℕ) (n k m at : ℕ) (h : k < m) where

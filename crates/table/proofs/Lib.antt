@@ -1,5 +1,11 @@
 pub mod Laws
+pub mod Refused
+pub mod Stands
+pub mod Rising
 pub mod Encoding
+pub mod Measures
 pub mod Places
+pub mod Walks
+pub mod Slices
 pub mod View
 pub mod Parts

@@ -1,6 +1,6 @@
 -- Where the clauses of a table that passed stand: each within the words, its parts ascending and below n.
 use Prim.Native.Nat.{ℕ, zero, suc, _+_, _-_, _≤_, _<_}
-use mathlib.Core.Path.{_≡_, refl, sym, ap, subst, _∙_}
+use mathlib.Core.Path.{_≡_, refl, ap, subst, _∙_}
 use mathlib.Core.Logic.{by-cases}
 use mathlib.Core.Bool.{So}
 use mathlib.Core.List.{List, [], _∷_, List·Memᴰ·head, List·Memᴰ·tail}
@@ -14,9 +14,9 @@ use Rattle.semantics.specs.Lists.{_∈_, all, ascending}
 use Rattle.semantics.proofs.Tests.{and-iff, all-iff}
 use Rattle.table.specs.declared.Walk.the-variants.{To}
 use Rattle.table.specs.Questions.{clausesFrom, Passed}
-use Rattle.table.specs.Encoding.{Ordered, OrderedClause}
-use Rattle.table.specs.Places.{cut, headAt, posAt, negAt, nextAt, startFrom, startOf, clauseOf}
-use Rattle.table.proofs.Encoding.{Sound, clause-inv, cut-length, on-inv, Limits, passed-limits}
+use Rattle.table.specs.Encoding.{Ordered}
+use Rattle.table.specs.Places.{cut, headAt, posAt, negAt, nextAt, startFrom, startOf}
+use Rattle.table.proofs.Encoding.{Sound, clause-inv, cut-length, on-inv, passed-limits}
 
 -- ---- parts by their words' places
 

@@ -30,14 +30,18 @@ unfoldable pub onTo : Walk → (ℕ → Walk) → Walk
 onTo (To e) f = f e
 onTo (Stop r) f = Stop r
 
+-- "Is the atom below n?", then "Is it above the one before it": asked of `left` words from `at`, one by one. `below` and `above` are the
+-- refusals, given the place; `low` is one above the atom before, 0 at the first word
+unfoldable pub atomsFrom : (ℕ → Refusal) → (ℕ → Refusal) → List ℕ → ℕ → ℕ → ℕ → ℕ → Walk
+atomsFrom below above ws n low at zero = To at
+atomsFrom below above ws n low at (suc left) =
+    ask (ltb (getD ws at 0) n) (below at)
+    (ask (leb low (getD ws at 0)) (above at)
+    (atomsFrom below above ws n (getD ws at 0 + 1) (at + 1) left))
+
 -- "word by word: 6 Is the atom below n? 7 Is it above the one before it in its part (place of the word)?"
--- for `left` words from `at`; `low` is one above the atom before, 0 at the part's first word
-unfoldable pub partFrom : List ℕ → ℕ → ℕ → ℕ → ℕ → Walk
-partFrom ws n low at zero = To at
-partFrom ws n low at (suc left) =
-    ask (ltb (getD ws at 0) n) (Word AtomBelow at)
-    (ask (leb low (getD ws at 0)) (Word Ascending at)
-    (partFrom ws n (getD ws at 0 + 1) (at + 1) left))
+abbrev pub partFrom : List ℕ → ℕ → ℕ → ℕ → ℕ → Walk
+partFrom ws n low at left = atomsFrom (Word AtomBelow) (Word Ascending) ws n low at left
 
 -- the head from a to b, the positive body from b to c, the negative body from c to d
 unfoldable pub partsFrom : List ℕ → ℕ → ℕ → ℕ → ℕ → ℕ → Walk

@@ -1,6 +1,6 @@
 // The table of a ground program: its limits, the refusals that every call can give, and questions 1 to 8.
 ghost use mathlib.Core.Path.{_≡_};
-ghost use Prim.Native.Nat.{ℕ, _+_, _-_, _≤_, _<_};
+ghost use Prim.Native.Nat.{_+_, _-_, _≤_, _<_};
 ghost use lib.ListN.{length};
 ghost use Rattle.table.specs.Refusals.{callNumber, wordNumber, stepNumber, entryNumber, byteNumber, refusalNumber, refusalPlace};
 ghost use Rattle.table.specs.Places.{nextAt};

@@ -12,7 +12,8 @@ use Rattle.table.specs.declared.ByteQuestion.{ByteQuestion}
 use Rattle.table.specs.declared.Refusal.{Refusal}
 use Rattle.table.specs.Encoding.{Ordered}
 use Rattle.table.specs.Places.{cut}
-use Rattle.table.proofs.Encoding.{Rising, rising-iff, past}
+use Rattle.table.proofs.Stands.{past}
+use Rattle.table.proofs.Rising.{Rising, rising-iff}
 use Rattle.text.specs.declared.Span.{Span}
 use Rattle.text.specs.declared.Span.the-variants.{Value, Missing}
 use Rattle.text.specs.declared.Order.{Order}

@@ -8,7 +8,7 @@ use lib.Dec.{ltb, leb}
 use borrow.Author.Tests.{lt-ltb, le-leb, ltb-true, leb-true}
 use Rattle.table.specs.declared.ByteQuestion.the-variants.{WordLimit, TextAtomBelow, TextAscending}
 use Rattle.table.specs.declared.Refusal.the-variants.{Byte}
-use Rattle.table.proofs.Encoding.{Rising}
+use Rattle.table.proofs.Rising.{Rising}
 use Rattle.text.specs.declared.Order.the-variants.{Ascends, NotBelow, NotAbove}
 use Rattle.text.specs.Reader.{done, stop, ask, order, onOrder, listOf}
 

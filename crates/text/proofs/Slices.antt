@@ -1,23 +1,13 @@
--- Words and bytes stored one by one, part by part, and copied.
+-- What a slice holds after a call has written to it, and words and bytes copied one by one.
 use Prim.Native.Nat.{ℕ, suc, _+_, _-_, _≤_, _<_}
-use mathlib.Core.Path.{_≡_, refl, sym, ap, _∙_}
-use mathlib.Core.List.{List, [], _∷_, _++_}
+use mathlib.Core.Path.{_≡_, sym, ap, _∙_}
+use mathlib.Core.List.{List}
 use native.Mathlib.Omega.{arith}
-use native.Mathlib.Nat.{add-zero, zero-add}
+use native.Mathlib.Nat.{zero-add}
 use native.Mathlib.Numerals.{add-one}
 use lib.ListN.{length, getD, take, drop, set}
-use lib.Seq.{sets, sets-eq, length-sets, set-comm, drop-cons, take-append-seam}
+use lib.Seq.{sets, sets-eq, length-sets, drop-cons, take-append-seam}
 use Rattle.text.specs.Slices.{written}
-
--- ---- stores
-
-pub sets-append : (l : List ℕ) (i : ℕ) (a b : List ℕ) → sets l i (a ++ b) ≡ sets (sets l i a) (i + length a) b
-sets-append l i [] b = rw add-zero
-sets-append l i (x ∷ a) b = let e : i + suc (length a) ≡ suc i + length a = omega arith in rw e (sets-append (set l i x) (suc i) a b)
-
-pub set-sets : (l : List ℕ) (i j v : ℕ) (vs : List ℕ) → j < i → set (sets l i vs) j v ≡ sets (set l j v) i vs
-set-sets l i j v [] h = refl
-set-sets l i j v (a ∷ vs) h = set-sets (set l i a) (suc i) j v vs (omega arith) ∙ ap (λ z. sets z (suc i) vs) (set-comm l i j a v (λ e. omega arith))
 
 -- ---- what is written
 

@@ -123,7 +123,7 @@ unfolding commas
 commas-short [] s = omega arith
 commas-short (x ∷ xs) s = omega (arith, length-append (digits x) (others xs), digits-length x, width-four x (s .0), others-short xs (s .1))
 
-line-length : (key v : List ℕ) → length (lineText key v) ≡ length key + length v + 1
+pub line-length : (key v : List ℕ) → length (lineText key v) ≡ length key + length v + 1
 unfolding lineText
 line-length key v = length-append key (v ++ 10 ∷ []) ∙ omega (arith, length-append v (10 ∷ []))
 

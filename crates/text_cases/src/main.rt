@@ -337,33 +337,66 @@ fn many_clauses() {
     read_case(&text[0..n], 8192);
 }
 
-fn large() {
+// Eight clauses, the last with so many atoms in its head and the positive and negative line given.
+fn eight(last: usize, pos: &[u8], neg: &[u8]) {
+    full(b"clauses=8\n", last, pos, neg);
+}
+
+// Nine clauses, the last of them empty.
+fn nine(last: usize) {
+    full(
+        b"clauses=9\n",
+        last,
+        b"pos=\n",
+        b"neg=\nhead=\npos=\nneg=\n",
+    );
+}
+
+fn word_limit() {
     print(b"# 8,192 words exactly, and one more at each line of the last clause\n");
-    full(b"clauses=8\n", 998, b"pos=\n", b"neg=\n");
-    full(b"clauses=8\n", 999, b"pos=\n", b"neg=\n");
-    full(b"clauses=8\n", 998, b"pos=0\n", b"neg=\n");
-    full(b"clauses=8\n", 998, b"pos=\n", b"neg=0\n");
+    eight(998, b"pos=\n", b"neg=\n");
+    eight(999, b"pos=\n", b"neg=\n");
+    eight(998, b"pos=0\n", b"neg=\n");
+    eight(998, b"pos=\n", b"neg=0\n");
+}
+
+fn word_limit_first() {
     print(b"# 26 before 6 and 7, and after 25\n");
-    full(b"clauses=8\n", 998, b"pos=1024\n", b"neg=\n");
-    full(b"clauses=8\n", 997, b"pos=1,1\n", b"neg=\n");
-    full(b"clauses=8\n", 998, b"pos=01\n", b"neg=\n");
+    eight(998, b"pos=1024\n", b"neg=\n");
+    eight(997, b"pos=1,1\n", b"neg=\n");
+    eight(998, b"pos=01\n", b"neg=\n");
+}
+
+fn counts_counted() {
     print(b"# a clause's counts are counted at its head line\n");
-    full(b"clauses=9\n", 995, b"pos=\n", b"neg=\nhead=\npos=\nneg=\n");
-    full(b"clauses=9\n", 996, b"pos=\n", b"neg=\nhead=\npos=\nneg=\n");
+    nine(995);
+    nine(996);
     print(b"# as many clauses as a table can have\n");
     many_clauses();
 }
 
-fn limits() {
+// A text of so many bytes, the last of them the filler's, where there is room for a whole table.
+fn filled(start: &[u8], filler: u8, size: usize) {
+    let bytes = [filler];
+    long(start, &bytes, filler, size, 8192);
+}
+
+fn byte_limit() {
     print(b"# 65,536 and 65,537 bytes\n");
-    long(b"atoms=0\nclauses=0\n", b"x", b'x', 65536, 8192);
-    long(b"atoms=0\nclauses=0\n", b"x", b'x', 65537, 8192);
-    long(b"atoms=", b"x", b'x', 65536, 8192);
+    filled(b"atoms=0\nclauses=0\n", b'x', 65536);
+    filled(b"atoms=0\nclauses=0\n", b'x', 65537);
+    filled(b"atoms=", b'x', 65536);
     long(b"atoms=", b"x", b'\n', 65536, 8192);
-    long(b"", b"a", b'a', 65536, 8192);
-    long(b"", b"\n", b'\n', 65536, 8192);
+    filled(b"", b'a', 65536);
+    filled(b"", b'\n', 65536);
+}
+
+fn long_list() {
     print(b"# 32,755 numbers in a list: 26 before 7\n");
     long(b"atoms=1024\nclauses=1\nhead=0", b",0", b'\n', 65536, 8192);
+}
+
+fn slice_limit() {
     print(b"# 22 before 23, 23 before any byte\n");
     long(b"", b"a", b'a', 65537, 0);
     long(b"", b"a", b'a', 65536, 8191);
@@ -372,30 +405,64 @@ fn limits() {
     case(b"", 0);
 }
 
-fn writes() {
+// A table that does not pass, with no room either.
+fn write_refused(words: &[u16]) {
+    write_again(words, b"", 0);
+}
+
+// So many words of zeros.
+fn write_zeros(size: usize) {
     let zeros = [0u16; 8193];
+    if size <= 8193 {
+        write_refused(&zeros[0..size]);
+    }
+}
+
+fn numbers_refused() {
     print(b"# tables that don't pass, with no room either\n");
-    write_again(&zeros[0..0], b"", 0);
-    write_again(&zeros[0..1], b"", 0);
-    write_again(&zeros, b"", 0);
+    write_zeros(0);
+    write_zeros(1);
+    write_zeros(8193);
     let many_atoms = [1025u16, 0];
-    write_again(&many_atoms, b"", 0);
+    write_refused(&many_atoms);
     let many_clauses = [0u16, 2049];
-    write_again(&many_clauses, b"", 0);
+    write_refused(&many_clauses);
+}
+
+fn clauses_refused() {
     let no_counts = [2u16, 1];
-    write_again(&no_counts, b"", 0);
+    write_refused(&no_counts);
     let no_literals = [2u16, 1, 65535, 1, 0];
-    write_again(&no_literals, b"", 0);
+    write_refused(&no_literals);
     let no_atom = [2u16, 1, 1, 0, 0, 2];
-    write_again(&no_atom, b"", 0);
+    write_refused(&no_atom);
     let twice = [3u16, 1, 2, 0, 0, 1, 1];
-    write_again(&twice, b"", 0);
+    write_refused(&twice);
     let left_over = [0u16, 0, 5];
-    write_again(&left_over, b"", 0);
+    write_refused(&left_over);
+}
+
+fn room() {
+    let zeros = [0u16; 2];
     print(b"# room for 17, 18 and 19 of 18 bytes\n");
-    write_again(&zeros[0..2], b"", 17);
-    write_again(&zeros[0..2], b"atoms=0\nclauses=0\n", 18);
-    write_again(&zeros[0..2], b"atoms=0\nclauses=0\n", 19);
+    write_again(&zeros, b"", 17);
+    write_again(&zeros, b"atoms=0\nclauses=0\n", 18);
+    write_again(&zeros, b"atoms=0\nclauses=0\n", 19);
+}
+
+fn large() {
+    word_limit();
+    word_limit_first();
+    counts_counted();
+    byte_limit();
+    long_list();
+    slice_limit();
+}
+
+fn writes() {
+    numbers_refused();
+    clauses_refused();
+    room();
 }
 
 fn main() {
@@ -406,6 +473,5 @@ fn main() {
     }
     lines(&input[0..n]);
     large();
-    limits();
     writes();
 }

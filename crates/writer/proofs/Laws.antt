@@ -9,7 +9,7 @@ use lib.Seq.{sets, drop-cons}
 use Rattle.text.specs.Digits.{places, digits, others, commas}
 use Rattle.text.specs.Render.{lineText}
 use Rattle.text.specs.Writer.{Puts}
-use Rattle.text.proofs.Slices.{sets-append}
+use Rattle.table.proofs.Slices.{sets-append}
 
 -- ---- pieces one after the other
 
@@ -92,10 +92,6 @@ module _ (xs : List ℕ) (v : ℕ) (h : length xs ≡ 0 → ⊥) (e : v ≡ getD
   commas-puts w w1 w2 a b c p q = rw (commas-some xs v h e) (puts-then w w1 w2 a b c (digits v) (others (drop 1 xs)) p q)
 
 -- ---- a line
-
-pub line-length : (key v : List ℕ) → length (lineText key v) ≡ length key + length v + 1
-unfolding lineText
-line-length key v = length-append key (v ++ 10 ∷ []) ∙ omega (arith, length-append v (10 ∷ []))
 
 pub line-puts : (w w1 w2 w3 : List ℕ) (a b c d : ℕ) (key v : List ℕ) → Puts w w1 a b key → Puts w1 w2 b c v → Puts w2 w3 c d (10 ∷ []) → Puts w w3 a d (lineText key v)
 unfolding lineText

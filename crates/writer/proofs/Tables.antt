@@ -1,6 +1,6 @@
 -- The text of a table that passed, clause by clause, and the call.
-use Prim.Native.Nat.{ℕ, suc, _+_, _-_, _≤_, _<_}
-use mathlib.Core.Path.{_≡_, refl, sym, ap, subst, _∙_}
+use Prim.Native.Nat.{ℕ, _+_, _-_, _≤_, _<_}
+use mathlib.Core.Path.{_≡_, refl, sym, ap, _∙_}
 use mathlib.Core.List.{List, [], _++_}
 use native.Mathlib.Omega.{arith}
 use lib.ListN.{length, length-append, getD, take}
@@ -10,13 +10,11 @@ use Rattle.semantics.specs.Programs.{Clause}
 use Rattle.table.specs.declared.CallQuestion.the-variants.{TextRoom}
 use Rattle.table.specs.declared.Refusal.{Refusal}
 use Rattle.table.specs.declared.Refusal.the-variants.{Call}
-use Rattle.table.specs.declared.Walk.{Walk}
-use Rattle.table.specs.declared.Walk.the-variants.{To, Stop}
 use Rattle.table.specs.declared.Checked.the-variants as checked
-use Rattle.table.specs.Questions.{onTo, clauseFrom, clausesFrom, tableOf, Passed}
+use Rattle.table.specs.Questions.{tableOf, Passed}
 use Rattle.table.specs.Places.{nextAt, clauseOf, clausesOf, programOf}
-use Rattle.table.proofs.Laws.{clause-to, clause-next}
-use Rattle.table.proofs.Encoding.{passed-limits, length-clausesOf}
+use Rattle.table.proofs.Walks as walk
+use Rattle.table.proofs.Encoding.{length-clausesOf}
 use Rattle.text.specs.declared.WriteAnswer.the-variants.{Accepted, Refused}
 use Rattle.text.specs.Digits.{digits, commas}
 use Rattle.text.specs.Render.{atomsKey, clausesKey, headKey, posKey, negKey, lineText, clauseText, clausesText, render}
@@ -48,32 +46,10 @@ parts-clause ws at h p q eh ep eq =
 
 -- ---- clauses
 
--- `left` clauses pass from a place on
-pub record Walks (ws : List ℕ) (left place : ℕ) : Type 0 where
-  pub end : ℕ
-  pub walk : clausesFrom ws (getD ws 0 0) left place ≡ To end
-
-pub walks-start : (ws : List ℕ) → Passed ws → Walks ws (getD ws 1 0 - 0) 2
-walks-start ws p = let q : getD ws 1 0 - 0 ≡ getD ws 1 0 = omega arith in let l = passed-limits ws p in record { end = l .end; walk = rw q (l .clauses) }
-
 module _ (ws : List ℕ) (m k place : ℕ) (h : k < m) where
-  less : m - k ≡ suc (m - (k + 1))
-  less = omega arith
-
-  pub walks-on : Walks ws (m - k) place → (nextAt ws place ≤ length ws) × Walks ws (m - (k + 1)) (nextAt ws place)
-  unfolding clausesFrom less
-  walks-on w = go (clauseFrom ws (getD ws 0 0) place) refl (ap (λ z. clausesFrom ws (getD ws 0 0) z place) (sym less) ∙ w .walk)
-    where
-      go : (v : Walk) → clauseFrom ws (getD ws 0 0) place ≡ v → onTo v (λ e. clausesFrom ws (getD ws 0 0) (m - (k + 1)) e) ≡ To (w .end) → (nextAt ws place ≤ length ws) × Walks ws (m - (k + 1)) (nextAt ws place)
-      go (To e) q r = unfold onTo in (
-          let n = clause-next ws (getD ws 0 0) place e q in
-          (omega (arith, clause-to ws (getD ws 0 0) place e q), record { end = w .end; walk = subst (λ z. clausesFrom ws (getD ws 0 0) (m - (k + 1)) z ≡ To (w .end)) n r })
-          )
-      go (Stop s) q r = unfold onTo in (let z : _≡_ {A = ℕ} 0 1 = cc in absurd (omega arith))
-
   clauses-more : clausesText (clausesOf ws (m - k) place) ≡ clauseText (clauseOf ws place) ++ clausesText (clausesOf ws (m - (k + 1)) (nextAt ws place))
-  unfolding clausesText clausesOf less
-  clauses-more = rw less
+  unfolding clausesText
+  clauses-more = rw (walk.clauses-more ws k m place h)
 
   module _ (w w₀ : List ℕ) (n at : ℕ) (whole : List ℕ) (l : Left w w₀ n at (clausesText (clausesOf ws (m - k) place)) whole) where
     pub clauses-room : at + length whole ≤ length w₀ → n + length (clauseText (clauseOf ws place)) ≤ length w
@@ -83,8 +59,8 @@ module _ (ws : List ℕ) (m k place : ℕ) (h : k < m) where
     clauses-on w1 n1 q p = left-on w w₀ n at _ whole l w1 n1 (clauseText (clauseOf ws place)) _ clauses-more q p
 
 pub clauses-none : (ws : List ℕ) (m k place : ℕ) → m ≤ k → clausesText (clausesOf ws (m - k) place) ≡ []
-unfolding clausesText clausesOf
-clauses-none ws m k place h = let q : m - k ≡ 0 = omega arith in rw q
+unfolding clausesText
+clauses-none ws m k place h = rw (walk.clauses-none ws k m place h)
 
 -- ---- the whole
 

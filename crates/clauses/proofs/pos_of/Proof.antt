@@ -2,7 +2,7 @@
 use Prim.Native.Nat.{_+_, _-_}
 use mathlib.Core.Path.{ap}
 use borrow.Author.Needs.{needs}
-use Rattle.clauses.proofs.Along.{part-at}
+use Rattle.clauses.proofs.Parts.{part-at}
 use Rattle.clauses.proofs.pos_of.Statement.{statement}
 use Rattle.clauses.proofs.pos_of.Tie as tie
 

@@ -1,6 +1,7 @@
 -- The two words in front, then clause by clause. The invariant: the walk from here on is the walk from the start.
 use Rattle.table.specs.declared.Walk.the-variants.{To}
-use Rattle.compaction.proofs.Tables.{at-end, inside, start-next}
+use Rattle.compaction.proofs.Tables.{inside, start-next}
+use Rattle.table.proofs.Walks.{along-end}
 use Prim.Native.Nat.{_≤_, _-_}
 use mathlib.Core.Path.{_≡_, refl, sym, ap, _∙_}
 use native.Mathlib.Omega.{arith}
@@ -53,7 +54,7 @@ loop-again c =
 
 returns-3 : tie.Need-returns-3 Inv-loop μ-loop
 returns-3 c =
-    let e = at-end _ (c .before .before .before .before .before .before .before .before .pre .passed) _ _ (c .loop-test .left) (c .before .loop .inv .0) (c .before .loop .inv .1 .0) in
+    let e = along-end _ _ _ (c .before .before .before .before .before .before .before .before .pre .passed) (record { most = c .before .loop .inv .0; place = c .before .loop .inv .1 .0 }) (c .loop-test .left) in
     ap To e ∙ sym (marks-end (allowed (c .before .before .before .before .before .before .before .before .args .words .now) (c .before .before .before .before .before .before .before .before .args .marks .now)) (c .before .loop .at) (length (c .before .before .before .before .before .before .before .before .args .words .now)) (omega arith) (omega arith)) ∙ c .before .loop .inv .1 .1
 
 pub check-marks-spec : {M : Type 1} → statement M

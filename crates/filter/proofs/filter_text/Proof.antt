@@ -1,5 +1,5 @@
 -- `filter::filter_text` meets its contract. Assumes nothing.
-use mathlib.Core.Path.{_≡_, sym, ap, _∙_}
+use mathlib.Core.Path.{sym, _∙_}
 use native.Mathlib.Omega.{arith}
 use Rattle.filter.proofs.Output.{refused-short}
 use Rattle.filter.proofs.Prints.{words-inside, words-passed, words-output, refused-output, output-short, puts-prints}

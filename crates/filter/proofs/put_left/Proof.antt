@@ -1,5 +1,4 @@
 -- `filter::put_left` meets its contract. Assumes nothing.
-use mathlib.Core.Path.{_≡_}
 use native.Mathlib.Omega.{arith}
 use Rattle.compaction.proofs.Limits.{left-within}
 use Rattle.filter.proofs.Left.{left-inside, left-passed, left-short, left-puts}

@@ -2,7 +2,8 @@
 use native.Mathlib.Omega.{arith}
 use mathlib.Core.List.{[], _∷_}
 use Rattle.text.specs.Digits.{commas}
-use Rattle.writer.proofs.Laws.{line-length, line-puts}
+use Rattle.text.proofs.Texts.{line-length}
+use Rattle.writer.proofs.Laws.{line-puts}
 use Rattle.filter.specs.Output.{refusedKey, refusedText}
 use borrow.Author.Needs.{needs}
 use Rattle.filter.proofs.put_refused.Statement.{statement}

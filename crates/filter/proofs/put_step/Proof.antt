@@ -1,7 +1,5 @@
 -- `filter::put_step` meets its contract. Assumes nothing.
-use Prim.Native.Nat.{_+_, _-_}
-use mathlib.Core.Path.{_≡_}
-use native.Mathlib.Omega.{arith}
+use Prim.Native.Nat.{_-_}
 use Rattle.filter.proofs.Laws.{four-words, step-puts}
 use borrow.Author.Needs.{needs}
 use Rattle.filter.proofs.put_step.Statement.{statement}

@@ -6,7 +6,8 @@ use lib.ListN.{length}
 use borrow.Author.Tests.{lt-leb}
 use borrow.Author.Needs.{needs}
 use Rattle.table.specs.Questions.{ask}
-use Rattle.stability.proofs.Entries.{entries-on, entries-atom, entries-order, entries-end, set-on}
+use Rattle.table.proofs.Laws.{atoms-on, atoms-below, atoms-above, atoms-end}
+use Rattle.stability.proofs.Entries.{set-on}
 use Rattle.stability.specs.Answer.{entriesFrom, setOf}
 use Rattle.stability.proofs.check_set.Statement.{statement}
 use Rattle.stability.proofs.check_set.Tie as tie
@@ -25,16 +26,16 @@ loop-holds : tie.Need-loop-holds Inv-loop μ-loop
 loop-holds c = (search needs, (refl, simp sub-zero))
 
 returns-2 : tie.Need-returns-2 Inv-loop μ-loop
-returns-2 c = set-on _ _ _ (c .before .before .before .before .if1 .left) (sym (entries-atom _ _ _ _ _ (c .before .before .loop-test .taken) (c .if2 .taken)) ∙ c .before .before .before .loop .inv .1 .1)
+returns-2 c = set-on _ _ _ (c .before .before .before .before .if1 .left) (sym (atoms-below _ _ _ _ _ _ _ (c .before .before .loop-test .taken) (c .if2 .taken)) ∙ c .before .before .before .loop .inv .1 .1)
 
 returns-3 : tie.Need-returns-3 Inv-loop μ-loop
-returns-3 c = set-on _ _ _ (c .before .before .before .before .before .if1 .left) (sym (entries-order _ _ _ _ _ (c .before .before .before .loop-test .taken) (c .before .if2 .left) (c .if3 .taken)) ∙ c .before .before .before .before .loop .inv .1 .1)
+returns-3 c = set-on _ _ _ (c .before .before .before .before .before .if1 .left) (sym (atoms-above _ _ _ _ _ _ _ (c .before .before .before .loop-test .taken) (c .before .if2 .left) (c .if3 .taken)) ∙ c .before .before .before .before .loop .inv .1 .1)
 
 loop-again : tie.Need-loop-again Inv-loop μ-loop
-loop-again c = (search needs, (refl, sym (entries-on _ _ _ _ _ (c .before .before .before .loop-test .taken) (c .before .if2 .left) (c .if3 .left)) ∙ c .before .before .before .before .loop .inv .1 .1))
+loop-again c = (search needs, (refl, sym (atoms-on _ _ _ _ _ _ _ (c .before .before .before .loop-test .taken) (c .before .if2 .left) (c .if3 .left)) ∙ c .before .before .before .before .loop .inv .1 .1))
 
 returns-4 : tie.Need-returns-4 Inv-loop μ-loop
-returns-4 c = set-on _ _ _ (c .before .before .if1 .left) (sym (entries-end _ _ _ _ _ (c .loop-test .left) (c .before .loop .inv .0)) ∙ c .before .loop .inv .1 .1)
+returns-4 c = set-on _ _ _ (c .before .before .if1 .left) (sym (atoms-end _ _ _ _ _ _ _ (c .loop-test .left) (c .before .loop .inv .0)) ∙ c .before .loop .inv .1 .1)
 
 pub check-set-spec : {M : Type 1} → statement M
 check-set-spec =

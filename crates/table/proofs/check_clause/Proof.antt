@@ -1,6 +1,5 @@
-use mathlib.Core.Path.{_≡_, refl, sym, ap, _∙_}
+-- `table::check_clause` meets its contract.
 use borrow.Author.Tests.{le-leb, lt-leb}
-use native.Mathlib.Omega.{arith}
 use Rattle.table.specs.Questions.{clauseFrom, ask}
 use borrow.Author.Needs.{needs}
 use Rattle.table.proofs.check_clause.Statement.{statement}

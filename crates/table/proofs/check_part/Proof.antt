@@ -1,10 +1,9 @@
-use Prim.Native.Nat.{ℕ, suc, _≤_, _<_, _-_, _+_}
+-- `table::check_part` meets its contract. The invariant: questions 6 and 7 from here on are those of the whole part.
+use Prim.Native.Nat.{_≤_, _-_}
 use mathlib.Core.Path.{_≡_, refl, sym, _∙_}
 use borrow.Author.Needs.{needs}
-use borrow.Author.Tests.{le-ltb, lt-ltb, le-leb, lt-leb}
-use native.Mathlib.Omega.{arith}
 use Rattle.table.specs.Questions.{partFrom}
-use Rattle.table.proofs.Laws.{part-on, part-atom, part-order, part-end}
+use Rattle.table.proofs.Laws.{atoms-on, atoms-below, atoms-above, atoms-end}
 use Rattle.table.proofs.check_part.Statement.{statement}
 use Rattle.table.proofs.check_part.Tie as tie
 
@@ -19,23 +18,23 @@ loop-holds : tie.Need-loop-holds Inv-loop μ-loop
 loop-holds c = (search needs, (search needs, refl))
 
 returns : tie.Need-returns Inv-loop μ-loop
-returns c = sym (part-atom _ _ _ _ _ (c .before .before .loop-test .taken) (c .if1 .taken)) ∙ c .before .before .before .loop .inv .1 .1
+returns c = sym (atoms-below _ _ _ _ _ _ _ (c .before .before .loop-test .taken) (c .if1 .taken)) ∙ c .before .before .before .loop .inv .1 .1
 
 returns-2 : tie.Need-returns-2 Inv-loop μ-loop
 returns-2 c =
-    sym (part-order _ _ _ _ _ (c .before .before .before .loop-test .taken) (c .before .if1 .left) (c .if2 .taken)) ∙ c .before .before .before .before .loop .inv .1 .1
+    sym (atoms-above _ _ _ _ _ _ _ (c .before .before .before .loop-test .taken) (c .before .if1 .left) (c .if2 .taken)) ∙ c .before .before .before .before .loop .inv .1 .1
 
 loop-again : tie.Need-loop-again Inv-loop μ-loop
 loop-again c = (
   search needs,
   (
     search needs,
-    sym (part-on _ _ _ _ _ (c .before .before .before .loop-test .taken) (c .before .if1 .left) (c .if2 .left)) ∙ c .before .before .before .before .loop .inv .1 .1,
+    sym (atoms-on _ _ _ _ _ _ _ (c .before .before .before .loop-test .taken) (c .before .if1 .left) (c .if2 .left)) ∙ c .before .before .before .before .loop .inv .1 .1,
   ),
 )
 
 returns-3 : tie.Need-returns-3 Inv-loop μ-loop
-returns-3 c = sym (part-end _ _ _ _ _ (c .loop-test .left) (c .before .loop .inv .1 .0)) ∙ c .before .loop .inv .1 .1
+returns-3 c = sym (atoms-end _ _ _ _ _ _ _ (c .loop-test .left) (c .before .loop .inv .1 .0)) ∙ c .before .loop .inv .1 .1
 
 pub check-part-spec : {M : Type 1} → statement M
 check-part-spec =

@@ -1,3 +1,4 @@
+-- `table::check_parts` meets its contract.
 use Rattle.table.specs.Questions.{partsFrom, andThen}
 use borrow.Author.Needs.{needs}
 use Rattle.table.proofs.check_parts.Statement.{statement}

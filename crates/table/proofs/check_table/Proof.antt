@@ -1,9 +1,11 @@
-use Prim.Native.Nat.{ℕ, suc, _≤_, _<_, _-_, _+_}
-use mathlib.Core.Path.{_≡_, refl, sym, ap, _∙_}
-use borrow.Author.Tests.{le-ltb, lt-ltb, le-leb, lt-leb}
+-- `table::check_table` meets its contract. The invariant: the walk along the clauses from here on is that of the whole table.
+use Prim.Native.Nat.{_≤_, _-_}
+use mathlib.Core.Path.{_≡_, sym, _∙_}
+use borrow.Author.Tests.{le-leb, lt-leb}
 use native.Mathlib.Omega.{arith}
 use native.Mathlib.Nat.{sub-zero}
-use Rattle.table.proofs.Laws.{clauses-on, clauses-bad, clauses-end, clause-to, table-on}
+use Rattle.table.proofs.Laws.{clauses-on, clauses-bad, clauses-end, table-on}
+use Rattle.table.proofs.Encoding.{clause-within}
 use Rattle.table.specs.Questions.{clausesFrom, askTable, allUsed, tableOf}
 use borrow.Author.Needs.{needs}
 use Rattle.table.proofs.check_table.Statement.{statement}
@@ -47,7 +49,7 @@ loop-again c =
     let q = sym (c .before .before .before .check-clause .ensures) ∙ c .before .next .given .1 in (
       search needs,
       (
-        clause-to _ _ _ _ q,
+        clause-within _ _ _ _ (c .before .before .before .before .before .loop .inv .1 .0) q,
         sym (clauses-on _ _ _ _ _ (c .before .before .before .before .loop-test .taken) _ q) ∙ c .before .before .before .before .before .loop .inv .1 .1,
       ),
     )

@@ -5,7 +5,7 @@ use native.Mathlib.Omega.{arith}
 use lib.ListN.{length, getD}
 use borrow.Author.Needs.{needs}
 use Rattle.table.proofs.Encoding.{passed-limits}
-use Rattle.clauses.proofs.Along.{along-fits}
+use Rattle.table.proofs.Walks.{along-fits}
 use Rattle.dependency.proofs.Heads.{Listing, listing-start, listing-clause, listing-next, listing-end}
 use Rattle.dependency.proofs.listing.list_heads.Statement.{statement}
 use Rattle.dependency.proofs.listing.list_heads.Tie as tie

@@ -3,7 +3,8 @@ use Prim.Native.Nat.{_-_}
 use mathlib.Core.Path.{ap}
 use native.Mathlib.Omega.{arith}
 use borrow.Author.Needs.{needs}
-use Rattle.dependency.proofs.Moves.{atoms, top-below, atom-low, word-low, finish-at, clause-at, clause-low, pass-at, b-low, left-at, look-at}
+use Rattle.dependency.proofs.Moves.{atoms, top-below}
+use Rattle.dependency.proofs.Advance.{atom-low, word-low, finish-at, clause-at, clause-low, pass-at, b-low, left-at, look-at}
 use Rattle.dependency.proofs.search.advance.Statement.{statement}
 use Rattle.dependency.proofs.search.advance.Tie as tie
 

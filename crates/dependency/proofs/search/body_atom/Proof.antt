@@ -4,7 +4,7 @@ use mathlib.Core.Path.{sym, ap, _∙_}
 use native.Mathlib.Omega.{arith}
 use lib.ListN.{getD}
 use borrow.Author.Needs.{needs}
-use Rattle.dependency.proofs.Moves.{body-length, body-word}
+use Rattle.dependency.proofs.Bodies.{body-length, body-word}
 use Rattle.dependency.proofs.search.body_atom.Statement.{statement}
 use Rattle.dependency.proofs.search.body_atom.Tie as tie
 

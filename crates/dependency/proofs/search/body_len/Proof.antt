@@ -2,7 +2,7 @@
 use Prim.Native.Nat.{_-_}
 use native.Mathlib.Omega.{arith}
 use borrow.Author.Needs.{needs}
-use Rattle.dependency.proofs.Moves.{body-length}
+use Rattle.dependency.proofs.Bodies.{body-length}
 use Rattle.dependency.proofs.search.body_len.Statement.{statement}
 use Rattle.dependency.proofs.search.body_len.Tie as tie
 

@@ -1,7 +1,7 @@
 -- `dependency::search::explore` meets its contract.
 use Prim.Native.Nat.{_-_}
 use borrow.Author.Needs.{needs}
-use Rattle.dependency.proofs.Moves.{explored-start, explored-next}
+use Rattle.dependency.proofs.Advance.{explored-start, explored-next}
 use Rattle.dependency.specs.Search.{Explored, size}
 use Rattle.dependency.proofs.search.explore.Statement.{statement}
 use Rattle.dependency.proofs.search.explore.Tie as tie

@@ -5,7 +5,7 @@ use native.Mathlib.Omega.{arith}
 use lib.ListN.{length, getD}
 use borrow.Author.Needs.{needs}
 use Rattle.table.proofs.Encoding.{passed-limits}
-use Rattle.clauses.proofs.Along.{along-fits}
+use Rattle.table.proofs.Walks.{along-fits}
 use Rattle.stability.proofs.Listing.{Filling, filling-start, filling-room, filling-next, filling-end}
 use Rattle.stability.proofs.kept.fill.Statement.{statement}
 use Rattle.stability.proofs.kept.fill.Tie as tie

@@ -1,0 +1,123 @@
+-- A step that applies in a program whose clauses are no more than another program's applies there too, where what its kind asks of the
+-- other clauses carries over.
+use mathlib.Core.Path.{_≡_, refl, sym, subst}
+use mathlib.Core.Logic.{_≢_}
+use mathlib.Core.Bool.{Bool, true, false, not, cond, _&&_, So, false≢true}
+use mathlib.Core.List.{List, [], _∷_}
+use Prim.Native.Nat.{ℕ}
+use lib.Dec.{eqb}
+use Rattle.semantics.specs.Lists.{_∈_, mem, within}
+use Rattle.semantics.specs.Programs.{Clause}
+use Rattle.semantics.proofs.Tests.{without-sub, and-iff, not-iff, mem-iff, within-iff}
+use Rattle.rewriting.specs.Marked.{Entry, Marked, entry, left}
+use Rattle.rewriting.specs.Reach.{reach}
+use Rattle.rewriting.specs.Steps.{Step, Kind, tautology, contradiction, success, noHead, blocked, failure, loop, subsumed, usesPartner, fact, single, inNoHead, condition, conditionHolds, applies, deleted, rewritten}
+use Rattle.rewriting.specs.Kinds.{drops}
+
+-- a clause that is no more than another, with the same head
+pub record Below (d c : Entry) : Type 0 where
+  pub kept : So (d .kept) → So (c .kept)
+  pub head : d .clause .head ≡ c .clause .head
+  pub pos : (a : ℕ) → a ∈ d .clause .pos → a ∈ c .clause .pos
+  pub neg : (a : ℕ) → a ∈ d .clause .neg → a ∈ c .clause .neg
+
+pub below-same : {d c : Entry} → d ≡ c → Below d c
+below-same {c = c} e = subst (λ d. Below d c) (sym e) (record { kept = λ h. h; head = refl; pos = λ a m. m; neg = λ a m. m })
+
+below-deleted : (e : Entry) → Below (deleted (e .clause)) e
+below-deleted e = record { kept = λ h. absurd (false≢true h); head = refl; pos = λ a m. m; neg = λ a m. m }
+
+pub below-rewritten : (k : Kind) (e : Entry) (d : Clause) (a : ℕ) → So (e .kept) → Below (rewritten k (e .clause) d a) e
+below-rewritten tautology e d a k = below-deleted e
+below-rewritten contradiction e d a k = below-deleted e
+below-rewritten success e d a k = record { kept = λ h. k; head = refl; pos = λ b m. without-sub _ b _ m; neg = λ b m. m }
+below-rewritten noHead e d a k = record { kept = λ h. k; head = refl; pos = λ b m. m; neg = λ b m. without-sub _ b _ m }
+below-rewritten blocked e d a k = below-deleted e
+below-rewritten failure e d a k = below-deleted e
+below-rewritten loop e d a k = below-deleted e
+below-rewritten subsumed e d a k = below-deleted e
+
+pub rewritten-kept : (k : Kind) (c d : Clause) (a : ℕ) → rewritten k c d a .kept ≡ drops k
+rewritten-kept tautology c d a = refl
+rewritten-kept contradiction c d a = refl
+rewritten-kept success c d a = refl
+rewritten-kept noHead c d a = refl
+rewritten-kept blocked c d a = refl
+rewritten-kept failure c d a = refl
+rewritten-kept loop c d a = refl
+rewritten-kept subsumed c d a = refl
+
+-- what the condition of a kind asks of the other clauses, carried back from Q to P
+abbrev pub Keeps : Kind → Marked → Marked → ℕ → ℕ → Type 0
+Keeps tautology P Q p a = Unit {0}
+Keeps contradiction P Q p a = Unit {0}
+Keeps success P Q p a = entry Q p ≡ entry P p
+Keeps noHead P Q p a = So (inNoHead (left Q) a) → So (inNoHead (left P) a)
+Keeps blocked P Q p a = entry Q p ≡ entry P p
+Keeps failure P Q p a = So (inNoHead (left Q) a) → So (inNoHead (left P) a)
+Keeps loop P Q p a = So (reach (left P) a) → So (reach (left Q) a)
+Keeps subsumed P Q p a = entry Q p ≡ entry P p
+
+single-more : (f g : ℕ → Bool) (l : List ℕ) → ((b : ℕ) → So (f b) → So (g b)) → So (single f l) → So (single g l)
+single-more f g [] k h = h
+single-more f g (b ∷ []) k h = k b h
+single-more f g (b ∷ c ∷ l) k h = h
+
+mem-more : (a : ℕ) (k l : List ℕ) → ((b : ℕ) → b ∈ k → b ∈ l) → So (mem a k) → So (mem a l)
+mem-more a k l f h = mem-iff a l .1 (f a (mem-iff a k .0 h))
+
+within-more : (j k l : List ℕ) → ((b : ℕ) → b ∈ k → b ∈ l) → So (within j k) → So (within j l)
+within-more j k l f h = within-iff j l .1 (λ a m. f a (within-iff j k .0 h a m))
+
+module _ (P Q : Marked) (t p a : ℕ) (b : Below (entry Q t) (entry P t)) where
+  abbrev old : Clause
+  old = entry P t .clause
+
+  abbrev new : Clause
+  new = entry Q t .clause
+
+  abbrev by : Clause
+  by = entry P p .clause
+
+  condition-back : (k : Kind) → Keeps k P Q p a → So (condition k (left Q) new (entry Q p .clause) a) → So (condition k (left P) old by a)
+  unfolding condition
+  condition-back tautology e h = let w = and-iff _ _ .0 h in
+      and-iff _ _ .1 (subst (λ l. So (mem a l)) (b .head) (w .0), mem-more a (new .pos) (old .pos) (b .pos) (w .1))
+  condition-back contradiction e h = let w = and-iff _ _ .0 h in
+      and-iff _ _ .1 (mem-more a (new .pos) (old .pos) (b .pos) (w .0), mem-more a (new .neg) (old .neg) (b .neg) (w .1))
+  condition-back success e h = let w = and-iff (fact by) (single (λ x. mem x (new .pos)) (by .head)) .0 (rw e at h) in
+      and-iff (fact by) (single (λ x. mem x (old .pos)) (by .head)) .1
+      (w .0, single-more (λ x. mem x (new .pos)) (λ x. mem x (old .pos)) (by .head) (λ x. mem-more x (new .pos) (old .pos) (b .pos)) (w .1))
+  condition-back noHead e h = let w = and-iff _ _ .0 h in and-iff _ _ .1 (mem-more a (new .neg) (old .neg) (b .neg) (w .0), e (w .1))
+  condition-back blocked e h = let w = and-iff (fact by) (within (by .head) (new .neg)) .0 (rw e at h) in
+      and-iff (fact by) (within (by .head) (old .neg)) .1 (w .0, within-more (by .head) (new .neg) (old .neg) (b .neg) (w .1))
+  condition-back failure e h = let w = and-iff _ _ .0 h in and-iff _ _ .1 (mem-more a (new .pos) (old .pos) (b .pos) (w .0), e (w .1))
+  condition-back loop e h = let w = and-iff _ _ .0 h in
+      and-iff _ _ .1 (mem-more a (new .pos) (old .pos) (b .pos) (w .0), not-iff _ .1 (λ r. not-iff _ .0 (w .1) (e r)))
+  condition-back subsumed e h = let w = simp and-iff at (rw e at h) in
+      and-iff _ _ .1 (
+        subst (λ l. So (within (by .head) l)) (b .head) (w .0),
+        and-iff _ _ .1
+            (within-more (by .pos) (new .pos) (old .pos) (b .pos) (w .1 .0), within-more (by .neg) (new .neg) (old .neg) (b .neg) (w .1 .1)),
+      )
+
+partner-back : (u : Bool) (P Q : Marked) (p t : ℕ) → Below (entry Q p) (entry P p)
+    → So (cond u (entry Q p .kept && not (eqb p t)) (eqb p 0)) → So (cond u (entry P p .kept && not (eqb p t)) (eqb p 0))
+partner-back true P Q p t b h = let w = and-iff _ _ .0 h in and-iff _ _ .1 (b .kept (w .0), w .1)
+partner-back false P Q p t b h = h
+
+-- A step that applies in a program whose clauses are below those of P applies in P, where its kind's question carries back.
+pub back : (n : ℕ) (P Q : Marked) → ((i : ℕ) → Below (entry Q i) (entry P i)) → (u : Step) → Keeps (u .kind) P Q (u .partner) (u .atom) → So (applies n Q u) → So (applies n P u)
+unfolding applies conditionHolds
+back n P Q b u e h =
+    let w = simp and-iff at h in
+    and-iff _ _ .1 (
+      b (u .target) .kept (w .0),
+      and-iff _ _ .1 (
+        partner-back (usesPartner (u .kind)) P Q (u .partner) (u .target) (b (u .partner)) (w .1 .0),
+        and-iff _ _ .1 (
+          w .1 .1 .0,
+          condition-back P Q (u .target) (u .partner) (u .atom) (b (u .target)) (u .kind) e (w .1 .1 .1),
+        ),
+      ),
+    )
