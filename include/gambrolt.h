@@ -12,7 +12,7 @@
  *     and what lies past the part written doesn't change. The slices lent to one call must not overlap. A pointer must
  *     not be null, not even for 0 elements.
  *   - A refused call changes nothing, save the marks of a list that gambrolt_check refuses at a step.
- *   - A call takes at most 128 kB of stack.
+ *   - A call takes at most 192 kB of stack.
  *
  * The table. Word 0 is the number of atoms n, word 1 the number of clauses m. Each clause has three counts h, p, q, then
  * h head atoms, p positive and q negative body atoms, each part strictly ascending, atoms 0 to n-1. Clauses are numbered

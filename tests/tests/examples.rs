@@ -126,7 +126,7 @@ fn small_programs() {
 
 /// The header says how much stack a call takes at most.
 #[test]
-fn a_stack_of_128_kilobytes() {
+fn a_stack_of_192_kilobytes() {
     let calls = || {
         let shape = SHAPES.iter().find(|shape| shape.name == "random sparse").unwrap();
         let table = shape.table(shape.full);
@@ -138,5 +138,5 @@ fn a_stack_of_128_kilobytes() {
         let (bytes, text) = library::write_text(&table, &vec![0; 65536]);
         assert_eq!(library::read_text(&text[..bytes as usize], &vec![0; 8192]).0, table.len() as u64);
     };
-    std::thread::Builder::new().stack_size(128 << 10).spawn(calls).unwrap().join().unwrap();
+    std::thread::Builder::new().stack_size(192 << 10).spawn(calls).unwrap().join().unwrap();
 }

@@ -43,10 +43,11 @@ fn one_if(yes: bool) -> u64
 pub extern "C" fn gambrolt_check_table(words: &[u16]) -> u64
     ensures { λ r. ⌜ r ≡ tableCode (tableOf (now (words .entry))) ⌝ }
 {
-    match table::check_table(words) {
-        Checked::Valid(_) => 0,
-        Checked::Refused(r) => refusal_code(r),
-    }
+    let checked = table::check_table(words);
+    let Checked::Refused(r) = checked else {
+        return 0;
+    };
+    refusal_code(r)
 }
 
 // Questions 1 to 9 and 11 to 16, and the marks of the steps that are taken.

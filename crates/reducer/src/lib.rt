@@ -274,7 +274,7 @@ fn reduce_kept(words: &[u16], marks: &mut [u8], list: &mut [u16]) -> usize
     let mut start = [0u16; parts::INDEX];
     let mut heads = [0u16; 1024];
     let mut reach = [0u8; 1024];
-    let mut may = [0u16; 34850];
+    let mut may = [0u16; search::FLAGS];
     parts::clause_starts(words, &mut start);
     conditions::count_heads(words, marks, &start, &mut heads);
     flag_kinds(&mut may, m);
