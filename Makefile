@@ -22,11 +22,11 @@ lib: $(LIB_DIR)/libgambrolt.a
 	@echo "the library: $(LIB_DIR)/libgambrolt.a; its header: $(CURDIR)/include/gambrolt.h"
 
 # the library against an independent implementation of document 01; GAMBROLT_ROUNDS=10 for a larger run
-test-lib: lib
+test-lib: lib | compiler
 	$(CARGO_ENV) cargo test --offline --release --manifest-path tests/Cargo.toml
 
 # the example in C: what it prints, and what valgrind, or else the address sanitizer, says of it
-test-c: lib
+test-c: lib | compiler
 	@mkdir -p $(BUILD)
 	$(CC) $(C_FLAGS) examples/c/reduce.c $(LIB_DIR)/libgambrolt.a -o $(BUILD)/reduce
 	$(BUILD)/reduce > $(BUILD)/reduce.out && diff $(BUILD)/reduce.out examples/c/reduce.stdout

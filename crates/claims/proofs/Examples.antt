@@ -56,6 +56,8 @@ rows =
     ∷ set (2 ∷ 3 ∷ 2 ∷ 0 ∷ 0 ∷ 0 ∷ 1 ∷ 1 ∷ 1 ∷ 0 ∷ 0 ∷ 1 ∷ 1 ∷ 1 ∷ 0 ∷ 1 ∷ 0 ∷ []) (0 ∷ []) false
     -- 0 <- 1. 0 <- ~1. 1 <- 0.: 0,1 not stable
     ∷ set (2 ∷ 3 ∷ 1 ∷ 1 ∷ 0 ∷ 0 ∷ 1 ∷ 1 ∷ 0 ∷ 1 ∷ 0 ∷ 1 ∷ 1 ∷ 1 ∷ 0 ∷ 1 ∷ 0 ∷ []) (0 ∷ 1 ∷ []) false
+    -- adding an atom true "in both cases", here 0., would make it so
+    ∷ set (2 ∷ 4 ∷ 1 ∷ 1 ∷ 0 ∷ 0 ∷ 1 ∷ 1 ∷ 0 ∷ 1 ∷ 0 ∷ 1 ∷ 1 ∷ 1 ∷ 0 ∷ 1 ∷ 0 ∷ 1 ∷ 0 ∷ 0 ∷ 0 ∷ []) (0 ∷ 1 ∷ []) true
     -- 0 <- ~1. 1 <- ~0.: set 0 stable, 0,1 not; cycle yes
     ∷ set (2 ∷ 2 ∷ 1 ∷ 0 ∷ 1 ∷ 0 ∷ 1 ∷ 1 ∷ 0 ∷ 1 ∷ 1 ∷ 0 ∷ []) (0 ∷ []) true
     ∷ set (2 ∷ 2 ∷ 1 ∷ 0 ∷ 1 ∷ 0 ∷ 1 ∷ 1 ∷ 0 ∷ 1 ∷ 1 ∷ 0 ∷ []) (0 ∷ 1 ∷ []) false
@@ -77,4 +79,4 @@ rows =
 
 pub examples : AllSay rows
 unfolding satisfies reduct models sublists stableTest left fire reachFrom reach inNoHead condition conditionHolds applies effect least firstAtom firstPartner firstTarget firstStep reduce questions.ask questions.andThen questions.onTo questions.atomsFrom questions.partsFrom questions.clauseFrom questions.clausesFrom questions.askTable questions.allUsed questions.tableOf startFrom clausesOf programOf part entryAt entriesFrom view find clears marksAfter sets.setOf sets.onSet sets.onTable sets.testOf ahead onward leads anyBelow cyclic cycles.onTable cycles.cycleOf lists.ask lists.shapeQuestions lists.stepQuestions lists.onward lists.stepsFrom lists.askCall lists.checkOn lists.checkList wordsOf bodyLiterals room stepsOf
-examples = (refl, (refl, (refl, (refl, (refl, (refl, (refl, (refl, (refl, (refl, (refl, (refl, (refl, (refl, (refl, tt)))))))))))))))
+examples = (refl, (refl, (refl, (refl, (refl, (refl, (refl, (refl, (refl, (refl, (refl, (refl, (refl, (refl, (refl, (refl, tt))))))))))))))))

@@ -1,6 +1,6 @@
 -- Checking a list keeps the stable models, whatever its answer; what a refused call leaves; and marks past the table.
-use mathlib.Core.Path.{_≡_, refl, sym, subst, _∙_}
-use mathlib.Core.Logic.{_↔_, Iff·trans, Iff·rfl}
+use mathlib.Core.Path.{_≡_, refl, sym, ap, subst, _∙_}
+use mathlib.Core.Logic.{_↔_, _≢_, _⊎_, inl, inr, Iff·trans, Iff·rfl}
 use mathlib.Core.Bool.{Bool, true, false, So}
 use mathlib.Core.List.{List}
 use Prim.Native.Nat.{ℕ, zero, suc, _+_, _-_, _/_, _≤_, _<_}
@@ -14,12 +14,16 @@ use Rattle.rewriting.specs.Marked.{left}
 use Rattle.rewriting.specs.Steps.{applies}
 use Rattle.rewriting.proofs.Sound.{step-sound}
 use Rattle.table.specs.declared.StepQuestion.{StepQuestion}
+use Rattle.table.specs.declared.StepQuestion.the-variants.{KindKnown, TargetKept, PartnerKept, AtomKnown, ConditionHolds}
+use Rattle.table.specs.declared.CallQuestion.{CallQuestion}
 use Rattle.table.specs.declared.CallQuestion.the-variants.{MarksLength, ListLength}
 use Rattle.table.specs.declared.Refusal.{Refusal}
 use Rattle.table.specs.declared.Refusal.the-variants as refusal
 use Rattle.table.specs.declared.Checked.{Checked}
 use Rattle.table.specs.declared.Checked.the-variants as checked
+use Rattle.table.specs.Refusals.{stepNumber, refusalNumber}
 use Rattle.table.specs.Questions.{Passed, tableOf}
+use Rattle.table.proofs.Refused.{table-refused}
 use Rattle.table.specs.Places.{programOf}
 use Rattle.table.specs.View.{view, allKept, marksAfter}
 use Rattle.table.proofs.Laws.{one-left}
@@ -88,23 +92,37 @@ list-keeps-models ws ms ls p l f M = subst (λ o. Stable (programOf ws) M ↔ St
 
 -- the outcome of a call: refused with the marks as they were, or the steps from all marks 1
 data Came (ws ms ls : List ℕ) : Outcome → Type 0 where
-  early : (r : Refusal) → Came ws ms ls (refused r ms)
-  stepped : Passed ws → length ws ≤ length ms → Came ws ms ls (stepsFrom ws (allKept ws ms) ls 0 (length ls / 4))
+  early : (r : Refusal) → ((q : StepQuestion) (k : ℕ) → r ≢ refusal.Step q k) → Came ws ms ls (refused r ms)
+  stepped : Passed ws → length ws ≤ length ms → So (listFits ls) → Came ws ms ls (stepsFrom ws (allKept ws ms) ls 0 (length ls / 4))
+
+-- the refusals of questions 1 to 9 and 11 are not those of a step
+call-early : (c : CallQuestion) (q : StepQuestion) (k : ℕ) → refusal.Call c ≢ refusal.Step q k
+call-early c q k e = let z : _≡_ {A = ℕ} 0 1 = cc in omega arith
+
+step-late : (q : StepQuestion) → 12 ≤ stepNumber q
+step-late KindKnown = omega arith
+step-late TargetKept = omega arith
+step-late PartnerKept = omega arith
+step-late AtomKnown = omega arith
+step-late ConditionHolds = omega arith
+
+table-early : (ws : List ℕ) (r : Refusal) → tableOf ws ≡ checked.Refused r → (q : StepQuestion) (k : ℕ) → r ≢ refusal.Step q k
+table-early ws r e q k x = omega (arith, table-refused ws r e .0, step-late q, ap refusalNumber x)
 
 came : (ws ms ls : List ℕ) → Came ws ms ls (checkList ws ms ls)
 unfolding checkList checkOn askCall
 came ws ms ls = table (tableOf ws) refl
   where
-    list : (b : Bool) → Passed ws → length ws ≤ length ms → Came ws ms ls (askCall b ListLength ms (stepsFrom ws (allKept ws ms) ls 0 (length ls / 4)))
-    list true p l = stepped p l
-    list false p l = early (refusal.Call ListLength)
+    list : (b : Bool) → listFits ls ≡ b → Passed ws → length ws ≤ length ms → Came ws ms ls (askCall b ListLength ms (stepsFrom ws (allKept ws ms) ls 0 (length ls / 4)))
+    list true e p l = stepped p l e
+    list false e p l = early (refusal.Call ListLength) (call-early ListLength)
 
     marks : (b : Bool) → leb (length ws) (length ms) ≡ b → Passed ws → Came ws ms ls (askCall b MarksLength ms (askCall (listFits ls) ListLength ms (stepsFrom ws (allKept ws ms) ls 0 (length ls / 4))))
-    marks true e p = list (listFits ls) p (leb-true _ _ e)
-    marks false e p = early (refusal.Call MarksLength)
+    marks true e p = list (listFits ls) refl p (leb-true _ _ e)
+    marks false e p = early (refusal.Call MarksLength) (call-early MarksLength)
 
     table : (c : Checked) → tableOf ws ≡ c → Came ws ms ls (checkOn c ws ms ls)
-    table (checked.Refused r) e = early r
+    table (checked.Refused r) e = early r (table-early ws r e)
     table (checked.Valid t) e = marks (leb (length ws) (length ms)) refl (valid-passed ws t e .0)
 
 -- "Marks past the table never change."
@@ -112,8 +130,8 @@ pub marks-past-table : (ws ms ls : List ℕ) → drop (length ws) (checkList ws 
 marks-past-table ws ms ls = go (checkList ws ms ls) (came ws ms ls)
   where
     go : (o : Outcome) → Came ws ms ls o → drop (length ws) (o .marks) ≡ drop (length ws) ms
-    go o (early r) = refl
-    go o (stepped p l) = steps-past ws ls p (length ls / 4) 0 (allKept ws ms) (omega (arith, length-allKept ws ms l)) ∙ drop-at (replicate (length ws) 1) (drop (length ws) ms) (length ws) (length-replicate (length ws) 1)
+    go o (early r n) = refl
+    go o (stepped p l f) = steps-past ws ls p (length ls / 4) 0 (allKept ws ms) (omega (arith, length-allKept ws ms l)) ∙ drop-at (replicate (length ws) 1) (drop (length ws) ms) (length ws) (length-replicate (length ws) 1)
 
 -- ---- refused at a step
 
@@ -158,6 +176,31 @@ steps-refused ws ls (suc left) k ms r e = go (stepQuestions (getD ws 0 0) (view 
       no = q;
     }
 
+-- "A list refused at step k leaves the marks of steps 0 to k-1": where the refusal is one of a step, it is at that step.
+pub refused-at-step : (ws ms ls : List ℕ) (q : StepQuestion) (k : ℕ) → checkList ws ms ls .answer ≡ Refused (refusal.Step q k)
+    → (e : RefusedAt ws (allKept ws ms) ls 0 (length ls / 4) (checkList ws ms ls)) × (e .step ≡ k)
+refused-at-step ws ms ls q k = go (checkList ws ms ls) (came ws ms ls)
+  where
+    go : (o : Outcome) → Came ws ms ls o → o .answer ≡ Refused (refusal.Step q k) → (e : RefusedAt ws (allKept ws ms) ls 0 (length ls / 4) o) × (e .step ≡ k)
+    go o (early x n) e = absurd (n q k (let z : x ≡ refusal.Step q k = cc in z))
+    go o (stepped p l f) e =
+        let r = steps-refused ws ls (length ls / 4) 0 (allKept ws ms) (refusal.Step q k) e in
+        (r, (let z = sym (r .is) ∙ e in let y : r .step ≡ k = cc in y))
+
+-- "Where the list is accepted, every set of atoms, of any size, is a stable model of the program as given exactly when it is one of the program as the
+-- list leaves it. Where it is refused at a step, the same holds for the program as the steps before that one leave it."
+pub checked-keeps-models : (ws ms ls : List ℕ) → ((s : ℕ) × (checkList ws ms ls .answer ≡ Accepted s)) ⊎ ((q : StepQuestion) × (k : ℕ) × (checkList ws ms ls .answer ≡ Refused (refusal.Step q k)))
+    → (M : Atoms) → Stable (programOf ws) M ↔ Stable (programLeft ws (checkList ws ms ls .marks)) M
+checked-keeps-models ws ms ls a M = let c = asked a in list-keeps-models ws ms ls (c .0) (c .1) (c .2) M
+  where
+    go : (o : Outcome) → Came ws ms ls o → ((s : ℕ) × (o .answer ≡ Accepted s)) ⊎ ((q : StepQuestion) × (k : ℕ) × (o .answer ≡ Refused (refusal.Step q k))) → Passed ws × (length ws ≤ length ms) × So (listFits ls)
+    go o (stepped p l f) a = (p, l, f)
+    go o (early x n) (inl e) = let w = e .1 in let z : _≡_ {A = ℕ} 0 1 = cc in absurd (omega arith)
+    go o (early x n) (inr e) = let w = e .2 in absurd (n (e .0) (e .1) (let z : x ≡ refusal.Step (e .0) (e .1) = cc in z))
+
+    asked : ((s : ℕ) × (checkList ws ms ls .answer ≡ Accepted s)) ⊎ ((q : StepQuestion) × (k : ℕ) × (checkList ws ms ls .answer ≡ Refused (refusal.Step q k))) → Passed ws × (length ws ≤ length ms) × So (listFits ls)
+    asked a = go (checkList ws ms ls) (came ws ms ls) a
+
 -- what a refused call leaves
 pub data Kept (ws ms ls : List ℕ) (o : Outcome) : Type 0 where
   unchanged : o .marks ≡ ms → Kept ws ms ls o
@@ -168,13 +211,13 @@ pub refused-marks : (ws ms ls : List ℕ) (r : Refusal) → checkList ws ms ls .
 refused-marks ws ms ls r = go (checkList ws ms ls) (came ws ms ls)
   where
     go : (o : Outcome) → Came ws ms ls o → o .answer ≡ Refused r → Kept ws ms ls o
-    go o (early x) e = unchanged refl
-    go o (stepped p l) e = atStep (steps-refused ws ls (length ls / 4) 0 (allKept ws ms) r e)
+    go o (early x n) e = unchanged refl
+    go o (stepped p l f) e = atStep (steps-refused ws ls (length ls / 4) 0 (allKept ws ms) r e)
 
 -- "An accepted list leaves the marks of all its steps.", and its answer is their number
 pub accepted-marks : (ws ms ls : List ℕ) (s : ℕ) → checkList ws ms ls .answer ≡ Accepted s → (checkList ws ms ls ≡ stepsFrom ws (allKept ws ms) ls 0 (length ls / 4)) × (s ≡ length ls / 4)
 accepted-marks ws ms ls s = go (checkList ws ms ls) (came ws ms ls)
   where
     go : (o : Outcome) → Came ws ms ls o → o .answer ≡ Accepted s → (o ≡ stepsFrom ws (allKept ws ms) ls 0 (length ls / 4)) × (s ≡ length ls / 4)
-    go o (early x) e = let z : _≡_ {A = ℕ} 0 1 = cc in absurd (omega arith)
-    go o (stepped p l) e = (refl, omega (arith, steps-count ws ls (length ls / 4) 0 (allKept ws ms) s e))
+    go o (early x n) e = let z : _≡_ {A = ℕ} 0 1 = cc in absurd (omega arith)
+    go o (stepped p l f) e = (refl, omega (arith, steps-count ws ls (length ls / 4) 0 (allKept ws ms) s e))

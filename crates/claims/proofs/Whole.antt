@@ -7,6 +7,7 @@ use Prim.Native.Nat.{ℕ, suc, _+_, _-_, _*_, _/_, _%_, _≤_, _<_}
 use native.Mathlib.Omega.{arith}
 use native.Mathlib.Nat.{add-zero, mul-div-right, mul-mod-right}
 use lib.ListN.{length, getD, take, drop, length-append}
+use lib.Seq.{drop-at}
 use borrow.Author.Tests.{eq-eqb, le-leb}
 use Rattle.semantics.proofs.Tests.{and-iff}
 use Rattle.rewriting.specs.Marked.{Marked, whole}
@@ -17,7 +18,7 @@ use Rattle.table.specs.declared.StepQuestion.{StepQuestion}
 use Rattle.table.specs.declared.Refusal.the-variants as refusal
 use Rattle.table.specs.Questions.{Passed}
 use Rattle.table.specs.Places.{programOf}
-use Rattle.table.specs.View.{view, allKept, marksAfter, marksAfterAll}
+use Rattle.table.specs.View.{view, allKept, marksAfter, marksAfterAll, zeros}
 use Rattle.table.proofs.Stands.{past, word-at}
 use Rattle.table.proofs.Encoding.{passed-within}
 use Rattle.table.proofs.Measures.{measure-within}
@@ -25,6 +26,7 @@ use Rattle.table.proofs.View.{view-after, view-afterAll, length-after}
 use Rattle.table.proofs.Parts.{allKept-one, view-allKept, length-allKept}
 use Rattle.conditions.specs.declared.Step as words
 use Rattle.conditions.specs.Known.{stepOf}
+use Rattle.reducer.specs.declared.ReduceAnswer.{ReduceAnswer}
 use Rattle.reducer.specs.declared.ReduceAnswer.the-variants as answer
 use Rattle.reducer.specs.Reductions.{wordsOf, stepsOf, reduction}
 use Rattle.reducer.proofs.Taken.{taken, whole-tidy, steps-greedy, steps-accepted, steps-room}
@@ -34,6 +36,9 @@ use Rattle.checker.specs.declared.Verdict.the-variants.{Fine, No}
 use Rattle.checker.specs.Lists.{stepAt, ask, shapeQuestions, stepQuestions, onward, stepsFrom, listFits, checkList}
 use Rattle.checker.proofs.Laws.{known-kind, fine-applies, check-made}
 use Rattle.text.proofs.Slices.{sets-written, take-written}
+use Rattle.reducer.proofs.Answers.{zeros-allKept}
+use Rattle.claims.proofs.Lists.{marks-past-table}
+use Rattle.claims.proofs.Reductions.{reducer-refused}
 use Rattle.claims.proofs.Agree.{afterAll-agree}
 
 -- ---- a step as four words
@@ -173,6 +178,12 @@ module _ (ws ms : List ℕ) (p : Passed ws) (l : length ws ≤ length ms) where
       no Fine e = absurd (none-open (stepOf (stepAt ls (length (stepsOf ws)))) (fine-applies (getD ws 0 0) (view ws marksLeft) (stepAt ls (length (stepsOf ws))) (sym e)))
       no (No q) e = (q, e)
 
+-- the marks at 0 that the reducer's list leaves are its steps
+zeros-left : (ws ms : List ℕ) → Passed ws → length ws ≤ length ms → zeros ws (marksAfterAll ws (allKept ws ms) (stepsOf ws)) ≡ length (stepsOf ws)
+zeros-left ws ms p l =
+    let w = view-afterAll (getD ws 0 0) ws (allKept ws ms) (stepsOf ws) p (omega (arith, length-allKept ws ms l)) (subst (λ P. So (accepted (getD ws 0 0) P (stepsOf ws))) (sym (view-allKept ws ms p)) (steps-accepted ws p)) in
+    omega (arith, w .1, zeros-allKept ws ms)
+
 -- ---- the reducer's call, and the checker's on its list
 
 -- the reducer's list: "the 4s words of a call that passes 9 and 17"
@@ -199,9 +210,36 @@ module _ (ws ms ls ks : List ℕ) (s : ℕ) (h : reduction ws ms ls .answer ≡ 
       (λ j x y. allKept-one ws ks j y ∙ sym (allKept-one ws ms j y)) i (omega arith) b
       ∙ ap (λ m. getD m i 0) (sym (t .marks))
 
+  -- "s is exactly the marks at 0 among the table's words after that list is checked."
+  pub checked-counts : s ≡ zeros ws (checkList ws ks (take (4 * s) (reduction ws ms ls .list)) .marks)
+  checked-counts =
+      let t = taken ws ms ls s h in
+      t .count ∙ sym (ap (λ x. zeros ws (checkList ws ks x .marks)) (list-words ws ms ls s h) ∙ ap (λ o. zeros ws (o .marks)) (list-accepted ws ks (t .passed) l) ∙ zeros-left ws ks (t .passed) l)
+
   -- With any four words behind it, it is refused at step s.
   pub reducer-further : (a b c d : ℕ) → (q : StepQuestion) × (checkList ws ks (take (4 * s) (reduction ws ms ls .list) ++ a ∷ b ∷ c ∷ d ∷ []) .answer ≡ Refused (refusal.Step q s))
   reducer-further a b c d =
       let t = taken ws ms ls s h in
       let r = further-refused ws ks (t .passed) l a b c d in
       (r .0, ap (λ x. checkList ws ks (x ++ a ∷ b ∷ c ∷ d ∷ []) .answer) (list-words ws ms ls s h) ∙ ap (λ o. o .answer) (r .1) ∙ ap (λ k. Refused (refusal.Step (r .0) k)) (sym (t .count)))
+
+-- ---- what lies past the table and past the list
+
+-- "Marks past the table never change.", of the reducer
+pub reducer-marks-past : (ws ms ls : List ℕ) → drop (length ws) (reduction ws ms ls .marks) ≡ drop (length ws) ms
+reducer-marks-past ws ms ls = go (reduction ws ms ls .answer) refl
+  where
+    go : (a : ReduceAnswer) → reduction ws ms ls .answer ≡ a → drop (length ws) (reduction ws ms ls .marks) ≡ drop (length ws) ms
+    go (answer.Refused r) e = ap (drop (length ws)) (reducer-refused ws ms ls r e .0)
+    go (answer.Accepted s) e =
+        let t = taken ws ms ls s e in
+        ap (drop (length ws)) (t .marks) ∙ sym (ap (λ o. drop (length ws) (o .marks)) (list-accepted ws ms (t .passed) (t .marked))) ∙ marks-past-table ws ms (wordsOf (stepsOf ws))
+
+-- "the list's first 4s words are written, later words don't change"
+pub reducer-list-past : (ws ms ls : List ℕ) (s : ℕ) → reduction ws ms ls .answer ≡ answer.Accepted s → drop (4 * s) (reduction ws ms ls .list) ≡ drop (4 * s) ls
+reducer-list-past ws ms ls s h =
+    let t = taken ws ms ls s h in
+    let w = wordsOf (stepsOf ws) in
+    let n : length w ≡ 4 * s = omega (arith, length-words (stepsOf ws), t .count) in
+    let e : length w ≤ length ls = omega (arith, length-words (stepsOf ws), t .roomy, steps-room ws (t .passed)) in
+    ap (drop (4 * s)) (t .list ∙ sets-written w ls e) ∙ drop-at w (drop (length w) ls) (4 * s) n ∙ ap (λ k. drop k ls) n

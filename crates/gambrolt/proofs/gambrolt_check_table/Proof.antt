@@ -4,15 +4,15 @@ use Rattle.gambrolt.proofs.Places.{table-place}
 use Rattle.gambrolt.proofs.gambrolt_check_table.Statement.{statement}
 use Rattle.gambrolt.proofs.gambrolt_check_table.Tie as tie
 
-refusal-code-requires : tie.Need-refusal-code-requires
-refusal-code-requires c κs = table-place (c .before .before .before .before .before .args .words .now) (c .before .r .given .0 .0) (cc (c .before .before .before .check-table .ensures, c .before .r .given .1))
-
 returns : tie.Need-returns
 returns c = rw (← c .before .before .check-table .ensures, c .enum-told .given .1)
 
+refusal-code-requires : tie.Need-refusal-code-requires
+refusal-code-requires c κs = table-place (c .before .before .before .before .before .args .words .now) (c .before .checked .given .0 .0) (cc (c .before .before .before .check-table .ensures, c .before .checked .given .1))
+
 returns-2 : tie.Need-returns-2
-returns-2 c = rw (← c .before .before .before .before .check-table .ensures, c .before .before .r .given .1) (c .refusal-code .ensures)
+returns-2 c = rw (← c .before .before .before .before .check-table .ensures, c .before .before .checked .given .1) (c .refusal-code .ensures)
 
 pub gambrolt-check-table-spec : {M : Type 1} → statement M
 gambrolt-check-table-spec =
-    tie.close (tie.spec (λ c κs. search needs) (λ c. search needs) (λ c. search needs) refusal-code-requires returns returns-2)
+    tie.close (tie.spec (λ c κs. search needs) (λ c. search needs) (λ c. search needs) returns refusal-code-requires returns-2)

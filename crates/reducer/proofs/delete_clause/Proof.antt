@@ -5,7 +5,7 @@ use mathlib.Core.Bool.{So}
 use native.Mathlib.Omega.{arith}
 use lib.ListN.{getD}
 use Rattle.rewriting.specs.Marked.{entry}
-use Rattle.rewriting.proofs.Reopen.{target-kept}
+use Rattle.rewriting.proofs.Effect.{target-kept}
 use Rattle.table.specs.View.{view}
 use Rattle.parts.specs.Parts.{Ready}
 use Rattle.conditions.specs.Known.{stepOf, Tallied}
