@@ -1,15 +1,14 @@
 -- Laws of checking a list: a step's questions in order, what is known from step to step, and the steps one after the other.
 use mathlib.Core.Path.{_≡_, refl, sym, ap, subst, _∙_}
-use mathlib.Core.Bool.{Bool, true, false, not, cond, _&&_, So, false≢true, true≢false}
-use mathlib.Core.List.{List, [], _∷_, _++_}
-use Prim.Native.Nat.{ℕ, zero, suc, _+_, _-_, _*_, _/_, _%_, _≤_, _<_}
+use mathlib.Core.Bool.{Bool, true, false, cond, _&&_, So, false≢true, true≢false}
+use mathlib.Core.List.{List}
+use Prim.Native.Nat.{ℕ, zero, suc, _+_, _-_, _/_, _%_, _≤_, _<_}
 use native.Mathlib.Omega.{arith}
 use native.Mathlib.Nat.{sub-zero}
 use lib.Dec.{eqb, ltb, leb}
 use lib.ListN.{length, getD, List·getD-eq-default}
 use borrow.Author.Tests.{le-leb, lt-leb, leb-true, eq-eqb, ne-eqb}
-use Rattle.semantics.specs.Programs.{Clause}
-use Rattle.semantics.proofs.Tests.{and-iff, so-ext}
+use Rattle.semantics.proofs.Tests.{and-iff}
 use Rattle.rewriting.specs.Marked.{Marked, gone, entry, left}
 use Rattle.rewriting.specs.Steps.{Kind, tautology, contradiction, success, noHead, blocked, failure, loop, subsumed, kindOf, usesPartner, usesAtom, targetKept, partnerKept, atomKnown, condition, conditionHolds, applies}
 use Rattle.rewriting.proofs.Left.{kept-lt}
@@ -21,14 +20,15 @@ use Rattle.table.specs.declared.Refusal.{Refusal}
 use Rattle.table.specs.declared.Refusal.the-variants as refusal
 use Rattle.table.specs.declared.Table.{Table}
 use Rattle.table.specs.declared.Checked.the-variants as checked
-use Rattle.table.specs.Questions.{tableOf, Passed}
+use Rattle.table.specs.Questions.{tableOf}
 use Rattle.table.specs.View.{view, allKept, marksAfter}
 use Rattle.table.proofs.Laws.{one-left}
 use Rattle.table.proofs.View.{length-view, length-after}
 use Rattle.parts.specs.Parts.{Ready}
 use Rattle.reach.specs.Bytes.{Reached}
 use Rattle.conditions.specs.declared.Step.{Step}
-use Rattle.conditions.specs.Known.{stepOf, Heads, Known, asksHeads, asksReach, drops}
+use Rattle.conditions.specs.Known.{stepOf, Heads}
+use Rattle.rewriting.specs.Kinds.{asksHeads, asksReach, drops}
 use Rattle.conditions.proofs.Drops.{heads-stay, reached-stays}
 use Rattle.checker.specs.declared.CheckAnswer.{CheckAnswer}
 use Rattle.checker.specs.declared.CheckAnswer.the-variants.{Accepted, Refused}
@@ -37,7 +37,7 @@ use Rattle.checker.specs.declared.Verdict.the-variants.{Fine, No}
 use Rattle.checker.specs.declared.Memo.{Memo}
 use Rattle.checker.specs.declared.Taken.{Taken}
 use Rattle.checker.specs.declared.Taken.the-variants.{Made, Not}
-use Rattle.checker.specs.Lists.{stepAt, ask, kindKnown, shapeQuestions, stepQuestions, Outcome, onward, stepsFrom, listFits, askCall, checkOn, checkList, Leaves, Shaped, Holding, Ready-for, verdictOf, marksOf, Step-taken}
+use Rattle.checker.specs.Lists.{stepAt, ask, kindKnown, shapeQuestions, stepQuestions, onward, stepsFrom, listFits, askCall, checkOn, checkList, Leaves, Shaped, Holding, Ready-for, verdictOf, marksOf, Step-taken}
 
 -- ---- kinds by their numbers
 

@@ -1,16 +1,16 @@
 // Checking a list of steps: questions 9 and 11 to 16, and the marks that the list leaves.
 ghost use mathlib.Core.Path.{_≡_};
-ghost use mathlib.Core.Bool.{_&&_, not, So};
-ghost use Prim.Native.Nat.{ℕ, _+_, _-_, _*_, _/_, _≤_, _<_};
-ghost use lib.Dec.{eqb, ltb};
+ghost use mathlib.Core.Bool.{_&&_};
+ghost use Prim.Native.Nat.{_+_, _-_, _*_, _/_, _≤_, _<_};
 ghost use lib.ListN.{length, getD};
-ghost use Rattle.rewriting.specs.Steps.{kindOf, targetKept, partnerKept, atomKnown, usesPartner, usesAtom, conditionHolds};
+ghost use Rattle.rewriting.specs.Steps.{kindOf, partnerKept, atomKnown, usesPartner, usesAtom, conditionHolds};
 ghost use Rattle.rewriting.specs.Marked.{entry};
 ghost use Rattle.table.specs.Questions.{Passed};
 ghost use Rattle.table.specs.View.{view};
 ghost use Rattle.parts.specs.Parts.{Ready};
-ghost use Rattle.conditions.specs.Known.{stepOf, asksHeads, asksReach, drops, Known};
-ghost use Rattle.checker.specs.Lists.{stepAt, kindKnown, shapeQuestions, stepsFrom, listFits, checkList, Shaped, Leaves, Holding, Ready-for, Step-taken};
+ghost use Rattle.conditions.specs.Known.{stepOf, Known};
+ghost use Rattle.rewriting.specs.Kinds.{asksHeads, asksReach, drops};
+ghost use Rattle.checker.specs.Lists.{stepAt, shapeQuestions, stepsFrom, listFits, checkList, Shaped, Leaves, Holding, Ready-for, Step-taken};
 ghost use Rattle.checker.specs.declared.Verdict.the-variants.{Fine};
 use conditions::Step;
 use table::CallQuestion;

@@ -1,30 +1,30 @@
 -- A step that drops a literal changes neither the kept heads of an atom nor the reach.
 use mathlib.Core.Path.{_≡_, refl, sym, ap, subst, _∙_}
-use mathlib.Core.Logic.{_↔_, _≢_, by-cases}
+use mathlib.Core.Logic.{_≢_, by-cases}
 use mathlib.Core.Bool.{Bool, true, false, not, cond, _&&_, So, false≢true}
 use mathlib.Core.List.{List, [], _∷_, List·Memᴰ·head, List·Memᴰ·not-nil}
-use Prim.Native.Nat.{ℕ, zero, suc, _+_, _≤_, _<_}
-use native.Mathlib.Omega.{arith}
+use Prim.Native.Nat.{ℕ, zero, suc, _+_, _≤_}
 use native.Mathlib.Decide.{ℕ-discrete}
 use lib.Dec.{eqb}
 use lib.ListN.{length, getD, set}
 use lib.Seq.{getD-set-other}
 use borrow.Author.Tests.{eq-eqb}
-use Rattle.semantics.specs.Lists.{_∈_, mem, bit, null, without}
+use Rattle.semantics.specs.Lists.{_∈_, mem, bit, null}
 use Rattle.semantics.specs.Programs.{Clause, Atoms}
-use Rattle.semantics.proofs.Tests.{and-iff, not-iff, mem-iff, null-iff, so-ext, without-sub, without-keeps}
+use Rattle.semantics.proofs.Tests.{and-iff, not-iff, null-iff, so-ext, without-sub, without-keeps}
 use Rattle.semantics.proofs.Models.{All, Closed}
 use Rattle.rewriting.specs.Marked.{Entry, Marked, gone, entry, left}
-use Rattle.rewriting.specs.Reach.{closed, IsReach, reach}
+use Rattle.rewriting.specs.Reach.{closed, reach}
 use Rattle.rewriting.specs.Steps.{Kind, tautology, contradiction, success, noHead, blocked, failure, loop, subsumed, Step, usesPartner, fact, single, condition, applies, rewritten, effect}
 use Rattle.rewriting.proofs.Left.{each-set, each-unset, set-kept, ClosedAt, closed-left}
-use Rattle.rewriting.proofs.Reach.{closed-iff, reach-is, reach-closed, reach-least}
+use Rattle.rewriting.proofs.Reach.{reach-closed, reach-least}
 use Rattle.rewriting.proofs.Sound.{applies-ask}
 use Rattle.table.specs.Questions.{Passed}
 use Rattle.table.specs.View.{view, marksAfter}
 use Rattle.table.proofs.View.{view-after}
-use Rattle.reach.specs.Bytes.{inBytes, Reached}
-use Rattle.conditions.specs.Known.{headCount, Heads, drops}
+use Rattle.reach.specs.Bytes.{Reached}
+use Rattle.conditions.specs.Known.{headCount, Heads}
+use Rattle.rewriting.specs.Kinds.{drops}
 
 -- ---- kept heads
 

@@ -1,7 +1,7 @@
 -- Kept heads of an atom, counted clause by clause.
-use mathlib.Core.Path.{_≡_, refl, sym, ap, subst, _∙_}
+use mathlib.Core.Path.{_≡_, refl, sym, ap, _∙_}
 use mathlib.Core.Logic.{_↔_, by-cases}
-use mathlib.Core.Bool.{Bool, true, false, not, cond, _||_, So, false≢true}
+use mathlib.Core.Bool.{Bool, true, false, not, cond, _||_, So}
 use mathlib.Core.List.{List, [], _∷_, _++_, List·Memᴰ·head, List·Memᴰ·tail}
 use Prim.Native.Nat.{ℕ, zero, suc, _+_, _-_, _≤_, _<_}
 use native.Mathlib.Omega.{arith}
@@ -9,15 +9,15 @@ use native.Mathlib.Decide.{ℕ-discrete, decLt}
 use native.Mathlib.Numerals.{add-one}
 use lib.Dec.{eqb}
 use lib.ListN.{length, getD, set, take, drop, replicate, length-set, length-take, length-replicate, length-drop, List·getD-eq-default}
-use lib.Seq.{getD-set-same, getD-set-other, getD-drop, take-suc, take-all, set-out}
+use lib.Seq.{getD-set-same, getD-set-other, getD-drop, take-suc, take-all}
 use borrow.Author.Tests.{eqb-true, eq-eqb, ne-eqb}
-use Rattle.semantics.specs.Lists.{_∈_, any, mem, count, bit}
+use Rattle.semantics.specs.Lists.{_∈_, mem, count, bit}
 use Rattle.semantics.specs.Programs.{Clause}
-use Rattle.semantics.proofs.Tests.{mem-iff, not-iff, any-iff, so-false, so-ext, bit-true, bit-false, bit-bound, count-bound, count-none}
-use Rattle.rewriting.specs.Marked.{Entry, Marked, gone, entry, left}
+use Rattle.semantics.proofs.Tests.{mem-iff, so-false, so-ext, bit-false, bit-bound, count-bound, count-none}
+use Rattle.rewriting.specs.Marked.{Marked, gone, entry, left}
 use Rattle.rewriting.specs.Steps.{inNoHead}
 use Rattle.rewriting.proofs.Reach.{inNoHead-iff}
-use Rattle.rewriting.proofs.Left.{left-each, kept-lt}
+use Rattle.rewriting.proofs.Left.{left-each}
 use Rattle.table.specs.Questions.{Passed}
 use Rattle.table.specs.View.{view, kept-of}
 use Rattle.table.proofs.View.{length-view}

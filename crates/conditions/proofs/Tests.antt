@@ -1,6 +1,6 @@
 -- Laws of the conditions and of the mark that a step clears.
-use mathlib.Core.Path.{_≡_, refl, sym, ap, subst, _∙_}
-use mathlib.Core.Bool.{Bool, true, false, not, cond, _&&_, So}
+use mathlib.Core.Path.{_≡_, refl, sym, ap, _∙_}
+use mathlib.Core.Bool.{Bool, true, false, cond, _&&_, So}
 use mathlib.Core.List.{List, [], _∷_}
 use Prim.Native.Nat.{ℕ, zero, suc, _+_, _-_, _≤_, _<_}
 use native.Mathlib.Omega.{arith}
@@ -18,7 +18,6 @@ use Rattle.table.specs.Places.{posAt, negAt, nextAt, startOf}
 use Rattle.table.specs.View.{view, find, clears, marksAfter, kept-of}
 use Rattle.table.proofs.View.{length-view, clears-lt}
 use Rattle.table.proofs.Laws.{one-left}
-use Rattle.parts.specs.declared.Single.{Single}
 use Rattle.parts.specs.declared.Single.the-variants.{One, Other}
 use Rattle.parts.specs.declared.Part.the-variants.{Pos, Neg}
 use Rattle.parts.specs.Parts.{singleOf, FirstKept, Ready}

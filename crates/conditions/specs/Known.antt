@@ -1,14 +1,15 @@
 -- What is known beside the marks: kept heads of an atom, the reach; and a step's words as a step.
 use mathlib.Core.Path.{_≡_}
-use mathlib.Core.Bool.{Bool, true, false, So}
+use mathlib.Core.Bool.{So}
 use mathlib.Core.List.{List}
-use Prim.Native.Nat.{ℕ, _+_, _-_, _≤_, _<_}
+use Prim.Native.Nat.{ℕ, _+_, _-_, _<_}
 use lib.ListN.{length, getD}
 use Rattle.semantics.specs.Lists.{_∈_, count, mem, bit}
 use Rattle.semantics.specs.Programs.{Clause}
 use Rattle.rewriting.specs.Marked.{left}
-use Rattle.rewriting.specs.Steps.{Kind, tautology, contradiction, success, noHead, blocked, failure, loop, subsumed, kindOf, step}
+use Rattle.rewriting.specs.Steps.{Kind, kindOf, step}
 use Rattle.rewriting.specs.Steps as steps
+use Rattle.rewriting.specs.Kinds.{asksHeads, asksReach}
 use Rattle.table.specs.View.{view, find}
 use Rattle.parts.specs.declared.Part.{Part}
 use Rattle.parts.specs.Parts.{spanOf}
@@ -31,38 +32,6 @@ pub record Tallied (l s s′ : List ℕ) : Type 0 where
 -- The count of each atom of a list is above 0.
 pub record Positive (l s : List ℕ) : Type 0 where
   pub above : (a : ℕ) → a ∈ l → 0 < getD s a 0
-
--- kinds 4 and 6 ask for "the head of no kept clause", kind 7 for the reach
-abbrev pub asksHeads : Kind → Bool
-asksHeads tautology = false
-asksHeads contradiction = false
-asksHeads success = false
-asksHeads noHead = true
-asksHeads blocked = false
-asksHeads failure = true
-asksHeads loop = false
-asksHeads subsumed = false
-
-abbrev pub asksReach : Kind → Bool
-asksReach tautology = false
-asksReach contradiction = false
-asksReach success = false
-asksReach noHead = false
-asksReach blocked = false
-asksReach failure = false
-asksReach loop = true
-asksReach subsumed = false
-
--- kinds 3 and 4 drop a literal, and the others delete
-abbrev pub drops : Kind → Bool
-drops tautology = false
-drops contradiction = false
-drops success = true
-drops noHead = true
-drops blocked = false
-drops failure = false
-drops loop = false
-drops subsumed = false
 
 -- What a kind asks of the whole program is known.
 pub record Known (k : Kind) (ws ms hs rs : List ℕ) : Type 0 where

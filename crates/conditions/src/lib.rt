@@ -7,12 +7,12 @@ ghost use lib.ListN.{length, getD, set, replicate};
 ghost use Rattle.semantics.specs.Lists.{mem};
 ghost use Rattle.rewriting.specs.Marked.{entry, left};
 ghost use Rattle.rewriting.specs.Reach.{reach};
-ghost use Rattle.rewriting.specs.Steps.{tautology, contradiction, success, noHead, blocked, failure, loop, subsumed, kindOf, fact, inNoHead, condition, applies};
+ghost use Rattle.rewriting.specs.Steps.{success, blocked, subsumed, kindOf, fact, inNoHead, condition, applies};
 ghost use Rattle.table.specs.Places.{startOf};
 ghost use Rattle.table.specs.View.{view, allKept, find, clears, marksAfter, kept-of};
 ghost use Rattle.parts.specs.Parts.{partOf, Placed, Ready, Ascends};
 ghost use Rattle.reach.specs.Bytes.{Reached};
-ghost use Rattle.conditions.specs.Known.{headCount, Heads, Tallied, Positive, Known, placeIn, stepOf};
+ghost use Rattle.conditions.specs.Known.{Heads, Tallied, Positive, Known, placeIn, stepOf};
 use parts::Part;
 use parts::Single;
 

@@ -9,7 +9,7 @@ ghost use lib.ListN.{length, getD, replicate};
 ghost use Rattle.semantics.specs.Lists.{_∈_};
 ghost use Rattle.rewriting.specs.Marked.{entry};
 ghost use Rattle.table.specs.View.{view, kept-of};
-ghost use Rattle.parts.specs.Parts.{Ready, Stands, ownerAt};
+ghost use Rattle.parts.specs.Parts.{Ready, ownerAt};
 ghost use Rattle.parts.specs.declared.Part.the-variants.{Pos};
 ghost use Rattle.reach.specs.Bytes.{inBytes, Reached};
 ghost use Rattle.reach.specs.Counts.{Queued, Joined, Spread, Fired, Rest, Room, Due, Lowered};

@@ -1,12 +1,11 @@
 -- The call: its state at the start, and its answer by the questions.
-use mathlib.Core.Path.{_≡_, refl, sym, ap, subst, _∙_}
-use mathlib.Core.Logic.{_≢_}
-use mathlib.Core.Bool.{true, false, cond}
-use mathlib.Core.List.{List, [], _∷_, _++_}
-use Prim.Native.Nat.{ℕ, zero, suc, _+_, _*_, _≤_, _<_}
+use mathlib.Core.Path.{_≡_, refl, sym, ap, _∙_}
+use mathlib.Core.Bool.{cond}
+use mathlib.Core.List.{List}
+use Prim.Native.Nat.{ℕ, zero, suc, _*_, _≤_, _<_}
 use native.Mathlib.Omega.{arith}
 use lib.Dec.{leb, eqb}
-use lib.ListN.{length, getD, drop, replicate, length-replicate}
+use lib.ListN.{length, drop, replicate, length-replicate}
 use lib.Seq.{sets, take-at}
 use borrow.Author.Tests.{le-leb, lt-leb}
 use Rattle.semantics.specs.Lists.{count}
@@ -15,10 +14,10 @@ use Rattle.table.specs.declared.Refusal.{Refusal}
 use Rattle.table.specs.declared.Refusal.the-variants.{Call}
 use Rattle.table.specs.declared.CallQuestion.the-variants.{MarksLength, ListRoom}
 use Rattle.table.specs.declared.Table.{Table}
-use Rattle.table.specs.Questions.{tableOf, numbers, Passed}
-use Rattle.table.specs.View.{view, allKept, marksAfterAll, zeros}
-use Rattle.table.proofs.Encoding.{valid-inv, passed-limits}
-use Rattle.table.proofs.Parts.{view-allKept, length-allKept}
+use Rattle.table.specs.Questions.{tableOf, Passed}
+use Rattle.table.specs.View.{allKept, marksAfterAll, zeros}
+use Rattle.table.proofs.Encoding.{valid-inv}
+use Rattle.table.proofs.Parts.{view-allKept}
 use Rattle.reducer.specs.declared.ReduceAnswer.the-variants.{Accepted, Refused}
 use Rattle.reducer.specs.Reductions.{room, stepsOf, wordsOf, Reduction, refused, onTable, reduction, Answered}
 use Rattle.reducer.specs.Opened.{Begun, Reduced}

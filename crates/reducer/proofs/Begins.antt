@@ -1,5 +1,5 @@
 -- The state in which the reducer begins: every step is open.
-use mathlib.Core.Path.{_≡_, refl, sym, ap, subst, _∙_}
+use mathlib.Core.Path.{_≡_, refl, ap, _∙_}
 use mathlib.Core.Logic.{_≢_, by-cases}
 use mathlib.Core.Bool.{So, false≢true}
 use mathlib.Core.List.{List}
@@ -7,12 +7,12 @@ use Prim.Native.Nat.{ℕ, _+_, _*_, _≤_, _<_}
 use native.Mathlib.Omega.{arith}
 use native.Mathlib.Decide.{decLt}
 use lib.ListN.{length, getD, replicate, length-replicate, getD-replicate, List·getD-eq-default}
-use Rattle.rewriting.specs.Steps.{Kind, tautology, contradiction, success, noHead, blocked, failure, loop, subsumed, number, usesPartner, Step}
+use Rattle.rewriting.specs.Steps.{Kind, tautology, contradiction, success, noHead, blocked, failure, loop, subsumed, number, usesPartner}
 use Rattle.rewriting.proofs.Quiet.{Quiet, key, quiet-all}
 use Rattle.table.specs.View.{view}
 use Rattle.parts.specs.Parts.{Ready}
 use Rattle.conditions.specs.Known.{Heads}
-use Rattle.search.specs.Flags.{flags, lowest, highest, Rows, Grown, Raising, AllFlagged}
+use Rattle.search.specs.Flags.{flags, Rows, Grown, Raising, AllFlagged}
 use Rattle.search.specs.State.{State}
 use Rattle.search.proofs.States.{target-lt, key-lt}
 use Rattle.reducer.specs.Opened.{AllOpen}

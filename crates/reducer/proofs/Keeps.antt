@@ -1,33 +1,31 @@
 -- Each step keeps the state.
 use mathlib.Core.Path.{_≡_, refl, sym, ap, subst, _∙_}
-use mathlib.Core.Logic.{_≢_, _⊎_, inl, inr, by-cases, ⊎-elim}
-use mathlib.Core.Bool.{Bool, true, false, not, cond, _&&_, _||_, So, false≢true}
-use mathlib.Core.List.{List, [], _∷_}
-use Prim.Native.Nat.{ℕ, zero, suc, _+_, _*_, _≤_, _<_}
+use mathlib.Core.Logic.{_≢_, _⊎_, by-cases, ⊎-elim}
+use mathlib.Core.Bool.{true, false, not, cond, _&&_, So, false≢true}
+use mathlib.Core.List.{List}
+use Prim.Native.Nat.{ℕ, zero, suc, _+_, _<_}
 use native.Mathlib.Omega.{arith}
 use native.Mathlib.Decide.{decLt}
-use lib.Dec.{eqb}
-use lib.ListN.{length, getD, set, length-set, List·getD-eq-default}
-use lib.Seq.{getD-set-same}
+use lib.ListN.{length, getD, List·getD-eq-default}
 use Rattle.semantics.specs.Lists.{_∈_, mem, bit}
 use Rattle.semantics.proofs.Tests.{so-ext, so-false}
 use Rattle.semantics.proofs.Models.{All}
 use Rattle.rewriting.specs.Marked.{Marked, entry, left}
 use Rattle.rewriting.specs.Reach.{reach}
-use Rattle.rewriting.specs.Steps.{Kind, tautology, contradiction, success, noHead, blocked, failure, loop, subsumed, number, kindOf, Step, usesPartner, fact, inNoHead, condition, applies, effect}
+use Rattle.rewriting.specs.Steps.{Kind, tautology, contradiction, success, noHead, blocked, failure, loop, subsumed, number, kindOf, Step, usesPartner, applies, effect}
 use Rattle.rewriting.proofs.Search.{number-bounds}
-use Rattle.rewriting.proofs.Reopen.{drops, asksHeads, Opens, openPartner, openHead, openReach, opened, drop-reach, idle-reach, twin-reach, reach-less, Twin, effect-below}
+use Rattle.rewriting.specs.Kinds.{drops, asksHeads}
+use Rattle.rewriting.proofs.Reopen.{Opens, openPartner, openHead, openReach, opened, drop-reach, idle-reach, twin-reach, reach-less, Twin, effect-below}
 use Rattle.rewriting.proofs.Counts.{heads, heads-effect}
 use Rattle.rewriting.proofs.Quiet.{Quiet, key}
 use Rattle.table.specs.View.{view, marksAfter}
 use Rattle.table.proofs.Encoding.{passed-limits}
-use Rattle.table.proofs.View.{view-after, length-after, length-view}
-use Rattle.reach.specs.Bytes.{inBytes, Reached}
-use Rattle.conditions.specs.Known.{headCount, Heads, Tallied}
-use Rattle.search.specs.Flags.{flags, Grown, Rows}
+use Rattle.table.proofs.View.{view-after, length-after}
+use Rattle.conditions.specs.Known.{headCount, Tallied}
+use Rattle.search.specs.Flags.{flags}
 use Rattle.search.specs.State.{State, Least}
 use Rattle.search.proofs.States.{target-lt, key-lt}
-use Rattle.reducer.specs.Opened.{Opened, PartnerFresh, AtomFresh, AllFresh, Lost}
+use Rattle.reducer.specs.Opened.{Opened, PartnerFresh, AtomFresh, AllFresh}
 
 -- the key of a kind that asks for heads is the atom
 atom-key : (j : Kind) (p a : ℕ) → So (asksHeads j) → cond (usesPartner j) p a ≡ a

@@ -1,14 +1,14 @@
 -- What is flagged after a drop and after a deletion.
 use mathlib.Core.Path.{_≡_, refl, sym, ap, subst, _∙_}
 use mathlib.Core.Logic.{_≢_, _⊎_, inl, inr, ⊎-elim}
-use mathlib.Core.Bool.{Bool, true, false, cond, _&&_, So, false≢true}
-use mathlib.Core.List.{List, [], _∷_, List·Memᴰ·head, List·Memᴰ·tail, List·Memᴰ·cases-cons, List·Memᴰ·not-nil}
-use Prim.Native.Nat.{ℕ, suc, _+_, _-_, _*_, _≤_, _<_}
+use mathlib.Core.Bool.{true, false, cond, _&&_, So}
+use mathlib.Core.List.{List, _∷_, List·Memᴰ·cases-cons, List·Memᴰ·not-nil}
+use Prim.Native.Nat.{ℕ, suc, _+_, _-_, _≤_, _<_}
 use native.Mathlib.Omega.{arith}
 use native.Mathlib.Numerals.{add-one}
 use lib.Dec.{eqb}
-use lib.ListN.{length, getD, set, length-set}
-use borrow.Author.Tests.{eq-eqb, ne-eqb, eqb-true}
+use lib.ListN.{getD}
+use borrow.Author.Tests.{eq-eqb, ne-eqb}
 use Rattle.semantics.specs.Lists.{_∈_, all, within}
 use Rattle.semantics.proofs.Tests.{not-so, all-iff, within-iff}
 use Rattle.rewriting.specs.Marked.{Marked, entry, left}
@@ -17,7 +17,7 @@ use Rattle.rewriting.proofs.Left.{kept-lt}
 use Rattle.table.proofs.View.{length-view}
 use Rattle.reach.specs.Bytes.{inBytes}
 use Rattle.search.specs.State.{State}
-use Rattle.rewriting.specs.Steps.{applies, usesPartner, Step, subsumed, success, blocked, noHead, failure, fact, inNoHead}
+use Rattle.rewriting.specs.Steps.{applies, usesPartner, Step, subsumed, noHead, failure}
 use Rattle.table.specs.View.{part, view}
 use Rattle.parts.specs.declared.Part.the-variants.{Head, Pos}
 use Rattle.parts.specs.declared.Bounds.{Bounds}
@@ -25,8 +25,7 @@ use Rattle.parts.specs.Parts.{Ready, Spanned}
 use Rattle.parts.proofs.Laws.{part-is}
 use Rattle.table.proofs.Encoding.{passed-limits}
 use Rattle.table.proofs.Parts.{part-slice, view-straight}
-use Rattle.conditions.specs.Known.{Heads, Known}
-use Rattle.search.specs.Flags.{flags, Rows, Grown, Raising}
+use Rattle.search.specs.Flags.{flags, Raising}
 use Rattle.reducer.specs.Opened.{Opened, AtomFresh, AllFresh, Lost}
 
 -- ---- rows

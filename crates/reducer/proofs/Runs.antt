@@ -9,22 +9,19 @@ use native.Mathlib.Nat.{sub-zero}
 use native.Mathlib.Numerals.{add-one}
 use lib.ListN.{length, getD, set}
 use lib.Seq.{sets, length-sets}
-use Rattle.rewriting.specs.Marked.{Marked, entry, whole}
-use Rattle.rewriting.specs.Steps.{number, kindOf, Step, applies, effect}
+use Rattle.rewriting.specs.Marked.{Marked, whole}
+use Rattle.rewriting.specs.Steps.{number, Step, applies, effect}
 use Rattle.rewriting.specs.Reducer.{reduce, measure, firstStep}
 use Rattle.rewriting.proofs.Search.{firstStep-some, kindOf-number, number-bounds}
 use Rattle.rewriting.proofs.Measure.{step-measure}
 use Rattle.table.specs.Questions.{Passed}
-use Rattle.table.specs.Places.{programOf}
 use Rattle.table.specs.View.{view, marksAfter, marksAfterAll, zeros}
 use Rattle.table.proofs.View.{view-after, zeros-after, length-after}
 use Rattle.table.proofs.Parts.{view-tidy}
 use Rattle.conditions.specs.declared.Step as row
 use Rattle.conditions.specs.Known.{stepOf}
-use Rattle.search.specs.declared.Found.{Found}
-use Rattle.search.specs.declared.Found.the-variants.{One, Nothing}
+use Rattle.search.specs.declared.Found.the-variants.{One}
 use Rattle.search.specs.State.{foundOf}
-use Rattle.search.proofs.States.{found-nothing}
 use Rattle.search.proofs.Fits.{kind-number}
 use Rattle.reducer.specs.Reductions.{room, stepsOf, wordsOf}
 use Rattle.reducer.specs.Opened.{Taken, Begun, Reduced}

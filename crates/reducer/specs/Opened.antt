@@ -3,7 +3,7 @@ use mathlib.Core.Path.{_≡_}
 use mathlib.Core.Logic.{_≢_, _⊎_}
 use mathlib.Core.Bool.{So}
 use mathlib.Core.List.{List}
-use Prim.Native.Nat.{ℕ, _+_, _*_, _≤_, _<_}
+use Prim.Native.Nat.{ℕ, _*_, _≤_, _<_}
 use lib.ListN.{length, getD}
 use lib.Seq.{sets}
 use Rattle.semantics.specs.Lists.{_∈_}
@@ -12,8 +12,7 @@ use Rattle.rewriting.specs.Reach.{reach}
 use Rattle.rewriting.specs.Steps as steps
 use Rattle.rewriting.proofs.Reopen.{Twin}
 use Rattle.rewriting.specs.Marked.{entry, left, whole}
-use Rattle.rewriting.specs.Steps.{applies, kindOf}
-use Rattle.table.specs.Questions.{Passed}
+use Rattle.rewriting.specs.Steps.{applies}
 use Rattle.table.specs.Places.{programOf}
 use Rattle.table.specs.View.{view, marksAfterAll, zeros}
 use Rattle.conditions.specs.declared.Step.{Step}

@@ -1,15 +1,15 @@
 -- What reducing a table comes to: its answer, and what the marks and the list hold afterwards.
 use mathlib.Core.Path.{_≡_}
-use mathlib.Core.Bool.{Bool, cond}
+use mathlib.Core.Bool.{cond}
 use mathlib.Core.List.{List, [], _∷_}
-use Prim.Native.Nat.{ℕ, zero, suc, _+_, _*_}
+use Prim.Native.Nat.{ℕ, _+_, _*_}
 use lib.Dec.{leb}
 use lib.ListN.{length, getD}
 use lib.Seq.{sets}
 use Rattle.semantics.specs.Programs.{Clause}
-use Rattle.rewriting.specs.Marked.{Marked, whole}
+use Rattle.rewriting.specs.Marked.{whole}
 use Rattle.rewriting.specs.Steps.{Step, number}
-use Rattle.rewriting.specs.Reducer.{reduce, measure}
+use Rattle.rewriting.specs.Reducer.{reduce}
 use Rattle.table.specs.declared.CallQuestion.the-variants.{MarksLength, ListRoom}
 use Rattle.table.specs.declared.Refusal.{Refusal}
 use Rattle.table.specs.declared.Refusal.the-variants.{Call}

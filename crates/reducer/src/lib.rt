@@ -1,21 +1,22 @@
 // The reducer: the smallest applicable step, again and again, until none applies.
 ghost use mathlib.Core.Path.{_≡_};
-ghost use Prim.Native.Nat.{ℕ, _+_, _-_, _*_, _≤_, _<_};
+ghost use Prim.Native.Nat.{_+_, _-_, _*_, _≤_, _<_};
 ghost use lib.ListN.{length, getD};
 ghost use lib.Seq.{sets};
 ghost use mathlib.Core.Bool.{So};
-ghost use mathlib.Core.List.{_∷_, [], _++_};
-ghost use lib.ListN.{replicate, drop};
+ghost use mathlib.Core.List.{_∷_, []};
+ghost use lib.ListN.{replicate};
 ghost use Rattle.rewriting.specs.Steps.{applies};
 ghost use Rattle.table.specs.Questions.{Passed};
-ghost use Rattle.table.specs.View.{view, allKept, marksAfter, marksAfterAll};
+ghost use Rattle.table.specs.View.{view, marksAfter};
 ghost use Rattle.parts.specs.Parts.{Ready};
-ghost use Rattle.conditions.specs.Known.{Heads, stepOf};
+ghost use Rattle.conditions.specs.Known.{stepOf};
 ghost use Rattle.search.specs.State.{State};
 ghost use Rattle.reducer.specs.Reductions.{room, Answered};
 ghost use Rattle.rewriting.specs.Marked.{entry};
 ghost use Rattle.rewriting.specs.Steps.{kindOf};
-ghost use Rattle.rewriting.proofs.Reopen.{drops, Twin};
+ghost use Rattle.rewriting.specs.Kinds.{drops};
+ghost use Rattle.rewriting.proofs.Reopen.{Twin};
 ghost use Rattle.semantics.specs.Lists.{all};
 ghost use Rattle.reach.specs.Bytes.{inBytes};
 ghost use mathlib.Core.Bool.{true};

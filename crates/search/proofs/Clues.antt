@@ -1,19 +1,19 @@
 -- Where the targets of a key stand: an atom that each of them has, and the walk along that atom's places.
-use mathlib.Core.Path.{_≡_, refl, sym, ap, subst, _∙_}
-use mathlib.Core.Logic.{_≢_, _⊎_, inl, inr, by-cases, ⊎-elim}
+use mathlib.Core.Path.{_≡_, refl, sym, subst, _∙_}
+use mathlib.Core.Logic.{_≢_, inl, inr, by-cases}
 use mathlib.Core.Bool.{Bool, true, false, cond, _&&_, not, So, false≢true}
 use mathlib.Core.List.{List, [], _∷_, List·Memᴰ·head}
-use Prim.Native.Nat.{ℕ, zero, suc, _+_, _*_, _≤_, _<_}
+use Prim.Native.Nat.{ℕ, zero, suc, _+_, _≤_, _<_}
 use native.Mathlib.Omega.{arith}
 use native.Mathlib.Decide.{ℕ-discrete, decLt}
 use lib.Dec.{eqb, ltb}
 use lib.ListN.{length, getD}
-use borrow.Author.Tests.{eqb-true, ltb-true, ne-eqb}
+use borrow.Author.Tests.{ltb-true}
 use Rattle.semantics.specs.Lists.{_∈_, null, mem, within}
 use Rattle.semantics.specs.Programs.{Clause}
 use Rattle.semantics.proofs.Tests.{and-iff, mem-iff, within-iff, not-so}
-use Rattle.rewriting.specs.Marked.{Marked, entry, left}
-use Rattle.rewriting.specs.Steps.{Kind, tautology, contradiction, success, noHead, blocked, failure, loop, subsumed, Step, step, kindOf, usesPartner, usesAtom, fact, single, inNoHead, condition, conditionHolds, applies}
+use Rattle.rewriting.specs.Marked.{entry, left}
+use Rattle.rewriting.specs.Steps.{step, kindOf, usesPartner, usesAtom, fact, single, inNoHead, condition, conditionHolds, applies}
 use Rattle.rewriting.proofs.Sound.{applies-ask}
 use Rattle.rewriting.proofs.Order.{atom-alone}
 use Rattle.rewriting.proofs.Quiet.{key}
@@ -23,7 +23,7 @@ use Rattle.table.proofs.Encoding.{passed-limits}
 use Rattle.table.proofs.Parts.{view-straight}
 use Rattle.parts.specs.declared.Part.{Part}
 use Rattle.parts.specs.declared.Part.the-variants.{Head, Pos, Neg}
-use Rattle.parts.specs.Parts.{partOf, Stands, Latest, ownerAt, Placed}
+use Rattle.parts.specs.Parts.{partOf, Stands, Latest, ownerAt}
 use Rattle.parts.proofs.Index.{stands-in, stands-clause, stands-small, kept-stands}
 use Rattle.conditions.specs.Known.{Heads}
 use Rattle.search.specs.Flags.{flags, Raising}

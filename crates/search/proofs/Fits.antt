@@ -1,36 +1,35 @@
 -- The kinds with a partner: what a test by stamps says, and when a step with a given partner applies.
-use mathlib.Core.Path.{_≡_, refl, sym, ap, subst, _∙_}
+use mathlib.Core.Path.{_≡_, refl, sym, ap, _∙_}
 use mathlib.Core.Logic.{_≢_, by-cases}
-use mathlib.Core.Bool.{Bool, true, false, not, cond, _&&_, So, false≢true}
-use mathlib.Core.List.{List, [], _∷_, List·Memᴰ·head, List·Memᴰ·tail}
+use mathlib.Core.Bool.{Bool, true, false, not, _&&_, So, false≢true}
+use mathlib.Core.List.{List, [], _∷_, List·Memᴰ·head}
 use Prim.Native.Nat.{ℕ, zero, suc, _+_, _-_, _≤_, _<_}
 use native.Mathlib.Omega.{arith}
 use native.Mathlib.Decide.{ℕ-discrete}
 use lib.Dec.{eqb}
-use lib.ListN.{length, getD, take, drop, replicate, length-take, length-drop}
+use lib.ListN.{getD, drop, replicate, length-take, length-drop}
 use lib.Seq.{getD-take, getD-drop}
 use borrow.Author.Tests.{eq-eqb, ne-eqb}
 use Rattle.semantics.specs.Lists.{_∈_, all, mem, within}
 use Rattle.semantics.specs.Programs.{Clause}
-use Rattle.semantics.proofs.Tests.{so-false}
-use Rattle.rewriting.specs.Marked.{Entry, Marked, entry, left}
-use Rattle.rewriting.specs.Steps.{Kind, success, blocked, subsumed, tautology, contradiction, noHead, failure, loop, number, kindOf, Step, step, usesPartner, usesAtom, fact, single, condition, conditionHolds, applies}
+use Rattle.rewriting.specs.Marked.{Marked, entry, left}
+use Rattle.rewriting.specs.Steps.{Kind, success, blocked, subsumed, number, kindOf, step, usesPartner, fact, single, condition, conditionHolds, applies}
 use Rattle.rewriting.proofs.Search.{number-kindOf}
 use Rattle.rewriting.proofs.Order.{partner-alone}
 use Rattle.table.specs.Questions.{Passed}
-use Rattle.table.specs.Places.{headAt, posAt, negAt, nextAt, startOf}
+use Rattle.table.specs.Places.{headAt, nextAt, startOf}
 use Rattle.table.specs.View.{view}
 use Rattle.table.proofs.Encoding.{passed-limits}
 use Rattle.table.proofs.Places.{passed-good}
-use Rattle.table.proofs.Parts.{Straight, view-straight}
+use Rattle.table.proofs.Parts.{view-straight}
 use Rattle.parts.specs.declared.Part.{Part}
 use Rattle.parts.specs.declared.Part.the-variants.{Head, Pos, Neg}
 use Rattle.parts.specs.declared.Bounds.{Bounds}
 use Rattle.parts.specs.declared.Single.the-variants.{One, Other}
-use Rattle.parts.specs.Parts.{partOf, spanOf, singleOf, Ready, Spanned}
+use Rattle.parts.specs.Parts.{spanOf, singleOf, Spanned}
 use Rattle.parts.proofs.Laws.{partWords}
 use Rattle.search.specs.Stamps.{stamped, isStamped, allStamped, Stamps, Below}
-use Rattle.search.specs.Kinds.{PartnerKind, AtomKind}
+use Rattle.search.specs.Kinds.{PartnerKind}
 use Rattle.search.proofs.Stamps.{all-same, stamps-of}
 
 -- ---- atoms are below 1,024

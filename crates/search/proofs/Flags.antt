@@ -1,13 +1,13 @@
 -- Flags: what a flag more, a flag less and bounds drawn closer make of the rows.
 use mathlib.Core.Path.{_≡_, refl, sym, ap, subst, _∙_}
-use mathlib.Core.Logic.{_≢_, _⊎_, inl, inr, by-cases, ⊎-elim}
+use mathlib.Core.Logic.{_≢_, _⊎_, by-cases, ⊎-elim}
 use mathlib.Core.List.{List}
 use Prim.Native.Nat.{ℕ, _+_, _*_, _≤_, _<_}
 use native.Mathlib.Omega.{arith}
 use native.Mathlib.Decide.{ℕ-discrete, decLt}
 use lib.ListN.{length, getD, set, length-set, List·getD-eq-default}
 use lib.Seq.{getD-set-same, getD-set-other}
-use Rattle.search.specs.Flags.{flags, lowest, highest, Inside, Rows, Grown, Raising, AllFlagged, Fenced}
+use Rattle.search.specs.Flags.{flags, lowest, highest, Inside, Rows, Raising, Fenced}
 
 -- two rows have no place in common
 pub apart : (r s i j : ℕ) → i < 2048 → j < 2048 → r ≢ s → r * 2048 + i ≢ s * 2048 + j

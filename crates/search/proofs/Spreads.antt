@@ -1,24 +1,24 @@
 -- A key spread target by target.
-use mathlib.Core.Path.{_≡_, refl, sym, ap, subst, _∙_}
-use mathlib.Core.Logic.{_≢_, _⊎_, inl, inr, by-cases, ⊎-elim}
+use mathlib.Core.Path.{_≡_, sym, ap, subst, _∙_}
+use mathlib.Core.Logic.{_≢_, by-cases}
 use mathlib.Core.Bool.{Bool, true, false, cond, _&&_, not, So, false≢true}
-use mathlib.Core.List.{List, [], _∷_}
-use Prim.Native.Nat.{ℕ, _+_, _*_, _≤_, _<_}
+use mathlib.Core.List.{List}
+use Prim.Native.Nat.{ℕ, _+_, _≤_, _<_}
 use native.Mathlib.Omega.{arith}
 use native.Mathlib.Decide.{ℕ-discrete}
 use lib.Dec.{eqb, ltb}
-use lib.ListN.{length, getD, set, length-set}
+use lib.ListN.{getD}
 use borrow.Author.Tests.{eqb-true}
 use Rattle.semantics.proofs.Tests.{not-so, and-iff}
 use Rattle.rewriting.specs.Marked.{Marked, entry, left}
-use Rattle.rewriting.specs.Steps.{Kind, tautology, contradiction, success, noHead, blocked, failure, loop, subsumed, Step, step, kindOf, usesPartner, usesAtom, condition, conditionHolds, applies}
+use Rattle.rewriting.specs.Steps.{Kind, Step, step, kindOf, usesPartner, usesAtom, condition, conditionHolds, applies}
 use Rattle.rewriting.proofs.Left.{kept-lt}
 use Rattle.rewriting.proofs.Order.{atom-alone, partner-alone}
 use Rattle.rewriting.proofs.Quiet.{key}
 use Rattle.rewriting.proofs.Sound.{applies-ask}
 use Rattle.table.specs.View.{view}
 use Rattle.table.proofs.View.{length-view}
-use Rattle.search.specs.Flags.{flags, Grown, Raising, AllFlagged}
+use Rattle.search.specs.Flags.{flags, Raising, AllFlagged}
 use Rattle.search.specs.State.{Spread, KeySpread}
 use Rattle.search.proofs.Flags.{raising-none, raising-more, raising-below}
 use Rattle.search.proofs.States.{target-lt}

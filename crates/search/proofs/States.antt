@@ -1,8 +1,8 @@
 -- The state between two steps: what a search, a fresh reach and a spread key leave of it.
 use mathlib.Core.Path.{_≡_, refl, sym, ap, subst, _∙_}
 use mathlib.Core.Logic.{_≢_, _⊎_, inl, inr, by-cases, ⊎-elim}
-use mathlib.Core.Bool.{Bool, true, false, not, cond, _&&_, So, false≢true}
-use mathlib.Core.List.{List, [], _∷_}
+use mathlib.Core.Bool.{true, false, not, cond, _&&_, So, false≢true}
+use mathlib.Core.List.{List}
 use mathlib.Core.Option.{Option, none, some}
 use Prim.Native.Nat.{ℕ, zero, suc, _+_, _-_, _*_, _≤_, _<_}
 use native.Mathlib.Omega.{arith}
@@ -12,8 +12,9 @@ use borrow.Author.Tests.{ltb-true}
 use lib.ListN.{length, getD, set, length-set}
 use lib.Seq.{getD-set-same, getD-set-other}
 use Rattle.semantics.proofs.Tests.{and-iff}
-use Rattle.rewriting.specs.Marked.{Marked, entry, left}
-use Rattle.rewriting.specs.Steps.{Kind, tautology, contradiction, success, noHead, blocked, failure, loop, subsumed, number, kindOf, Step, step, usesPartner, usesAtom, condition, conditionHolds, applies}
+use Rattle.rewriting.specs.Kinds.{asksHeads, asksReach}
+use Rattle.rewriting.specs.Marked.{Marked, entry}
+use Rattle.rewriting.specs.Steps.{Kind, tautology, contradiction, success, noHead, blocked, failure, loop, subsumed, number, kindOf, Step, step, usesPartner, usesAtom, conditionHolds, applies}
 use Rattle.rewriting.specs.Reducer.{firstTarget, firstStep}
 use Rattle.rewriting.proofs.Left.{kept-lt}
 use Rattle.rewriting.proofs.Search.{kindOf-number, number-bounds}
@@ -24,7 +25,6 @@ use Rattle.table.specs.Questions as Table
 use Rattle.table.specs.View.{view}
 use Rattle.table.proofs.Encoding.{passed-limits}
 use Rattle.table.proofs.View.{length-view}
-use Rattle.parts.specs.Parts.{Ready}
 use Rattle.reach.specs.Bytes.{Reached}
 use Rattle.conditions.specs.Known.{Heads, Known}
 use Rattle.conditions.specs.declared.Step as row
@@ -90,9 +90,6 @@ partner-loop may k p e = absurd (false≢true (subst (λ j. So (usesPartner j)) 
 module _ (ws ms start hs rs may : List ℕ) (z : State ws ms start hs rs may) where
   pub few-clauses : getD ws 1 0 ≤ 2048
   few-clauses = passed-limits ws (z .ready .placed .passed) .fewClauses
-
-  pub known-of : (k : Kind) → (So (Rattle.conditions.specs.Known.asksReach k) → Reached ws ms rs) → Known k ws ms hs rs
-  known-of k h = record { heads = λ _. z .counted; reached = h }
 
   -- the searches' requirements
   pub state-arrays : (kind : ℕ) → (kind ≡ 7 → flags may 0 0 ≡ 0) → Arrays ws ms start hs rs kind
@@ -246,7 +243,7 @@ module _ (ws ms start hs rs may : List ℕ) (z : State ws ms start hs rs may) wh
 pub partner-known : (ws ms hs rs : List ℕ) (k : Kind) → So (usesPartner k) → Known k ws ms hs rs
 partner-known ws ms hs rs k p = record { heads = λ h. absurd (no-heads k p h); reached = λ h. absurd (no-reach k p h) }
   where
-    no-heads : (k : Kind) → So (usesPartner k) → ¬ So (Rattle.conditions.specs.Known.asksHeads k)
+    no-heads : (k : Kind) → So (usesPartner k) → ¬ So (asksHeads k)
     no-heads success a b = false≢true b
     no-heads blocked a b = false≢true b
     no-heads subsumed a b = false≢true b
@@ -256,7 +253,7 @@ partner-known ws ms hs rs k p = record { heads = λ h. absurd (no-heads k p h); 
     no-heads noHead a b = false≢true a
     no-heads failure a b = false≢true a
 
-    no-reach : (k : Kind) → So (usesPartner k) → ¬ So (Rattle.conditions.specs.Known.asksReach k)
+    no-reach : (k : Kind) → So (usesPartner k) → ¬ So (asksReach k)
     no-reach loop a b = false≢true a
     no-reach tautology a b = false≢true b
     no-reach contradiction a b = false≢true b

@@ -1,46 +1,41 @@
 -- The two searches: a walk of a part or of the partners, one target after the other.
 use mathlib.Core.Path.{_≡_, refl, sym, ap, subst, _∙_}
-use mathlib.Core.Logic.{_≢_, _⊎_, inl, inr, by-cases, ⊎-elim}
-use mathlib.Core.Bool.{Bool, true, false, not, cond, _&&_, So, false≢true}
-use mathlib.Core.List.{List, [], _∷_}
-use mathlib.Core.Option.{Option, none, some}
+use mathlib.Core.Logic.{_≢_, _⊎_, by-cases, ⊎-elim}
+use mathlib.Core.Bool.{Bool, true, false, cond, _&&_, So, false≢true}
+use mathlib.Core.List.{List, _∷_}
+use mathlib.Core.Option.{none, some}
 use Prim.Native.Nat.{ℕ, zero, suc, _+_, _-_, _*_, _≤_, _<_}
 use native.Mathlib.Omega.{arith}
-use native.Mathlib.Decide.{ℕ-discrete, decLt}
+use native.Mathlib.Decide.{ℕ-discrete}
 use native.Mathlib.Numerals.{add-one}
 use lib.Dec.{eqb}
-use lib.ListN.{length, getD, set, length-set}
-use lib.Seq.{getD-set-same, getD-set-other}
+use lib.ListN.{getD, set}
+use lib.Seq.{getD-set-other}
 use borrow.Author.Tests.{eq-eqb, ne-eqb}
-use Rattle.semantics.specs.Lists.{_∈_, mem, ascending}
+use Rattle.semantics.specs.Lists.{_∈_, ascending}
 use Rattle.semantics.specs.Programs.{Clause}
 use Rattle.semantics.proofs.Tests.{so-dec, so-false, not-so, and-iff}
-use Rattle.rewriting.specs.Marked.{Entry, Marked, entry, left}
-use Rattle.rewriting.specs.Steps.{Kind, tautology, contradiction, success, noHead, blocked, failure, loop, subsumed, number, kindOf, Step, step, usesPartner, usesAtom, inNoHead, applies}
-use Rattle.rewriting.specs.Reach.{reach}
+use Rattle.rewriting.specs.Marked.{Marked, entry, left}
+use Rattle.rewriting.specs.Steps.{kindOf, Step, step, inNoHead, applies}
 use Rattle.rewriting.specs.Reducer.{firstPartner, firstTarget}
 use Rattle.rewriting.proofs.Counts.{heads, heads-none}
 use Rattle.rewriting.proofs.Order.{firstIn, asked, walked, atom-first, target-gone, partner-end, partner-hit, Before, search-end, search-hit}
-use Rattle.rewriting.proofs.Quiet.{Quiet, stale, key, quiet-clear, quiet-target}
-use Rattle.table.specs.Questions.{Passed}
-use Rattle.table.specs.Places.{startOf}
+use Rattle.rewriting.proofs.Quiet.{stale, key, quiet-clear, quiet-target}
 use Rattle.table.specs.View.{part, view}
-use Rattle.table.proofs.Encoding.{passed-limits}
-use Rattle.table.proofs.View.{entry-view, length-view}
+use Rattle.table.proofs.View.{length-view}
 use Rattle.table.proofs.Parts.{Straight, view-straight, part-slice}
 use Rattle.parts.specs.declared.Part.{Part}
 use Rattle.parts.specs.declared.Part.the-variants.{Head, Pos, Neg}
 use Rattle.parts.specs.declared.Bounds.{Bounds}
 use Rattle.parts.specs.Parts.{partOf, Ready, Spanned}
 use Rattle.parts.proofs.Laws.{part-is}
-use Rattle.reach.specs.Bytes.{inBytes}
 use Rattle.conditions.specs.Known.{headCount}
 use Rattle.search.specs.declared.Found.{Found}
 use Rattle.search.specs.declared.Found.the-variants.{One, Nothing}
 use Rattle.conditions.specs.declared.Step as row
-use Rattle.search.specs.Flags.{flags, Inside, Rows}
+use Rattle.search.specs.Flags.{flags, Inside}
 use Rattle.search.specs.Kinds.{PartnerKind, AtomKind, walkedPart}
-use Rattle.search.specs.State.{foundOf, stoppedAt, Arrays, Calm, Swept, Walk, Partners}
+use Rattle.search.specs.State.{foundOf, stoppedAt, Calm, Swept, Walk, Partners}
 use Rattle.search.proofs.Fits.{kind-number, words-below}
 use Rattle.search.proofs.Flags.{outside, rows-clear, flag-cleared}
 

@@ -6,8 +6,8 @@ use mathlib.Core.List.{List}
 use mathlib.Core.Option.{Option, none, some}
 use Prim.Native.Nat.{ℕ, _+_, _-_, _*_, _≤_, _<_}
 use lib.ListN.{length, getD}
-use Rattle.rewriting.specs.Marked.{Marked, entry, left}
-use Rattle.rewriting.specs.Steps.{condition, Kind, tautology, contradiction, success, noHead, blocked, failure, loop, subsumed, number, kindOf, usesPartner, Step, step, applies}
+use Rattle.rewriting.specs.Marked.{entry, left}
+use Rattle.rewriting.specs.Steps.{Kind, loop, number, kindOf, usesPartner, Step, step, applies}
 use Rattle.rewriting.specs.Reducer.{firstPartner}
 use Rattle.rewriting.proofs.Order.{firstIn, asked}
 use Rattle.rewriting.proofs.Quiet.{Quiet, stale, key}
@@ -19,7 +19,7 @@ use Rattle.reach.specs.Bytes.{Reached}
 use Rattle.conditions.specs.Known.{Heads}
 use Rattle.search.specs.declared.Found.{Found}
 use Rattle.search.specs.declared.Found.the-variants.{One, Nothing}
-use Rattle.search.specs.Flags.{flags, Inside, Rows, Raising}
+use Rattle.search.specs.Flags.{flags, Rows, Raising}
 
 -- a step as the search gives it
 unfoldable pub foundOf : Option Step → Found

@@ -2,7 +2,7 @@
 use mathlib.Core.Path.{_≡_, refl}
 use mathlib.Core.Bool.{false}
 use Rattle.rewriting.specs.Steps.{kindOf}
-use Rattle.conditions.specs.Known.{asksHeads}
+use Rattle.rewriting.specs.Kinds.{asksHeads}
 use Rattle.checker.proofs.Laws.{by-number}
 use Rattle.checker.proofs.asks_heads.Statement.{statement}
 use Rattle.checker.proofs.asks_heads.Tie as tie

@@ -2,7 +2,7 @@
 use mathlib.Core.Path.{_≡_, refl}
 use mathlib.Core.Bool.{false}
 use Rattle.rewriting.specs.Steps.{kindOf}
-use Rattle.conditions.specs.Known.{asksReach}
+use Rattle.rewriting.specs.Kinds.{asksReach}
 use Rattle.checker.proofs.Laws.{by-number}
 use Rattle.checker.proofs.asks_reach.Statement.{statement}
 use Rattle.checker.proofs.asks_reach.Tie as tie

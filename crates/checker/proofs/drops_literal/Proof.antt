@@ -2,7 +2,7 @@
 use mathlib.Core.Path.{_≡_, refl}
 use mathlib.Core.Bool.{false}
 use Rattle.rewriting.specs.Steps.{kindOf}
-use Rattle.conditions.specs.Known.{drops}
+use Rattle.rewriting.specs.Kinds.{drops}
 use Rattle.checker.proofs.Laws.{by-number}
 use Rattle.checker.proofs.drops_literal.Statement.{statement}
 use Rattle.checker.proofs.drops_literal.Tie as tie

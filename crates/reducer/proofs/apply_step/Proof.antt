@@ -1,8 +1,8 @@
 -- `apply_step`: by the kind.
-use mathlib.Core.Path.{_≡_, refl, sym, ap, subst, _∙_}
+use mathlib.Core.Path.{refl, sym, subst}
 use mathlib.Core.Bool.{So}
 use Rattle.rewriting.specs.Steps.{kindOf}
-use Rattle.rewriting.proofs.Reopen.{drops}
+use Rattle.rewriting.specs.Kinds.{drops}
 use Rattle.reducer.proofs.Keeps.{not-drop}
 use borrow.Author.Needs.{needs}
 use Rattle.reducer.proofs.apply_step.Statement.{statement}

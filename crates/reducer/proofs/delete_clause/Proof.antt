@@ -1,6 +1,5 @@
 -- `delete_clause`: the reach, the heads, the mark, then what the step opens.
-use Prim.Native.Nat.{ℕ, _≤_, _<_}
-use mathlib.Core.Path.{_≡_, refl, sym, ap, subst, _∙_}
+use mathlib.Core.Path.{sym, subst, _∙_}
 use mathlib.Core.Bool.{So}
 use native.Mathlib.Omega.{arith}
 use lib.ListN.{getD}

@@ -1,6 +1,5 @@
 -- `drop_literal`: the mark, then what the step opens.
-use Prim.Native.Nat.{ℕ, _≤_, _<_}
-use mathlib.Core.Path.{_≡_, refl, sym, ap, subst, _∙_}
+use mathlib.Core.Path.{sym, subst}
 use native.Mathlib.Omega.{arith}
 use Rattle.conditions.specs.Known.{stepOf}
 use Rattle.search.specs.State.{State}

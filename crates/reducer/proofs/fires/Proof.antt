@@ -1,8 +1,8 @@
 -- `fires`: what is left of the positive body decides.
-use Prim.Native.Nat.{ℕ, _-_, _≤_, _<_, _+_}
-use mathlib.Core.Path.{_≡_, refl, sym, ap, subst, _∙_}
+use Prim.Native.Nat.{_-_, _≤_}
+use mathlib.Core.Path.{sym, _∙_}
 use native.Mathlib.Omega.{arith}
-use lib.ListN.{length, getD}
+use lib.ListN.{length}
 use borrow.Author.Tests.{not-true, not-false}
 use Rattle.reducer.proofs.Opens.{Firing, firing-all, firing-past, firing-on, firing-stop, firing-end}
 use borrow.Author.Needs.{needs}

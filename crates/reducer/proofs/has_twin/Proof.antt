@@ -1,16 +1,11 @@
 -- `has_twin`: kind 8, and the target's head within the partner's.
-use Prim.Native.Nat.{ℕ, _-_, _≤_, _<_, _+_}
-use mathlib.Core.Path.{_≡_, refl, sym, ap, subst, _∙_}
-use mathlib.Core.Bool.{true, false≢true, So}
+use Prim.Native.Nat.{_-_}
+use mathlib.Core.Path.{sym, ap, _∙_}
+use mathlib.Core.Bool.{true, false≢true}
 use native.Mathlib.Omega.{arith}
-use lib.ListN.{length, getD}
-use Rattle.rewriting.specs.Marked.{entry}
-use Rattle.rewriting.specs.Steps.{kindOf, subsumed, usesPartner}
-use Rattle.rewriting.proofs.Left.{kept-lt}
-use Rattle.rewriting.proofs.Reopen.{partner-asked}
+use Rattle.rewriting.specs.Steps.{kindOf}
 use Rattle.semantics.specs.Lists.{within}
 use Rattle.table.specs.View.{view}
-use Rattle.table.proofs.View.{length-view}
 use Rattle.conditions.specs.Known.{stepOf}
 use Rattle.search.proofs.States.{target-lt}
 use Rattle.reducer.proofs.Opens.{twin-by, partner-lt}

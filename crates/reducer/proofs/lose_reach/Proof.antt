@@ -1,10 +1,8 @@
 -- `lose_reach`: the clause did not fire, or its partner fires; or the reach is to be found anew.
-use Prim.Native.Nat.{ℕ, _≤_, _<_, _+_}
-use mathlib.Core.Path.{_≡_, refl, sym, ap, subst, _∙_}
+use mathlib.Core.Path.{_≡_, sym, subst, _∙_}
 use mathlib.Core.Bool.{false}
 use native.Mathlib.Omega.{arith}
-use lib.ListN.{length, getD}
-use borrow.Author.Tests.{not-true, not-false}
+use borrow.Author.Tests.{not-true}
 use Rattle.semantics.specs.Lists.{all}
 use Rattle.rewriting.specs.Marked.{entry}
 use Rattle.table.specs.View.{view}

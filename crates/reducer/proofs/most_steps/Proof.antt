@@ -1,6 +1,6 @@
 -- `most_steps`: the sum over the clauses passed, and the place of the next.
-use Prim.Native.Nat.{_-_, _≤_, _<_, _+_}
-use mathlib.Core.Path.{_≡_, refl, sym, ap, _∙_}
+use Prim.Native.Nat.{_-_, _≤_}
+use mathlib.Core.Path.{_≡_}
 use native.Mathlib.Omega.{arith}
 use lib.ListN.{length, getD}
 use Rattle.table.specs.Places.{nextAt}

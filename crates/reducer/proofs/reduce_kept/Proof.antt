@@ -1,8 +1,8 @@
 -- `reduce_kept`: the arrays, then the steps.
-use Prim.Native.Nat.{ℕ, _-_, _≤_, _<_, _+_, _*_}
-use mathlib.Core.Path.{_≡_, refl, sym, ap, subst, _∙_}
+use Prim.Native.Nat.{ℕ, _-_}
+use mathlib.Core.Path.{refl, subst}
 use native.Mathlib.Omega.{arith}
-use lib.ListN.{length, getD, length-replicate}
+use lib.ListN.{length-replicate}
 use Rattle.table.proofs.Encoding.{passed-limits}
 use Rattle.reducer.specs.Opened.{AllOpen}
 use Rattle.reducer.proofs.Begins.{state-begun}

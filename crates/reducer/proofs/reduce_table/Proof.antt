@@ -1,9 +1,7 @@
 -- `reduce_table`: the questions one after the other.
-use Prim.Native.Nat.{ℕ, _-_, _≤_, _<_, _+_, _*_}
-use mathlib.Core.Path.{_≡_, refl, sym, ap, subst, _∙_}
+use Prim.Native.Nat.{_-_}
+use mathlib.Core.Path.{sym, _∙_}
 use native.Mathlib.Omega.{arith}
-use lib.ListN.{length, getD}
-use Rattle.table.proofs.Parts.{length-allKept}
 use Rattle.reducer.proofs.Answers.{begun, passed, no-table, few-marks, no-room, done}
 use borrow.Author.Needs.{needs}
 use Rattle.reducer.proofs.reduce_table.Statement.{statement}

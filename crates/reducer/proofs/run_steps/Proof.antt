@@ -1,11 +1,10 @@
 -- `run_steps`: what is done so far, with what is left to do, is the whole.
-use Prim.Native.Nat.{ℕ, _-_, _≤_, _<_, _+_, _*_}
-use mathlib.Core.Path.{_≡_, refl, sym, ap, subst, _∙_}
+use Prim.Native.Nat.{_-_}
+use mathlib.Core.Path.{_≡_, refl, sym, _∙_}
 use native.Mathlib.Omega.{arith}
-use lib.ListN.{length, getD}
+use lib.ListN.{length}
 use Rattle.search.specs.State.{State}
 use Rattle.search.proofs.States.{found-nothing}
-use Rattle.conditions.specs.Known.{stepOf}
 use Rattle.reducer.specs.Reductions.{room}
 use Rattle.reducer.proofs.Room.{room-few}
 use Rattle.reducer.proofs.Runs.{Running, running-none, running-end, running-room, running-step, taken}

@@ -1,8 +1,7 @@
 -- `write_step`: four words from the step's place.
-use Prim.Native.Nat.{_≤_, _<_, _+_, _*_}
-use mathlib.Core.Path.{_≡_, refl, sym, ap, _∙_}
+use Prim.Native.Nat.{_*_}
 use native.Mathlib.Omega.{arith}
-use lib.ListN.{length, length-set}
+use lib.ListN.{length-set}
 use Rattle.reducer.proofs.Runs.{four-words}
 use borrow.Author.Needs.{needs}
 use Rattle.reducer.proofs.write_step.Statement.{statement}

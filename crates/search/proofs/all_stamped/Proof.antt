@@ -1,11 +1,8 @@
 -- `all_stamped`: what is left of the part decides.
-use Prim.Native.Nat.{_-_, _≤_, _<_, _+_}
+use Prim.Native.Nat.{_-_, _≤_, _+_}
 use mathlib.Core.Path.{_≡_, refl, sym, ap, _∙_}
-use mathlib.Core.Bool.{_&&_}
 use native.Mathlib.Omega.{arith}
-use lib.ListN.{length, getD, drop}
-use lib.Dec.{eqb}
-use borrow.Author.Tests.{eq-eqb, ne-eqb}
+use lib.ListN.{length, drop}
 use Rattle.semantics.specs.Lists.{all}
 use Rattle.table.specs.View.{kept-of}
 use Rattle.search.specs.Stamps.{isStamped}

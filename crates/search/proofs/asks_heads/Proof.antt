@@ -1,5 +1,5 @@
 -- `asks_heads`: kinds 4 and 6.
-use mathlib.Core.Path.{_≡_, sym, ap, subst, refl, _∙_}
+use mathlib.Core.Path.{refl}
 use mathlib.Core.Logic.{inl, inr, ⊎-elim}
 use borrow.Author.Tests.{eq-eqb, eqb-true}
 use Rattle.search.proofs.asks_heads.Statement.{statement}

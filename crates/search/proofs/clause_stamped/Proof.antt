@@ -1,9 +1,7 @@
 -- `clause_stamped`: the parts one after the other.
-use mathlib.Core.Path.{sym, ap, refl, _∙_}
+use mathlib.Core.Path.{sym, _∙_}
 use native.Mathlib.Omega.{arith}
-use mathlib.Core.Bool.{_&&_}
 use borrow.Author.Tests.{not-true, not-false}
-use borrow.Author.Needs.{needs}
 use Rattle.search.proofs.clause_stamped.Statement.{statement}
 use Rattle.search.proofs.clause_stamped.Tie as tie
 

@@ -1,5 +1,5 @@
 -- `fact_fits`: by the kind.
-use mathlib.Core.Path.{_≡_, sym, ap, refl, _∙_}
+use mathlib.Core.Path.{_∙_}
 use native.Mathlib.Omega.{arith}
 use Rattle.search.proofs.Fits.{fit-success, fit-blocked, is-five}
 use borrow.Author.Needs.{needs}

@@ -1,6 +1,5 @@
 -- `fence`: the bounds of an empty row, or those given.
-use Prim.Native.Nat.{ℕ, _+_, _≤_, _<_}
-use mathlib.Core.Path.{_≡_, refl, sym, ap, subst, _∙_}
+use mathlib.Core.Path.{sym, subst}
 use native.Mathlib.Omega.{arith}
 use Rattle.search.specs.Flags.{Fenced}
 use Rattle.search.proofs.Flags.{drawn-closer, drawn-empty}

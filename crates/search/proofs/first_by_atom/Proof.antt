@@ -1,12 +1,9 @@
 -- `first_by_atom`: targets passed have no step; in the walk, what is left of the part decides.
-use Prim.Native.Nat.{ℕ, _-_, _≤_, _<_, _+_, _*_}
-use mathlib.Core.Path.{_≡_, refl, sym, ap, subst, _∙_}
+use Prim.Native.Nat.{_-_, _<_, _+_, _*_}
+use mathlib.Core.Path.{_≡_, refl, sym, ap, _∙_}
 use mathlib.Core.Logic.{⊎-elim}
 use native.Mathlib.Omega.{arith}
-use lib.ListN.{length, getD, set}
-use borrow.Author.Count.{below-more}
-use Rattle.rewriting.specs.Steps.{kindOf}
-use Rattle.table.specs.View.{view}
+use lib.ListN.{length, getD}
 use Rattle.table.proofs.Encoding.{passed-limits}
 use Rattle.search.specs.declared.Found.the-variants.{One, Nothing}
 use Rattle.search.specs.State.{Walk, Swept}

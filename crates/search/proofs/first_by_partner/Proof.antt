@@ -1,10 +1,10 @@
 -- `first_by_partner`: targets passed have no step; in the walk, the partners passed make none.
-use Prim.Native.Nat.{ℕ, _-_, _≤_, _<_, _+_, _*_}
-use mathlib.Core.Path.{_≡_, refl, sym, ap, subst, _∙_}
+use Prim.Native.Nat.{ℕ, _-_, _<_, _+_, _*_}
+use mathlib.Core.Path.{_≡_, refl, sym, ap, _∙_}
 use mathlib.Core.Bool.{false}
 use mathlib.Core.Logic.{⊎-elim}
 use native.Mathlib.Omega.{arith}
-use lib.ListN.{length, getD, set}
+use lib.ListN.{length, getD}
 use borrow.Author.Count.{below-more}
 use Rattle.rewriting.specs.Marked.{entry}
 use Rattle.rewriting.specs.Steps.{kindOf, step, applies}

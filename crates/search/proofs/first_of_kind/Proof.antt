@@ -1,8 +1,8 @@
 -- `first_of_kind`: prepared, searched between the row's bounds, and these drawn closer.
-use Prim.Native.Nat.{ℕ, _+_, _≤_, _<_}
-use mathlib.Core.Path.{_≡_, sym, ap, subst, refl, _∙_}
+use Prim.Native.Nat.{_≤_}
+use mathlib.Core.Path.{ap, subst, _∙_}
 use native.Mathlib.Omega.{arith}
-use Rattle.search.specs.Flags.{lowest, highest, Inside, Fenced}
+use Rattle.search.specs.Flags.{lowest, highest, Fenced}
 use Rattle.search.proofs.States.{prepared-arrays, prepared-calm, prepared-swept}
 use borrow.Author.Needs.{needs}
 use Rattle.search.proofs.first_of_kind.Statement.{statement}

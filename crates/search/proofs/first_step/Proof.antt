@@ -1,6 +1,6 @@
 -- `first_step`: the kinds passed have no step.
-use Prim.Native.Nat.{ℕ, suc, _-_, _≤_, _<_, _+_}
-use mathlib.Core.Path.{_≡_, sym, ap, subst, refl, _∙_}
+use Prim.Native.Nat.{ℕ, suc, _-_, _≤_, _<_}
+use mathlib.Core.Path.{_≡_, sym, refl, _∙_}
 use mathlib.Core.Option.{none}
 use native.Mathlib.Omega.{arith}
 use lib.ListN.{length, getD}

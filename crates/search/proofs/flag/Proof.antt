@@ -1,10 +1,10 @@
 -- `flag`: a store to the flag, and bounds that hold it.
-use Prim.Native.Nat.{ℕ, _+_, _*_, _≤_, _<_}
-use mathlib.Core.Path.{_≡_, refl, sym, ap, _∙_}
+use Prim.Native.Nat.{_+_, _≤_}
+use mathlib.Core.Path.{sym, _∙_}
 use mathlib.Core.Logic.{_⊎_, inl, inr, ⊎-elim}
 use native.Mathlib.Omega.{arith}
-use lib.ListN.{length, getD, set, length-set}
-use Rattle.search.proofs.Flags.{flag-raising, flag-set, flag-there}
+use lib.ListN.{getD, length-set}
+use Rattle.search.proofs.Flags.{flag-raising, flag-there}
 use borrow.Author.Needs.{needs}
 use Rattle.search.proofs.flag.Statement.{statement}
 use Rattle.search.proofs.flag.Tie as tie

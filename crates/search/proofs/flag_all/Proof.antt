@@ -1,11 +1,9 @@
 -- `flag_all`: the places passed are flagged, and no flag is lost.
-use Prim.Native.Nat.{ℕ, _-_, _≤_, _<_, _+_, _*_}
-use mathlib.Core.Path.{_≡_, refl, sym, ap, subst, _∙_}
-use mathlib.Core.Logic.{_≢_}
+use Prim.Native.Nat.{_-_, _≤_}
+use mathlib.Core.Path.{_∙_}
 use native.Mathlib.Omega.{arith}
-use lib.ListN.{length, getD}
 use borrow.Author.Count.{below-more}
-use Rattle.search.specs.Flags.{flags, Raising, AllFlagged}
+use Rattle.search.specs.Flags.{Raising, AllFlagged}
 use Rattle.search.proofs.Flags.{raising-none, raising-more, raising-keeps}
 use borrow.Author.Needs.{needs}
 use Rattle.search.proofs.flag_all.Statement.{statement}

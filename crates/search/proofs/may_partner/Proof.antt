@@ -1,9 +1,8 @@
 -- `may_partner`: a clause that is gone, or is no fact, is none.
-use mathlib.Core.Path.{_≡_, sym, ap, refl, _∙_}
+use mathlib.Core.Path.{sym, _∙_}
 use mathlib.Core.Bool.{false≢true}
 use borrow.Author.Tests.{not-true}
 use Rattle.search.proofs.Clues.{gone-partner, open-partner}
-use borrow.Author.Needs.{needs}
 use Rattle.search.proofs.may_partner.Statement.{statement}
 use Rattle.search.proofs.may_partner.Tie as tie
 

@@ -1,9 +1,7 @@
 -- `partner_applies`: another clause, kept, and the condition.
-use mathlib.Core.Path.{_≡_, sym, ap, refl, _∙_}
-use native.Mathlib.Omega.{arith}
+use mathlib.Core.Path.{sym, _∙_}
 use borrow.Author.Tests.{not-true, not-false}
 use Rattle.search.proofs.Fits.{same-applies, gone-applies, other-applies}
-use borrow.Author.Needs.{needs}
 use Rattle.search.proofs.partner_applies.Statement.{statement}
 use Rattle.search.proofs.partner_applies.Tie as tie
 

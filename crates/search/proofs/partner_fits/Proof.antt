@@ -1,9 +1,7 @@
 -- `partner_fits`: by the kind; 3 and 5 ask for a fact.
-use mathlib.Core.Path.{_≡_, sym, ap, refl, _∙_}
-use native.Mathlib.Omega.{arith}
+use mathlib.Core.Path.{sym, _∙_}
 use borrow.Author.Tests.{not-true, not-false}
 use Rattle.search.proofs.Fits.{fit-subsumed, not-fact}
-use borrow.Author.Needs.{needs}
 use Rattle.search.proofs.partner_fits.Statement.{statement}
 use Rattle.search.proofs.partner_fits.Tie as tie
 

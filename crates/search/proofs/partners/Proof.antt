@@ -1,5 +1,5 @@
 -- `partners`: all clauses, or none.
-use mathlib.Core.Path.{_≡_, sym, ap, refl, _∙_}
+use mathlib.Core.Path.{sym, _∙_}
 use Rattle.search.proofs.Walks.{partners-kept, partners-gone}
 use native.Mathlib.Omega.{arith}
 use Rattle.table.proofs.Encoding.{passed-limits}

@@ -1,9 +1,5 @@
 -- `pass_key`: a fresh key is spread, then cleared.
-use Prim.Native.Nat.{ℕ, _+_, _*_, _≤_, _<_}
-use mathlib.Core.Path.{_≡_, sym, ap, subst, refl, _∙_}
 use native.Mathlib.Omega.{arith}
-use lib.ListN.{length, getD, set}
-use Rattle.search.specs.State.{KeyPassed}
 use Rattle.search.proofs.States.{key-passed, key-stale}
 use borrow.Author.Needs.{needs}
 use Rattle.search.proofs.pass_key.Statement.{statement}

@@ -1,5 +1,5 @@
 -- `passes`: by the kind.
-use mathlib.Core.Path.{_≡_, sym, ap, refl, _∙_}
+use mathlib.Core.Path.{sym, ap, _∙_}
 use mathlib.Core.Bool.{not}
 use lib.ListN.{getD}
 use Rattle.table.specs.View.{view}

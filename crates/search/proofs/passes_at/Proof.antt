@@ -1,6 +1,4 @@
 -- `passes_at`: a kept word, and the test.
-use mathlib.Core.Path.{_≡_, sym, ap, refl, _∙_}
-use mathlib.Core.Bool.{_&&_}
 use borrow.Author.Tests.{eq-eqb, ne-eqb}
 use borrow.Author.Needs.{needs}
 use Rattle.search.proofs.passes_at.Statement.{statement}

@@ -1,5 +1,4 @@
 -- `prepare`: the reach, then the fresh keys.
-use mathlib.Core.Path.{_≡_, sym, ap, subst, refl, _∙_}
 use borrow.Author.Needs.{needs}
 use Rattle.search.proofs.prepare.Statement.{statement}
 use Rattle.search.proofs.prepare.Tie as tie

@@ -1,8 +1,6 @@
 -- `refresh`: the reach where it was lost, and every target of kind 7.
-use Prim.Native.Nat.{ℕ, _≤_, _<_}
-use mathlib.Core.Path.{_≡_, sym, ap, subst, refl, _∙_}
+use mathlib.Core.Path.{subst}
 use native.Mathlib.Omega.{arith}
-use lib.ListN.{length, getD}
 use lib.Seq.{getD-set-same}
 use Rattle.search.specs.Flags.{AllFlagged, Raising}
 use Rattle.search.proofs.States.{few-clauses, state-reached}

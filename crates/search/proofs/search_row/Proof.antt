@@ -1,5 +1,5 @@
 -- `search_row`: by partner or by atom.
-use mathlib.Core.Path.{_≡_, sym, ap, subst, refl, _∙_}
+use mathlib.Core.Path.{sym, _∙_}
 use Rattle.search.proofs.States.{partner-kind, atom-kind}
 use borrow.Author.Needs.{needs}
 use Rattle.search.proofs.search_row.Statement.{statement}

@@ -1,10 +1,8 @@
 -- `settle`: the keys passed are fresh no more, and the state stays.
-use Prim.Native.Nat.{ℕ, _-_, _≤_, _<_, _+_, _*_}
-use mathlib.Core.Path.{_≡_, refl, sym, ap, subst, _∙_}
+use Prim.Native.Nat.{_-_, _≤_, _+_}
+use mathlib.Core.Path.{_≡_, sym, ap, subst, _∙_}
 use native.Mathlib.Omega.{arith}
-use lib.ListN.{length, getD}
-use Rattle.search.specs.Flags.{flags, lowest, highest, Inside, Fenced}
-use Rattle.search.specs.State.{State, Settled}
+use Rattle.search.specs.Flags.{lowest, highest, Fenced}
 use Rattle.search.proofs.States.{Settling, settling-none, settling-on, settling-end}
 use borrow.Author.Needs.{needs}
 use Rattle.search.proofs.settle.Statement.{statement}

@@ -1,5 +1,5 @@
 -- `single_stamped`: the head's only atom, where there is one.
-use mathlib.Core.Path.{_≡_, sym, ap, refl, _∙_}
+use mathlib.Core.Path.{sym, _∙_}
 use native.Mathlib.Omega.{arith}
 use Rattle.rewriting.specs.Marked.{entry}
 use Rattle.table.specs.View.{view}

@@ -1,9 +1,9 @@
 -- `spread`: the targets passed are done.
-use Prim.Native.Nat.{ℕ, _-_, _≤_, _<_, _+_, _*_}
-use mathlib.Core.Path.{_≡_, refl, sym, ap, subst, _∙_}
+use Prim.Native.Nat.{_-_, _≤_, _<_, _+_}
+use mathlib.Core.Path.{_≡_, sym, subst, _∙_}
 use mathlib.Core.Logic.{_≢_}
 use native.Mathlib.Omega.{arith}
-use lib.ListN.{length, getD}
+use lib.ListN.{getD}
 use borrow.Author.Tests.{not-true}
 use Rattle.table.proofs.Encoding.{passed-limits}
 use Rattle.search.specs.Flags.{flags, Raising}

@@ -1,14 +1,12 @@
 -- `spread_along`: the places passed are done; at place 0 all are.
-use Prim.Native.Nat.{ℕ, _+_, _≤_, _<_}
-use mathlib.Core.Path.{_≡_, sym, ap, subst, refl, _∙_}
+use Prim.Native.Nat.{_<_}
+use mathlib.Core.Path.{sym, subst, _∙_}
 use native.Mathlib.Omega.{arith}
-use lib.ListN.{length, getD}
+use lib.ListN.{getD}
 use Rattle.parts.specs.declared.Part.{Part}
-use Rattle.parts.specs.Parts.{ownerAt}
 use Rattle.parts.proofs.Index.{stands-small}
 use Rattle.search.specs.State.{Clue}
 use Rattle.search.proofs.Clues.{Along, along-none, along-on, along-end, latest-less}
-use borrow.Author.Needs.{needs}
 use Rattle.search.proofs.spread_along.Statement.{statement}
 use Rattle.search.proofs.spread_along.Tie as tie
 

@@ -1,6 +1,5 @@
 -- `spread_atom`: an atom in a kept head has no step; the places of another are walked.
-use Prim.Native.Nat.{ℕ, _≤_, _<_}
-use mathlib.Core.Path.{_≡_, sym, ap, subst, refl, _∙_}
+use mathlib.Core.Path.{sym, subst, _∙_}
 use borrow.Author.Tests.{not-true}
 use Rattle.search.specs.State.{Clue}
 use Rattle.search.proofs.States.{heads-known, heads-bounds}

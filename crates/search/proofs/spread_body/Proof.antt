@@ -1,6 +1,6 @@
 -- `spread_body`: by the first positive atom, by the first negative one, or every clause.
-use Prim.Native.Nat.{ℕ, _≤_, _<_}
-use mathlib.Core.Path.{_≡_, sym, ap, subst, refl, _∙_}
+use Prim.Native.Nat.{_<_}
+use mathlib.Core.Path.{sym, subst, refl, _∙_}
 use native.Mathlib.Omega.{arith}
 use borrow.Author.Tests.{not-true}
 use Rattle.rewriting.specs.Steps.{subsumed}

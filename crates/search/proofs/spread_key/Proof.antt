@@ -1,6 +1,5 @@
 -- `spread_key`: a partner or an atom is spread, and for another kind every target is flagged.
-use Prim.Native.Nat.{ℕ, _≤_, _<_}
-use mathlib.Core.Path.{_≡_, sym, ap, subst, refl, _∙_}
+use mathlib.Core.Path.{sym, subst, _∙_}
 use native.Mathlib.Omega.{arith}
 use borrow.Author.Tests.{not-true, not-false}
 use Rattle.search.specs.Flags.{AllFlagged, Raising}

@@ -1,10 +1,8 @@
 -- `spread_one`: a flag that stands already, a condition that does not hold, or a flag more.
-use Prim.Native.Nat.{ℕ, _+_, _*_, _≤_, _<_}
-use mathlib.Core.Path.{_≡_, sym, ap, subst, refl, _∙_}
+use Prim.Native.Nat.{_+_, _≤_}
+use mathlib.Core.Path.{sym, subst, _∙_}
 use mathlib.Core.Logic.{_≢_}
-use mathlib.Core.Bool.{So}
 use native.Mathlib.Omega.{arith}
-use lib.ListN.{length, getD}
 use borrow.Author.Tests.{not-true}
 use Rattle.semantics.proofs.Tests.{not-so}
 use Rattle.table.proofs.Encoding.{passed-limits}

@@ -1,12 +1,8 @@
 -- `spread_partner`: by the first head atom; without a head by the body for kind 8, and every clause for the others.
-use Prim.Native.Nat.{ℕ, _≤_, _<_}
-use mathlib.Core.Path.{_≡_, sym, ap, subst, refl, _∙_}
-use native.Mathlib.Omega.{arith}
-use lib.ListN.{getD}
+use Prim.Native.Nat.{_<_}
+use mathlib.Core.Path.{sym, subst, _∙_}
 use borrow.Author.Tests.{not-true}
-use Rattle.rewriting.specs.Marked.{entry}
 use Rattle.rewriting.specs.Steps.{kindOf}
-use Rattle.table.specs.View.{view}
 use Rattle.parts.specs.declared.Part.the-variants.{Head}
 use Rattle.search.specs.Kinds.{targetPart}
 use Rattle.search.specs.State.{Clue, Spread}

@@ -1,10 +1,8 @@
 -- `stamp_clause`: the parts one after the other, from nothing.
 use Prim.Native.Nat.{ℕ}
-use mathlib.Core.Path.{_≡_, sym, ap, refl, _∙_}
+use mathlib.Core.Path.{_∙_}
 use native.Mathlib.Omega.{arith}
-use lib.ListN.{length, replicate, length-replicate}
-use Rattle.search.specs.Stamps.{Stamps, stamped}
-use Rattle.search.proofs.Stamps.{length-stamped}
+use lib.ListN.{length-replicate}
 use Rattle.search.proofs.Fits.{clause-stamps}
 use borrow.Author.Needs.{needs}
 use Rattle.search.proofs.stamp_clause.Statement.{statement}

@@ -1,8 +1,8 @@
 -- `stamp_part`: the stamps so far, with what is left of the part, are those of the whole.
-use Prim.Native.Nat.{_-_, _≤_, _<_, _+_}
+use Prim.Native.Nat.{_-_, _≤_}
 use mathlib.Core.Path.{_≡_, refl, sym, ap, _∙_}
 use native.Mathlib.Omega.{arith}
-use lib.ListN.{length, getD, drop, length-set}
+use lib.ListN.{length, drop, length-set}
 use Rattle.table.specs.View.{kept-of}
 use Rattle.search.specs.Stamps.{stamped}
 use Rattle.parts.proofs.Laws.{kept-some, kept-on}

@@ -1,5 +1,5 @@
 -- `stopped_at`: by the two cases.
-use mathlib.Core.Path.{_≡_, sym, ap, subst, refl, _∙_}
+use mathlib.Core.Path.{sym, ap, _∙_}
 use Rattle.search.specs.State.{stoppedAt}
 use Rattle.search.proofs.Walks.{stopped-one}
 use borrow.Author.Needs.{needs}

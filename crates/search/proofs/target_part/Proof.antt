@@ -1,5 +1,4 @@
 -- `target_part`: by the kind.
-use mathlib.Core.Path.{_≡_, sym, ap, refl, _∙_}
 use borrow.Author.Tests.{eq-eqb, ne-eqb}
 use Rattle.search.proofs.target_part.Statement.{statement}
 use Rattle.search.proofs.target_part.Tie as tie

@@ -1,7 +1,5 @@
 -- `uses_partner`: by the kind.
-use mathlib.Core.Path.{_≡_, sym, ap, refl, _∙_}
 use Rattle.search.proofs.States.{uses-rest}
-use borrow.Author.Needs.{needs}
 use Rattle.search.proofs.uses_partner.Statement.{statement}
 use Rattle.search.proofs.uses_partner.Tie as tie
 

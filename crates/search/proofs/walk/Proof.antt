@@ -1,5 +1,5 @@
 -- `walk`: the walked part, or nothing.
-use mathlib.Core.Path.{_≡_, sym, ap, subst, refl, _∙_}
+use mathlib.Core.Path.{sym, subst, _∙_}
 use borrow.Author.Tests.{not-true, not-false}
 use Rattle.parts.specs.Parts.{Spanned}
 use Rattle.search.proofs.Walks.{walk-kept, walk-gone}
