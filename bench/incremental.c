@@ -1,6 +1,7 @@
 /* A reducer of ground programs, written for speed and not proved: the yardstick of the benchmark. It gives document
  * 01's list, the applicable step that is smallest by kind, target, partner and atom, again and again, and looks only
- * where a step may have been opened.
+ * where a step may have been opened. It is compiled twice: tuned, so that an index leads to a target's partners, and
+ * with PLAIN_SEARCH, so that every clause is tried as a partner, one step a search. All else is the same.
  *
  * Kinds 1 and 2 are never opened, so one pass makes them. The others have a set of targets where a step may apply:
  *  - 3 and 5 are opened by a clause that becomes a fact, at the clauses that have its head atom in their body;
@@ -202,44 +203,6 @@ static void delete_overlapping(struct reducer *r, unsigned kind)
     }
 }
 
-/* ---- kinds 3 and 4: the drops at a target come one after the other, as only the last can make it a fact, and so
- * open a smaller step */
-
-/* A fact can have been deleted since, but by then no clause has its atom in a positive body. */
-static void success(struct reducer *r, unsigned t)
-{
-    struct clause *c = &r->clause[t];
-    for (unsigned i = c->pos; i < c->neg; i++) {
-        unsigned p = r->fact[r->words[i]];
-        if (r->marks[i] && p != NONE) {
-            add(&r->partners, p);
-            r->place[p] = (uint16_t)i;
-        }
-    }
-    while (r->partners.some) {
-        unsigned p = take_first(&r->partners);
-        write_step(r, SUCCESS, t, p, 0);
-        drop(r, t, r->place[p]);
-        c->conditions--;
-    }
-    if (c->body == 0)
-        open_fact(r, t);
-}
-
-static void no_head(struct reducer *r, unsigned t)
-{
-    struct clause *c = &r->clause[t];
-    for (unsigned i = c->neg; i < c->end; i++) {
-        unsigned atom = r->words[i];
-        if (r->marks[i] && r->heads[atom] == 0) {
-            write_step(r, NO_HEAD, t, 0, atom);
-            drop(r, t, i);
-        }
-    }
-    if (c->body == 0)
-        open_fact(r, t);
-}
-
 /* ---- stamps */
 
 /* Stamps the literals of the places from one to another, and no others. */
@@ -271,7 +234,85 @@ static int heads_stamped(const struct reducer *r, unsigned p)
     return 1;
 }
 
-/* ---- kind 5 */
+/* ---- kinds 3, 5 and 8: the partners */
+
+#ifdef PLAIN_SEARCH
+#define REDUCE plain_reduce
+
+/* Whether clause p serves a kind at the target that is stamped. */
+static int fits(const struct reducer *r, unsigned kind, unsigned p)
+{
+    const struct clause *c = &r->clause[p];
+    if (kind == SUBSUMED)
+        return stamped(r, p);
+    if (c->body)
+        return 0;
+    if (kind == BLOCKED)
+        return heads_stamped(r, p);
+    return c->pos - c->head == 1 && r->stamp[POS + r->words[c->head]] == r->now;
+}
+
+/* The smallest partner of clause t, or NONE. */
+static unsigned partner(struct reducer *r, unsigned kind, unsigned t)
+{
+    stamp(r, r->clause[t].head, r->clause[t].end);
+    for (unsigned p = 0; p < r->clauses; p++)
+        if (p != t && r->clause[p].kept && fits(r, kind, p))
+            return p;
+    return NONE;
+}
+
+/* One drop; the target is looked at again. */
+static void success(struct reducer *r, unsigned t)
+{
+    unsigned p = partner(r, SUCCESS, t);
+    if (p == NONE)
+        return;
+    unsigned i = r->clause[t].pos;
+    while (r->words[i] != r->words[r->clause[p].head])
+        i++;
+    write_step(r, SUCCESS, t, p, 0);
+    drop(r, t, i);
+    r->clause[t].conditions--;
+    if (r->clause[t].body == 0)
+        open_fact(r, t);
+    add(&r->may[SUCCESS], t);
+}
+
+static unsigned blocker(struct reducer *r, unsigned t)
+{
+    return partner(r, BLOCKED, t);
+}
+
+static unsigned subsumer(struct reducer *r, unsigned t)
+{
+    return partner(r, SUBSUMED, t);
+}
+
+#else
+#define REDUCE tuned_reduce
+
+/* All drops at a target, one after the other, as only the last can make it a fact and so open a smaller step. A fact
+ * can have been deleted since, but by then no clause has its atom in a positive body. */
+static void success(struct reducer *r, unsigned t)
+{
+    struct clause *c = &r->clause[t];
+    for (unsigned i = c->pos; i < c->neg; i++) {
+        unsigned p = r->fact[r->words[i]];
+        if (r->marks[i] && p != NONE) {
+            add(&r->partners, p);
+            r->place[p] = (uint16_t)i;
+        }
+    }
+    while (r->partners.some) {
+        unsigned p = take_first(&r->partners);
+        write_step(r, SUCCESS, t, p, 0);
+        drop(r, t, r->place[p]);
+        c->conditions--;
+    }
+    if (c->body == 0)
+        open_fact(r, t);
+}
 
 /* The smallest fact whose head is within the negative body of clause t, or NONE. */
 static unsigned blocker(struct reducer *r, unsigned t)
@@ -298,6 +339,50 @@ static unsigned blocker(struct reducer *r, unsigned t)
     }
     return best;
 }
+
+/* The smallest clause whose parts are within those of clause t, or NONE. */
+static unsigned subsumer(struct reducer *r, unsigned t)
+{
+    const struct clause *c = &r->clause[t];
+    unsigned best = NONE;
+    stamp(r, c->head, c->end);
+    for (unsigned i = c->head; i < c->end; i++) {
+        if (!r->marks[i])
+            continue;
+        uint16_t *link = &r->keyed[r->literal[i]];
+        while (*link < best) {
+            unsigned p = *link;
+            if (!r->clause[p].kept) {
+                *link = r->next_keyed[p];
+                continue;
+            }
+            if (p != t && stamped(r, p))
+                best = p;
+            link = &r->next_keyed[p];
+        }
+    }
+    return best;
+}
+
+#endif
+
+/* ---- kind 4: all drops at a target, as only the last can open a smaller step */
+
+static void no_head(struct reducer *r, unsigned t)
+{
+    struct clause *c = &r->clause[t];
+    for (unsigned i = c->neg; i < c->end; i++) {
+        unsigned atom = r->words[i];
+        if (r->marks[i] && r->heads[atom] == 0) {
+            write_step(r, NO_HEAD, t, 0, atom);
+            drop(r, t, i);
+        }
+    }
+    if (c->body == 0)
+        open_fact(r, t);
+}
+
+/* ---- kind 5 */
 
 static void blocked(struct reducer *r, unsigned t)
 {
@@ -359,8 +444,8 @@ static void find_reach(struct reducer *r)
     r->stale = 0;
 }
 
-/* ---- kind 8: a clause stands in the list of its rarest literal, its key, so that the partners of a target are in the
- * lists of its literals */
+/* ---- kind 8: a clause stands in the list of its rarest literal, its key; the clauses that it may subsume have the key
+ * too */
 
 /* Puts a clause that is not empty into the list of its key. */
 static void index_clause(struct reducer *r, unsigned p)
@@ -423,30 +508,6 @@ static void open_shortened(struct reducer *r)
                 add(&r->may[SUBSUMED], r->owner[*link]);
         }
     }
-}
-
-/* The smallest clause whose parts are within those of clause t, or NONE. */
-static unsigned subsumer(struct reducer *r, unsigned t)
-{
-    const struct clause *c = &r->clause[t];
-    unsigned best = NONE;
-    stamp(r, c->head, c->end);
-    for (unsigned i = c->head; i < c->end; i++) {
-        if (!r->marks[i])
-            continue;
-        uint16_t *link = &r->keyed[r->literal[i]];
-        while (*link < best) {
-            unsigned p = *link;
-            if (!r->clause[p].kept) {
-                *link = r->next_keyed[p];
-                continue;
-            }
-            if (p != t && stamped(r, p))
-                best = p;
-            link = &r->next_keyed[p];
-        }
-    }
-    return best;
 }
 
 /* Head atoms that the partner has too stay in the reach by it. */
@@ -534,7 +595,7 @@ static void search(struct reducer *r, unsigned kind, unsigned t)
 }
 
 /* Writes the list and the marks of a table that passes questions 1 to 8, and returns the number of steps. */
-size_t incremental_reduce(const uint16_t *table, size_t table_len, uint8_t *marks, uint16_t *list)
+size_t REDUCE(const uint16_t *table, size_t table_len, uint8_t *marks, uint16_t *list)
 {
     struct reducer r;
     memset(&r, 0, offsetof(struct reducer, clause));

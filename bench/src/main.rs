@@ -1,5 +1,5 @@
-//! Full-size tables of several shapes: the library, an incremental reducer in C and a rescanning one, in one run, as the
-//! tables of docs/BENCHMARKS.md.
+//! Full-size tables of several shapes: the library, an incremental reducer in C, plain and tuned, and a rescanning one, in
+//! one run, as the tables of docs/BENCHMARKS.md.
 #![deny(warnings)]
 mod calls;
 mod incremental;
@@ -10,11 +10,11 @@ use gambrolt_tests::paper::program::{words, Clause, Program};
 use gambrolt_tests::rescan::Reducer;
 use timing::{best, best_by_turns, once};
 
-/// How often the library and C are run.
+/// How often the library and each C program are run.
 const TURNS: usize = 25;
 
 fn main() {
-    println!("C gives document 01's list and marks on {} random programs", incremental::compared());
+    println!("both C programs give document 01's list and marks on {} random programs", incremental::compared());
     println!();
     println!("| shape | words | steps | by kind 1 to 8 |");
     println!("|---|---|---|---|");
@@ -22,10 +22,9 @@ fn main() {
         contents(shape);
     }
     println!();
-    println!(
-        "| shape | library, ms | C, ms | library / C | rescanning, ms | rescanning / library | checking the list, ms |"
-    );
-    println!("|---|---|---|---|---|---|---|");
+    print!("| shape | library, ms | plain C, ms | library / plain C | tuned C, ms | library / tuned C ");
+    println!("| rescanning, ms | rescanning / library | checking the list, ms |");
+    println!("|---|---|---|---|---|---|---|---|---|");
     for shape in &SHAPES {
         reduction(shape);
     }
@@ -40,7 +39,7 @@ fn main() {
 fn contents(shape: &Shape) {
     let table = shape.table(shape.full);
     let (mut marks, mut list) = (vec![0; table.len()], vec![0; 32768]);
-    let steps = incremental::reduce(&table, &mut marks, &mut list);
+    let steps = incremental::tuned(&table, &mut marks, &mut list);
     let mut kinds = [0; 8];
     for step in list.chunks(4).take(steps) {
         kinds[usize::from(step[0]) - 1] += 1;
@@ -48,24 +47,30 @@ fn contents(shape: &Shape) {
     println!("| {} | {} | {steps} | {} |", shape.name, table.len(), kinds.map(|count| count.to_string()).join(" "));
 }
 
-/// One line: reducing a table of a shape in three ways, which have to give the same list, and checking it.
+/// One line: reducing a table of a shape in four ways, which have to give the same list, and checking it.
 fn reduction(shape: &Shape) {
     let (name, table) = (shape.name, shape.table(shape.full));
-    let (mut marks, mut list) = (vec![0; table.len()], vec![0; 32768]);
-    let (mut c_marks, mut c_list) = (marks.clone(), list.clone());
-    let ((library, steps), (c, c_steps)) = best_by_turns(
+    let fresh = (vec![0; table.len()], vec![0; 32768]);
+    let (mut by_library, mut by_plain, mut by_tuned) = (fresh.clone(), fresh.clone(), fresh);
+    let [(library, steps), (plain, plain_steps), (tuned, tuned_steps)] = best_by_turns(
         TURNS,
-        || calls::reduce(&table, &mut marks, &mut list),
-        || incremental::reduce(&table, &mut c_marks, &mut c_list),
+        [
+            &mut || calls::reduce(&table, &mut by_library.0, &mut by_library.1),
+            &mut || incremental::plain(&table, &mut by_plain.0, &mut by_plain.1),
+            &mut || incremental::tuned(&table, &mut by_tuned.0, &mut by_tuned.1),
+        ],
     );
-    let list = &list[..4 * steps];
-    assert_eq!(list, &c_list[..4 * c_steps], "{name}: the lists of the library and C differ");
-    assert_eq!(marks, c_marks, "{name}: the marks of the library and C differ");
+    let (mut marks, list) = (by_library.0, &by_library.1[..4 * steps]);
+    for (c, c_steps, (c_marks, c_list)) in [("plain", plain_steps, by_plain), ("tuned", tuned_steps, by_tuned)] {
+        assert_eq!(list, &c_list[..4 * c_steps], "{name}: the lists of the library and {c} C differ");
+        assert_eq!(marks, c_marks, "{name}: the marks of the library and {c} C differ");
+    }
     let (rescanning, rescanned) = once(|| Reducer::new(&(shape.program)(shape.full)).run());
     assert_eq!(list, rescanned.concat(), "{name}: the lists of the library and the rescanning reducer differ");
     let (checking, _) = best(5, || calls::check(&table, &mut marks, list));
-    let (by_c, by_library) = (library / c, rescanning / library);
-    println!("| {name} | {library:.2} | {c:.3} | {by_c:.1} | {rescanning:.0} | {by_library:.0} | {checking:.1} |");
+    let (to_plain, to_tuned, to_library) = (library / plain, library / tuned, rescanning / library);
+    print!("| {name} | {library:.2} | {plain:.2} | {to_plain:.1} | {tuned:.3} | {to_tuned:.1} ");
+    println!("| {rescanning:.0} | {to_library:.0} | {checking:.1} |");
 }
 
 /// Sixteen entries, and as many clauses as there is room for that every smaller set satisfies, before those that it fails.

@@ -20,20 +20,15 @@ pub fn best<T>(runs: usize, mut work: impl FnMut() -> T) -> (f64, T) {
     best
 }
 
-/// The shortest of several runs of two things, by turns, so that a busy machine hurts both alike.
-pub fn best_by_turns<A, B>(
-    turns: usize,
-    mut one: impl FnMut() -> A,
-    mut other: impl FnMut() -> B,
-) -> ((f64, A), (f64, B)) {
-    let mut best = (once(&mut one), once(&mut other));
+/// The shortest of several runs of each thing, by turns, so that a busy machine hurts all alike.
+pub fn best_by_turns<T, const N: usize>(turns: usize, mut works: [&mut dyn FnMut() -> T; N]) -> [(f64, T); N] {
+    let mut best = works.each_mut().map(once);
     for _ in 1..turns {
-        let again = (once(&mut one), once(&mut other));
-        if again.0 .0 < best.0 .0 {
-            best.0 = again.0;
-        }
-        if again.1 .0 < best.1 .0 {
-            best.1 = again.1;
+        for (best, work) in best.iter_mut().zip(&mut works) {
+            let again = once(work);
+            if again.0 < best.0 {
+                *best = again;
+            }
         }
     }
     best
