@@ -9,7 +9,7 @@ use lib.Dec.{leb}
 use lib.ListN.{length, getD, drop, replicate, length-replicate}
 use lib.Seq.{drop-set-lt, drop-at}
 use borrow.Author.Tests.{leb-true}
-use Rattle.semantics.specs.Programs.{Atoms, Program, program, Stable}
+use Rattle.semantics.specs.Programs.{Atoms, program, Stable}
 use Rattle.rewriting.specs.Marked.{left}
 use Rattle.rewriting.specs.Steps.{applies}
 use Rattle.rewriting.proofs.Sound.{step-sound}
@@ -33,15 +33,12 @@ use Rattle.table.proofs.Parts.{left-allKept, length-allKept}
 use Rattle.conditions.specs.Known.{stepOf}
 use Rattle.checker.specs.declared.CheckAnswer.the-variants.{Accepted, Refused}
 use Rattle.checker.specs.declared.Verdict.{Verdict}
+use Rattle.compaction.specs.Reduced.{leftProgram}
 use Rattle.checker.specs.declared.Verdict.the-variants.{Fine, No}
 use Rattle.checker.specs.Lists.{stepAt, stepQuestions, Outcome, refused, onward, stepsFrom, listFits, askCall, checkOn, checkList}
 use Rattle.checker.proofs.Laws.{fine-applies, check-made}
 
 -- ---- the steps
-
--- the program that marks leave
-abbrev pub programLeft : List ℕ → List ℕ → Program
-programLeft ws ms = program (getD ws 0 0) (left (view ws ms))
 
 module _ (ws ls : List ℕ) (passed : Passed ws) where
   -- what holds of the marks and is kept by every applicable step holds of the marks that the steps leave
@@ -58,9 +55,9 @@ module _ (ws ls : List ℕ) (passed : Passed ws) where
       go Fine e q r = f ms k l (fine-applies (getD ws 0 0) (view ws ms) (stepAt ls k) (sym e)) (r q)
       go (No x) e q r = q
 
-  steps-models : (left k : ℕ) (ms : List ℕ) → length ws ≤ length ms → (M : Atoms) → Stable (programLeft ws ms) M ↔ Stable (programLeft ws (stepsFrom ws ms ls k left .marks)) M
-  steps-models left k ms l M = steps-keep (λ x. Stable (programLeft ws x) M ↔ Stable (programLeft ws (stepsFrom ws ms ls k left .marks)) M)
-      (λ x j b h r. Iff·trans (subst (λ P. Stable (programLeft ws x) M ↔ Stable (program (getD ws 0 0) (Rattle.rewriting.specs.Marked.left P)) M) (sym (view-after ws x passed b (getD ws 0 0) (stepOf (stepAt ls j)) h)) (step-sound (getD ws 0 0) (view ws x) (stepOf (stepAt ls j)) h M)) r)
+  steps-models : (left k : ℕ) (ms : List ℕ) → length ws ≤ length ms → (M : Atoms) → Stable (leftProgram ws ms) M ↔ Stable (leftProgram ws (stepsFrom ws ms ls k left .marks)) M
+  steps-models left k ms l M = steps-keep (λ x. Stable (leftProgram ws x) M ↔ Stable (leftProgram ws (stepsFrom ws ms ls k left .marks)) M)
+      (λ x j b h r. Iff·trans (subst (λ P. Stable (leftProgram ws x) M ↔ Stable (program (getD ws 0 0) (Rattle.rewriting.specs.Marked.left P)) M) (sym (view-after ws x passed b (getD ws 0 0) (stepOf (stepAt ls j)) h)) (step-sound (getD ws 0 0) (view ws x) (stepOf (stepAt ls j)) h M)) r)
       left k ms l Iff·rfl
 
   steps-past : (left k : ℕ) (ms : List ℕ) → length ws ≤ length ms → drop (length ws) (stepsFrom ws ms ls k left .marks) ≡ drop (length ws) ms
@@ -84,10 +81,10 @@ steps-count ws ls (suc left) k ms s e = go (stepQuestions (getD ws 0 0) (view ws
 -- For every table that passes and every list, accepted or refused at a step: every set is stable for the program given exactly when it is for the
 -- program as the marks leave it. ("That the models stay the same is one claim about the whole list, not one for each step.")
 pub list-keeps-models : (ws ms ls : List ℕ) → Passed ws → length ws ≤ length ms → So (listFits ls) → (M : Atoms)
-    → Stable (programOf ws) M ↔ Stable (programLeft ws (checkList ws ms ls .marks)) M
+    → Stable (programOf ws) M ↔ Stable (leftProgram ws (checkList ws ms ls .marks)) M
 unfolding programOf
-list-keeps-models ws ms ls p l f M = subst (λ o. Stable (programOf ws) M ↔ Stable (programLeft ws (o .marks)) M) (sym (check-made ws ms ls _ (p .valid) l f))
-    (subst (λ cs. Stable (program (getD ws 0 0) cs) M ↔ Stable (programLeft ws (stepsFrom ws (allKept ws ms) ls 0 (length ls / 4) .marks)) M) (left-allKept ws ms p)
+list-keeps-models ws ms ls p l f M = subst (λ o. Stable (programOf ws) M ↔ Stable (leftProgram ws (o .marks)) M) (sym (check-made ws ms ls _ (p .valid) l f))
+    (subst (λ cs. Stable (program (getD ws 0 0) cs) M ↔ Stable (leftProgram ws (stepsFrom ws (allKept ws ms) ls 0 (length ls / 4) .marks)) M) (left-allKept ws ms p)
     (steps-models ws ls p (length ls / 4) 0 (allKept ws ms) (omega (arith, length-allKept ws ms l)) M))
 
 -- the outcome of a call: refused with the marks as they were, or the steps from all marks 1
@@ -190,7 +187,7 @@ refused-at-step ws ms ls q k = go (checkList ws ms ls) (came ws ms ls)
 -- "Where the list is accepted, every set of atoms, of any size, is a stable model of the program as given exactly when it is one of the program as the
 -- list leaves it. Where it is refused at a step, the same holds for the program as the steps before that one leave it."
 pub checked-keeps-models : (ws ms ls : List ℕ) → ((s : ℕ) × (checkList ws ms ls .answer ≡ Accepted s)) ⊎ ((q : StepQuestion) × (k : ℕ) × (checkList ws ms ls .answer ≡ Refused (refusal.Step q k)))
-    → (M : Atoms) → Stable (programOf ws) M ↔ Stable (programLeft ws (checkList ws ms ls .marks)) M
+    → (M : Atoms) → Stable (programOf ws) M ↔ Stable (leftProgram ws (checkList ws ms ls .marks)) M
 checked-keeps-models ws ms ls a M = let c = asked a in list-keeps-models ws ms ls (c .0) (c .1) (c .2) M
   where
     go : (o : Outcome) → Came ws ms ls o → ((s : ℕ) × (o .answer ≡ Accepted s)) ⊎ ((q : StepQuestion) × (k : ℕ) × (o .answer ≡ Refused (refusal.Step q k))) → Passed ws × (length ws ≤ length ms) × So (listFits ls)

@@ -29,14 +29,13 @@ use Rattle.conditions.specs.Known.{stepOf}
 use Rattle.reducer.specs.declared.ReduceAnswer.{ReduceAnswer}
 use Rattle.reducer.specs.declared.ReduceAnswer.the-variants as answer
 use Rattle.reducer.specs.Reductions.{wordsOf, stepsOf, reduction}
-use Rattle.reducer.proofs.Taken.{taken, whole-tidy, steps-greedy, steps-accepted, steps-room}
+use Rattle.reducer.proofs.Taken.{taken, whole-tidy, steps-greedy, steps-accepted, steps-room, zeros-allKept, length-words}
 use Rattle.checker.specs.declared.CheckAnswer.the-variants.{Accepted, Refused}
 use Rattle.checker.specs.declared.Verdict.{Verdict}
 use Rattle.checker.specs.declared.Verdict.the-variants.{Fine, No}
 use Rattle.checker.specs.Lists.{stepAt, ask, shapeQuestions, stepQuestions, onward, stepsFrom, listFits, checkList}
 use Rattle.checker.proofs.Laws.{known-kind, fine-applies, check-made}
 use Rattle.text.proofs.Slices.{sets-written, take-written}
-use Rattle.reducer.proofs.Answers.{zeros-allKept}
 use Rattle.claims.proofs.Lists.{marks-past-table}
 use Rattle.claims.proofs.Reductions.{reducer-refused}
 use Rattle.claims.proofs.Agree.{afterAll-agree}
@@ -109,11 +108,6 @@ follow ws p (s ∷ l) ls r k x ms b e h =
     ∙ ap (λ i. stepsFrom ws (marksAfterAll ws (marksAfter ws ms s) l) ls i x) y
 
 -- ---- lists that pass question 11
-
-length-words : (l : List Step) → length (wordsOf l) ≡ 4 * length l
-unfolding wordsOf
-length-words [] = refl
-length-words (s ∷ l) = omega (arith, length-words l)
 
 fits-of : (ls : List ℕ) (k : ℕ) → length ls ≡ 4 * k → k ≤ 8190 → (listFits ls ≡ true) × (length ls / 4 ≡ k)
 fits-of ls k e h = (

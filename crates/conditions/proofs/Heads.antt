@@ -3,7 +3,7 @@ use mathlib.Core.Path.{_≡_, refl, sym, ap, _∙_}
 use mathlib.Core.Logic.{_↔_, by-cases}
 use mathlib.Core.Bool.{Bool, true, false, not, cond, _||_, So}
 use mathlib.Core.List.{List, [], _∷_, _++_, List·Memᴰ·head, List·Memᴰ·tail}
-use Prim.Native.Nat.{ℕ, zero, suc, _+_, _-_, _≤_, _<_}
+use Prim.Native.Nat.{ℕ, _+_, _-_, _≤_, _<_}
 use native.Mathlib.Omega.{arith}
 use native.Mathlib.Decide.{ℕ-discrete, decLt}
 use native.Mathlib.Numerals.{add-one}
@@ -17,13 +17,14 @@ use Rattle.semantics.proofs.Tests.{mem-iff, so-false, so-ext, bit-false, bit-bo
 use Rattle.rewriting.specs.Marked.{Marked, gone, entry, left}
 use Rattle.rewriting.specs.Steps.{inNoHead}
 use Rattle.rewriting.proofs.Reach.{inNoHead-iff}
-use Rattle.rewriting.proofs.Left.{left-each}
+use Rattle.rewriting.proofs.Left.{left-each, left-le}
 use Rattle.table.specs.Questions.{Passed}
 use Rattle.table.specs.View.{view, kept-of}
 use Rattle.table.proofs.View.{length-view}
 use Rattle.table.proofs.Parts.{scan-end, view-straight}
 use Rattle.parts.specs.Parts.{Ascends}
 use Rattle.parts.proofs.Laws.{kept-on, kept-some, kept-place, place-kept}
+use Rattle.reach.proofs.Laws.{zero-at}
 use Rattle.conditions.specs.Known.{headCount, Heads, Tallied, Positive}
 
 -- "in the head of no kept clause" by the count
@@ -176,17 +177,8 @@ module _ (P : Marked) (t : ℕ) (h : t < length P) (a : ℕ) where
   unfolding left
   heads-on e = headsTo-suc ∙ rw e (omega arith)
 
-left-length : (P : Marked) → length (left P) ≤ length P
-unfolding left
-left-length [] = omega arith
-left-length (e ∷ P) = go (e .kept) (left-length P)
-  where
-    go : (t : Bool) → length (left P) ≤ length P → length (cond t (e .clause ∷ left P) (left P)) ≤ suc (length P)
-    go true r = omega arith
-    go false r = omega arith
-
 pub headsTo-bound : (P : Marked) (t a : ℕ) → headsTo P t a ≤ t
-headsTo-bound P t a = omega (arith, count-bound (λ c. mem a (c .head)) (left (take t P)), left-length (take t P), length-take t P)
+headsTo-bound P t a = omega (arith, count-bound (λ c. mem a (c .head)) (left (take t P)), left-le (take t P), length-take t P)
 
 -- the counts of the clauses before t
 pub record Counting (P : Marked) (n : ℕ) (s : List ℕ) (t : ℕ) : Type 0 where
@@ -196,11 +188,6 @@ pub record Counting (P : Marked) (n : ℕ) (s : List ℕ) (t : ℕ) : Type 0 whe
 pub counting-start : (P : Marked) (n k : ℕ) (s : List ℕ) → n ≤ k → s ≡ replicate k 0 → Counting P n s 0
 unfolding left
 counting-start P n k s h e = record { room = rw (e, length-replicate {A = ℕ} k 0) h; at = λ a _. rw e (zero-at k a) }
-  where
-    zero-at : (k a : ℕ) → _≡_ {A = ℕ} (getD (replicate k 0) a 0) 0
-    zero-at zero a = refl
-    zero-at (suc k) zero = refl
-    zero-at (suc k) (suc a) = zero-at k a
 
 module _ (P : Marked) (n : ℕ) (s : List ℕ) (t : ℕ) (h : t < length P) (w : Counting P n s t) where
   pub counting-past : entry P t .kept ≡ false → Counting P n s (t + 1)

@@ -50,16 +50,14 @@ first-none part marks i f h = sym (ap (λ l. getD l 0 0) (f .none (omega (arith,
 abbrev Not : ℕ → ℕ → Type 0
 Not k n = k ≡ n → ⊥
 
+above : (k n : ℕ) → n ≤ k → Not k n → n + 1 ≤ k
+above k n l d = omega arith
+
 pub kind-last : (k : ℕ) → 1 ≤ k → k ≤ 8 → Not k 1 → Not k 2 → Not k 3 → Not k 4 → Not k 5 → Not k 6 → Not k 7 → k ≡ 8
-kind-last zero a b n1 n2 n3 n4 n5 n6 n7 = absurd (omega arith)
-kind-last (suc zero) a b n1 n2 n3 n4 n5 n6 n7 = absurd (n1 refl)
-kind-last (suc (suc zero)) a b n1 n2 n3 n4 n5 n6 n7 = absurd (n2 refl)
-kind-last (suc (suc (suc zero))) a b n1 n2 n3 n4 n5 n6 n7 = absurd (n3 refl)
-kind-last (suc (suc (suc (suc zero)))) a b n1 n2 n3 n4 n5 n6 n7 = absurd (n4 refl)
-kind-last (suc (suc (suc (suc (suc zero))))) a b n1 n2 n3 n4 n5 n6 n7 = absurd (n5 refl)
-kind-last (suc (suc (suc (suc (suc (suc zero)))))) a b n1 n2 n3 n4 n5 n6 n7 = absurd (n6 refl)
-kind-last (suc (suc (suc (suc (suc (suc (suc zero))))))) a b n1 n2 n3 n4 n5 n6 n7 = absurd (n7 refl)
-kind-last (suc (suc (suc (suc (suc (suc (suc (suc k)))))))) a b n1 n2 n3 n4 n5 n6 n7 = omega arith
+kind-last k a b n1 n2 n3 n4 n5 n6 n7 = eight k b (above k 7 (above k 6 (above k 5 (above k 4 (above k 3 (above k 2 (above k 1 a n1) n2) n3) n4) n5) n6) n7)
+  where
+    eight : (k : ℕ) → k ≤ 8 → 8 ≤ k → k ≡ 8
+    eight k b c = omega arith
 
 -- a step that drops nothing clears its target's first mark
 pub clears-first : (ws : List ℕ) (k at : ℕ) (d : Clause) (a : ℕ) → Not k 3 → Not k 4 → clears ws (kindOf k) at d a ≡ at

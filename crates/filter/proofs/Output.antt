@@ -17,7 +17,7 @@ use Rattle.compaction.proofs.Limits.{left-within}
 use Rattle.reducer.specs.declared.ReduceAnswer.the-variants as answer
 use Rattle.reducer.specs.Reductions as reductions
 use Rattle.reducer.proofs.Room.{room-measure, room-few}
-use Rattle.reducer.proofs.Taken.{taken, marks-after, steps-room}
+use Rattle.reducer.proofs.Taken.{taken, marks-after, steps-room, length-words}
 use Rattle.text.specs.Digits.{digits, commas}
 use Rattle.text.specs.Render.{lineText, render}
 use Rattle.text.proofs.Numbers.{digits-length, width-five}
@@ -25,7 +25,7 @@ use Rattle.text.proofs.Texts.{render-short, line-length}
 use Rattle.filter.specs.Output.{stepsKey, refusedKey, stepsText, stepsOf, reducedOf, reducedText, refusedText}
 use Rattle.filter.specs.Lines.{listLines}
 use Rattle.filter.proofs.Bounds.{pair-length, steps-short}
-use Rattle.filter.proofs.Steps.{list-lines, length-words}
+use Rattle.filter.proofs.Steps.{list-lines}
 
 -- ---- the reducer's list is the program's
 

@@ -1,8 +1,7 @@
 -- The lines of the steps in a list's words are the lines of the steps.
-use Prim.Native.Nat.{ℕ, _+_, _*_, _≤_}
+use Prim.Native.Nat.{ℕ, _+_, _≤_}
 use mathlib.Core.Path.{_≡_, refl, ap}
 use mathlib.Core.List.{List, [], _∷_, _++_}
-use native.Mathlib.Omega.{arith}
 use lib.ListN.{length, drop}
 use lib.Seq.{sets}
 use Rattle.rewriting.specs.Steps.{Step, number}
@@ -19,11 +18,6 @@ unfolding stepLines stepsText wordsOf stepText
 lines-of ls r at [] e = refl
 lines-of ls r at (s ∷ l) e =
     rw (e, lines-of ls r (at + 4) l (past ls (number (s .kind) ∷ s .target ∷ s .partner ∷ s .atom ∷ []) (wordsOf l ++ r) at e))
-
-pub length-words : (l : List Step) → length (wordsOf l) ≡ 4 * length l
-unfolding wordsOf
-length-words [] = refl
-length-words (s ∷ l) = omega (arith, length-words l)
 
 -- The lines of a list that was written into a slice.
 pub list-lines : (ls : List ℕ) (l : List Step) → length (wordsOf l) ≤ length ls

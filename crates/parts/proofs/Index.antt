@@ -21,7 +21,8 @@ use Rattle.table.proofs.View.{start-le, part-mem, entry-view}
 use Rattle.parts.specs.declared.Part.{Part}
 use Rattle.parts.specs.declared.Part.the-variants.{Head, Pos, Neg}
 use Rattle.parts.specs.Parts.{partOf, spanOf, Stands, lastAt, beforeAt, ownerAt, Latest, Indexed}
-use Rattle.parts.proofs.Laws.{start-end, From, Size, part-at, span-rises}
+use Rattle.table.proofs.Walks.{passed-end}
+use Rattle.parts.proofs.Laws.{From, Size, part-at, span-rises}
 
 -- ---- an atom at a place
 
@@ -222,7 +223,7 @@ index-none ws index old p l r z = record {
     low x a t j q h = let (l, k) = stands-in q in omega (arith, start-le ws 2 t)
 
 pub index-end : (ws index : List ℕ) (t at : ℕ) → t ≡ getD ws 1 0 → at ≡ startOf ws t → Indexed ws index t at → Indexed ws index (getD ws 1 0) (length ws)
-index-end ws index t at e q d = subst (λ k. Indexed ws index (getD ws 1 0) k) (ap (startOf ws) e ∙ start-end ws (d .passed)) (subst (λ k. Indexed ws index (getD ws 1 0) k) q (subst (λ u. Indexed ws index u at) e d))
+index-end ws index t at e q d = subst (λ k. Indexed ws index (getD ws 1 0) k) (ap (startOf ws) e ∙ passed-end ws (d .passed)) (subst (λ k. Indexed ws index (getD ws 1 0) k) q (subst (λ u. Indexed ws index u at) e d))
 
 -- ---- what the marks leave, by places
 

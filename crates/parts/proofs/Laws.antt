@@ -14,11 +14,8 @@ use borrow.Author.Tests.{eqb-true, eq-eqb, ne-eqb}
 use Rattle.semantics.specs.Lists.{_∈_, null, mem, within}
 use Rattle.semantics.proofs.Tests.{mem-iff, so-ext, so-false}
 use Rattle.rewriting.specs.Marked.{entry}
-use Rattle.table.specs.Questions.{clausesFrom, Passed}
-use Rattle.table.specs.Places.{headAt, posAt, negAt, nextAt, startFrom, startOf}
+use Rattle.table.specs.Places.{headAt, posAt, negAt, nextAt, startOf}
 use Rattle.table.specs.View.{part, entryAt, view, kept-of}
-use Rattle.table.specs.declared.Walk.the-variants.{To}
-use Rattle.table.proofs.Encoding.{passed-limits, on-inv, clause-inv}
 use Rattle.table.proofs.Places.{Rises, Good, passed-good, start-suc}
 use Rattle.table.proofs.View.{entry-view}
 use Rattle.table.proofs.Parts.{part-slice, scan-step, scan-end}
@@ -111,27 +108,6 @@ kept-entry ws ms start r t at h e = rw e (sym (ap (λ x. x .kept) (entry-view ws
 
 pub start-next : (ws : List ℕ) (t at r : ℕ) → at ≡ startOf ws t → r ≡ nextAt ws at → r ≡ startOf ws (t + 1)
 start-next ws t at r e q = q ∙ ap (nextAt ws) e ∙ sym (start-suc ws 2 t) ∙ ap (startOf ws) (sym (add-one t))
-
--- a table's places are small
-pub start-short : (ws : List ℕ) (t : ℕ) → Passed ws → t ≤ getD ws 1 0 → (startOf ws t ≤ length ws) × (length ws ≤ 8192)
-unfolding startFrom
-start-short ws t p h = (go t h, passed-limits ws p .short)
-  where
-    go : (t : ℕ) → t ≤ getD ws 1 0 → startOf ws t ≤ length ws
-    go zero h = passed-limits ws p .long
-    go (suc t) h = rw (start-suc ws 2 t) (passed-good ws p t (omega arith) .fits)
-
-clauses-to : (ws : List ℕ) (n m at e : ℕ) → at ≤ length ws → clausesFrom ws n m at ≡ To e → e ≡ startFrom ws at m
-unfolding clausesFrom startFrom
-clauses-to ws n zero at e l h = cc
-clauses-to ws n (suc m) at e l h =
-    let (d, a, h1) = on-inv _ _ e h in
-    let (g, q) = clause-inv ws n at d l a in
-    clauses-to ws n m (nextAt ws at) e (g .fits) (subst (λ x. clausesFrom ws n m x ≡ To e) q h1)
-
--- The end of the last clause is the end of the table.
-pub start-end : (ws : List ℕ) → Passed ws → startOf ws (getD ws 1 0) ≡ length ws
-start-end ws p = let l = passed-limits ws p in omega (arith, clauses-to ws (getD ws 0 0) (getD ws 1 0) 2 (l .end) (l .long) (l .clauses), l .used, start-short ws (getD ws 1 0) p (omega arith) .0)
 
 -- ---- a clause's part as slices of the words and the marks
 

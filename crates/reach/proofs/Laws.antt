@@ -20,7 +20,7 @@ grown-none P s = record { within = λ T k h. h; same = refl }
 pub grown-trans : {P : Marked} {s t u : List ℕ} → Grown P s t → Grown P t u → Grown P s u
 grown-trans f g = record { within = λ T k h. g .within T k (f .within T k h); same = g .same ∙ f .same }
 
-zero-at : (k a : ℕ) → _≡_ {A = ℕ} (getD (replicate k 0) a 0) 0
+pub zero-at : (k a : ℕ) → _≡_ {A = ℕ} (getD (replicate k 0) a 0) 0
 zero-at zero a = refl
 zero-at (suc k) zero = refl
 zero-at (suc k) (suc a) = zero-at k a

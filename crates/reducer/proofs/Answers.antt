@@ -1,36 +1,27 @@
 -- The call: its state at the start, and its answer by the questions.
-use mathlib.Core.Path.{_≡_, refl, sym, ap, _∙_}
+use mathlib.Core.Path.{_≡_, sym, ap, _∙_}
 use mathlib.Core.Bool.{cond}
 use mathlib.Core.List.{List}
-use Prim.Native.Nat.{ℕ, zero, suc, _*_, _≤_, _<_}
-use native.Mathlib.Omega.{arith}
-use lib.Dec.{leb, eqb}
-use lib.ListN.{length, drop, replicate, length-replicate}
-use lib.Seq.{sets, take-at}
+use Prim.Native.Nat.{ℕ, _*_, _≤_, _<_}
+use lib.Dec.{leb}
+use lib.ListN.{length}
+use lib.Seq.{sets}
 use borrow.Author.Tests.{le-leb, lt-leb}
-use Rattle.semantics.specs.Lists.{count}
 use Rattle.table.specs.declared.Checked.the-variants as checked
 use Rattle.table.specs.declared.Refusal.{Refusal}
 use Rattle.table.specs.declared.Refusal.the-variants.{Call}
 use Rattle.table.specs.declared.CallQuestion.the-variants.{MarksLength, ListRoom}
 use Rattle.table.specs.declared.Table.{Table}
 use Rattle.table.specs.Questions.{tableOf, Passed}
-use Rattle.table.specs.View.{allKept, marksAfterAll, zeros}
+use Rattle.table.specs.View.{allKept, marksAfterAll}
 use Rattle.table.proofs.Encoding.{valid-inv}
 use Rattle.table.proofs.Parts.{view-allKept}
 use Rattle.reducer.specs.declared.ReduceAnswer.the-variants.{Accepted, Refused}
 use Rattle.reducer.specs.Reductions.{room, stepsOf, wordsOf, Reduction, refused, onTable, reduction, Answered}
 use Rattle.reducer.specs.Opened.{Begun, Reduced}
+use Rattle.reducer.proofs.Taken.{zeros-allKept}
 
 -- ---- the start
-
-none-gone : (n : ℕ) → count (λ x. eqb x 0) (replicate n 1) ≡ 0
-none-gone zero = refl
-none-gone (suc n) = omega (arith, none-gone n)
-
-pub zeros-allKept : (ws ms : List ℕ) → zeros ws (allKept ws ms) ≡ 0
-unfolding zeros
-zeros-allKept ws ms = ap (count (λ x. eqb x 0)) (take-at (replicate (length ws) 1) (drop (length ws) ms) (length ws) (length-replicate {A = ℕ} (length ws) 1)) ∙ none-gone (length ws)
 
 pub begun : (ws ms ms' ls : List ℕ) → Passed ws → ms' ≡ allKept ws ms → 4 * room ws ≤ length ls → Begun ws ms' ls
 begun ws ms ms' ls p e l = rw e (record { whole = view-allKept ws ms p; none = zeros-allKept ws ms; room = l })

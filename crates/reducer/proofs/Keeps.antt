@@ -1,7 +1,7 @@
 -- Each step keeps the state.
 use mathlib.Core.Path.{_≡_, refl, sym, ap, subst, _∙_}
 use mathlib.Core.Logic.{_≢_, _⊎_, by-cases, ⊎-elim}
-use mathlib.Core.Bool.{true, false, not, cond, _&&_, So, false≢true}
+use mathlib.Core.Bool.{not, cond, _&&_, So, false≢true}
 use mathlib.Core.List.{List}
 use Prim.Native.Nat.{ℕ, zero, suc, _+_, _<_}
 use native.Mathlib.Omega.{arith}
@@ -15,7 +15,8 @@ use Rattle.rewriting.specs.Reach.{reach}
 use Rattle.rewriting.specs.Steps.{Kind, tautology, contradiction, success, noHead, blocked, failure, loop, subsumed, number, kindOf, Step, usesPartner, applies, effect}
 use Rattle.rewriting.proofs.Search.{number-bounds}
 use Rattle.rewriting.specs.Kinds.{drops, asksHeads}
-use Rattle.rewriting.proofs.Reopen.{Opens, openPartner, openHead, openReach, opened, drop-reach, idle-reach, twin-reach, reach-less, Twin, effect-below}
+use Rattle.rewriting.proofs.Effect.{effect-below, reach-less, drop-reach, idle-reach}
+use Rattle.rewriting.proofs.Reopen.{Opens, openPartner, openHead, openReach, opened, twin-reach, Twin}
 use Rattle.rewriting.proofs.Counts.{heads, heads-effect}
 use Rattle.rewriting.proofs.Quiet.{Quiet, key}
 use Rattle.table.specs.View.{view, marksAfter}

@@ -12,7 +12,8 @@ use borrow.Author.Tests.{eq-eqb, ne-eqb}
 use Rattle.semantics.specs.Lists.{_∈_, all, within}
 use Rattle.semantics.proofs.Tests.{not-so, all-iff, within-iff}
 use Rattle.rewriting.specs.Marked.{Marked, entry, left}
-use Rattle.rewriting.proofs.Reopen.{Twin, partner-asked}
+use Rattle.rewriting.proofs.Effect.{partner-asked}
+use Rattle.rewriting.proofs.Reopen.{Twin}
 use Rattle.rewriting.proofs.Left.{kept-lt}
 use Rattle.table.proofs.View.{length-view}
 use Rattle.reach.specs.Bytes.{inBytes}

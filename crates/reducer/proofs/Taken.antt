@@ -90,9 +90,15 @@ zeros-none : (n : ℕ) → count (λ x. eqb x 0) (replicate n 1) ≡ 0
 zeros-none zero = refl
 zeros-none (suc n) = omega (arith, zeros-none n)
 
-zeros-allKept : (ws ms : List ℕ) → zeros ws (allKept ws ms) ≡ 0
+pub zeros-allKept : (ws ms : List ℕ) → zeros ws (allKept ws ms) ≡ 0
 unfolding zeros
 zeros-allKept ws ms = ap (count (λ x. eqb x 0)) (take-at (replicate (length ws) 1) _ (length ws) (length-replicate (length ws) _)) ∙ zeros-none (length ws)
+
+-- four words a step
+pub length-words : (l : List Step) → length (wordsOf l) ≡ 4 * length l
+unfolding wordsOf
+length-words [] = refl
+length-words (s ∷ l) = omega (arith, length-words l)
 
 -- the marks of a call that is taken leave what its list leaves, and number its steps
 pub marks-after : (ws ms ls : List ℕ) (s : ℕ) → Taken ws ms ls s

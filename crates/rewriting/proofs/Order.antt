@@ -12,7 +12,7 @@ use lib.ListN.{length}
 use borrow.Author.Tests.{ltb-true, lt-ltb}
 use Rattle.semantics.specs.Lists.{_∈_, all, mem, ascending}
 use Rattle.semantics.specs.Programs.{Clause}
-use Rattle.semantics.proofs.Tests.{and-iff, all-iff, mem-iff, so-false, not-so}
+use Rattle.semantics.proofs.Tests.{and-iff, not-iff, all-iff, mem-iff, so-false, not-so}
 use Rattle.rewriting.specs.Marked.{Marked, entry, left}
 use Rattle.rewriting.specs.Reach.{reach}
 use Rattle.rewriting.specs.Steps.{Step, step, Kind, tautology, contradiction, success, noHead, blocked, failure, loop, subsumed, kindOf, usesPartner, usesAtom, inNoHead, condition, conditionHolds, applies}
@@ -91,26 +91,22 @@ condition-is success cs c d a u = absurd (false≢true u)
 condition-is blocked cs c d a u = absurd (false≢true u)
 condition-is subsumed cs c d a u = absurd (false≢true u)
 
--- a kind has an atom word or a partner word
+-- "Kinds 1, 2, 4, 6, 7 have no partner word, kinds 3, 5, 8 no atom word": a kind has one of the two
+pub one-word : (k : Kind) → usesAtom k ≡ not (usesPartner k)
+one-word tautology = refl
+one-word contradiction = refl
+one-word success = refl
+one-word noHead = refl
+one-word blocked = refl
+one-word failure = refl
+one-word loop = refl
+one-word subsumed = refl
+
 pub atom-alone : (k : Kind) → So (usesAtom k) → usesPartner k ≡ false
-atom-alone tautology u = refl
-atom-alone contradiction u = refl
-atom-alone noHead u = refl
-atom-alone failure u = refl
-atom-alone loop u = refl
-atom-alone success u = absurd (false≢true u)
-atom-alone blocked u = absurd (false≢true u)
-atom-alone subsumed u = absurd (false≢true u)
+atom-alone k u = so-false _ (not-iff _ .0 (subst So (one-word k) u))
 
 pub partner-alone : (k : Kind) → So (usesPartner k) → usesAtom k ≡ false
-partner-alone success u = refl
-partner-alone blocked u = refl
-partner-alone subsumed u = refl
-partner-alone tautology u = absurd (false≢true u)
-partner-alone contradiction u = absurd (false≢true u)
-partner-alone noHead u = absurd (false≢true u)
-partner-alone failure u = absurd (false≢true u)
-partner-alone loop u = absurd (false≢true u)
+partner-alone k u = one-word k ∙ ap not u
 
 -- The inner search at a kept target: the first atom of the part that passes.
 pub atom-first : (n : ℕ) (P : Marked) (k : Kind) (t : ℕ) → So (usesAtom k) → So (entry P t .kept) → So (ascending (walked k (entry P t .clause))) → ((a : ℕ) → a ∈ walked k (entry P t .clause) → a < n)

@@ -1,22 +1,18 @@
 -- The invariant of the flagged search: where a target's flag is 0 and a key is not fresh, no step of the kind with that target and key applies.
 -- The key is what a step names beside its target: the partner, or the atom. Flags and fresh keys are given as functions of the number.
-use mathlib.Core.Path.{_≡_, refl, sym, ap, subst, _∙_}
-use mathlib.Core.Logic.{_≢_, by-cases, ⊎-elim}
-use mathlib.Core.Bool.{cond, So, false≢true}
+use mathlib.Core.Path.{_≡_, refl, ap, subst}
+use mathlib.Core.Logic.{_≢_, by-cases}
+use mathlib.Core.Bool.{cond, So}
 use mathlib.Core.Option.{Option, none, some}
 use Prim.Native.Nat.{ℕ, zero, suc, _<_}
 use native.Mathlib.Omega.{arith}
 use native.Mathlib.Decide.{ℕ-discrete, decLt}
 use lib.ListN.{length}
 use Rattle.semantics.proofs.Tests.{so-false}
-use Rattle.semantics.proofs.Models.{All}
-use Rattle.rewriting.specs.Marked.{Marked, entry, left}
-use Rattle.rewriting.specs.Reach.{reach}
-use Rattle.rewriting.specs.Steps.{Step, step, Kind, loop, usesPartner, usesAtom, applies, effect}
-use Rattle.rewriting.specs.Kinds.{drops, asksHeads}
+use Rattle.rewriting.specs.Marked.{Marked}
+use Rattle.rewriting.specs.Steps.{Step, step, Kind, usesPartner, usesAtom, applies}
 use Rattle.rewriting.specs.Reducer.{least, given, firstAtom, firstPartner}
 use Rattle.rewriting.proofs.Search.{no-step}
-use Rattle.rewriting.proofs.Reopen.{reopens, ready, Twin, not-reopened, Opens, opened, openPartner, openHead, openReach}
 
 -- ---- the search's answer
 
@@ -55,14 +51,6 @@ module _ (n : ℕ) (P : Marked) (k : Kind) (may fresh : ℕ → ℕ) where
     pub quiet-more : (may' fresh' : ℕ → ℕ) → Raised may may' → Raised fresh fresh' → Quiet n P k may' fresh'
     quiet-more may' fresh' f g = record { calm = λ u e m x. q .calm u e (f (u .target) m) (g (key u) x) }
 
-    -- A step: the keys that it opens are made fresh, or their targets flagged.
-    pub quiet-step : (may' fresh' : ℕ → ℕ) (s : Step) → So (applies n P s) → Raised may may' → Raised fresh fresh'
-        → ((u : Step) → u .kind ≡ k → So (applies n (effect P s) u) → Opens P s u → may' (u .target) ≡ 0 → fresh' (key u) ≢ 0) → Quiet n (effect P s) k may' fresh'
-    quiet-step may' fresh' s h f g o = record {
-      calm = λ u e m x a.
-          ⊎-elim (λ b. q .calm u e (f (u .target) m) (g (key u) x) b) (λ p. o u e a p m x) (opened n P s h u a);
-    }
-
     -- A key spread: every target that has a step with it is flagged.
     pub quiet-spread : (may' fresh' : ℕ → ℕ) (x : ℕ) → Raised may may' → ((i : ℕ) → i ≢ x → fresh' i ≡ 0 → fresh i ≡ 0)
         → ((u : Step) → u .kind ≡ k → key u ≡ x → So (applies n P u) → may' (u .target) ≢ 0) → Quiet n P k may' fresh'
@@ -85,28 +73,3 @@ module _ (n : ℕ) (P : Marked) (k : Kind) (may fresh : ℕ → ℕ) where
     quiet-target f t m = least-none (cond (usesPartner k) (length P) 1) (λ p. firstAtom n P k t p)
         (λ p l. least-none (cond (usesAtom k) n 1) (λ a. given (applies n P (step k t p a)) (step k t p a))
         (λ a i. ap (λ b. given b (step k t p a)) (so-false _ (q .calm (step k t p a) refl m (f (key (step k t p a)))))))
-
--- ---- the rules of reopening, by the step's kind and the kind k
-
-module _ (n : ℕ) (P : Marked) (s : Step) (h : So (applies n P s)) (k : Kind) (may fresh : ℕ → ℕ) (q : Quiet n P k may fresh) where
-  -- kinds 1 and 2 by any step, 4, 6 and 7 by a drop, 3, 5 and 8 by a deletion: nothing to do
-  pub quiet-kind : ¬ So (reopens (s .kind) k) → Quiet n (effect P s) k may fresh
-  quiet-kind x = record { calm = λ u e m y a. q .calm u e m y (not-reopened n P s h u (subst (λ j. ¬ So (reopens (s .kind) j)) (sym e) x) a) }
-
-  -- kinds 3, 5 and 8 by a drop: the clause becomes a fresh key, of 3 and 5 only where it is a fact now
-  pub quiet-drop : (fresh' : ℕ → ℕ) → So (drops (s .kind)) → Raised fresh fresh' → (So (ready k (entry (effect P s) (s .target) .clause)) → fresh' (s .target) ≢ 0) → Quiet n (effect P s) k may fresh'
-  quiet-drop fresh' d g o = quiet-step n P k may fresh q may fresh' s h (λ i z. z) g (λ u e a p m z. only u e p z)
-    where
-      only : (u : Step) → u .kind ≡ k → Opens P s u → fresh' (key u) ≢ 0
-      only u e (openPartner y p f r) z = o (subst (λ j. So (ready j (entry (effect P s) (s .target) .clause))) e r) (subst (λ b. fresh' b ≡ 0) (ap (λ b. cond b (u .partner) (u .atom)) p ∙ f) z)
-      only u e (openHead y a m i) z = y d
-      only u e (openReach y f a t) z = y d
-
-  -- kind 7 by a deletion of a clause that did not fire, or in whose place its partner fires: nothing to do
-  pub quiet-reach : k ≡ loop → ¬ (All (reach (left P)) (entry P (s .target) .clause .pos) × ¬ Twin P s) → Quiet n (effect P s) k may fresh
-  quiet-reach e x = quiet-step n P k may fresh q may fresh s h (λ i z. z) (λ i z. z) (λ u f a p m z. only u f p)
-    where
-      only : (u : Step) → u .kind ≡ k → ¬ Opens P s u
-      only u f (openPartner y p g r) = false≢true (subst (λ j. So (usesPartner j)) (f ∙ e) p)
-      only u f (openHead y a m i) = false≢true (subst (λ j. So (asksHeads j)) (f ∙ e) a)
-      only u f (openReach y g a t) = x (a, t)

@@ -4,22 +4,20 @@
 -- where the clause fired in the reach and no kept clause fires in its place.
 use mathlib.Core.Path.{_≡_, refl, sym, subst}
 use mathlib.Core.Logic.{_⊎_, inl, inr, by-cases, ⊎-elim}
-use mathlib.Core.Bool.{Bool, true, false, cond, _||_, So}
+use mathlib.Core.Bool.{Bool, true, false, So}
 use Prim.Native.Nat.{ℕ}
 use native.Mathlib.Decide.{ℕ-discrete}
 use native.Mathlib.Omega.{arith}
-use lib.Dec.{eqb}
 use Rattle.semantics.specs.Lists.{_∈_, all, mem, within}
 use Rattle.semantics.specs.Programs.{Clause}
-use Rattle.semantics.proofs.Tests.{and-iff, all-iff, mem-iff, within-iff, so-dec, so-false, or-iff}
+use Rattle.semantics.proofs.Tests.{and-iff, all-iff, mem-iff, within-iff, so-dec}
 use Rattle.semantics.proofs.Models.{All}
 use Rattle.rewriting.specs.Marked.{Marked, entry, left}
 use Rattle.rewriting.specs.Reach.{reach}
-use Rattle.rewriting.specs.Steps.{Step, step, Kind, tautology, contradiction, success, noHead, blocked, failure, loop, subsumed, usesPartner, fact, inNoHead, condition, conditionHolds, applies, effect, number}
+use Rattle.rewriting.specs.Steps.{Step, step, Kind, tautology, contradiction, success, noHead, blocked, failure, loop, subsumed, usesPartner, fact, inNoHead, condition, conditionHolds, applies, effect}
 use Rattle.rewriting.proofs.Subclauses.{Keeps, back}
-use Rattle.rewriting.proofs.Effect.{asks, at-other, is-deleted, heads-back, reach-drop, reach-idle, reach-twin}
-pub use Rattle.rewriting.specs.Kinds.{drops, asksHeads}
-pub use Rattle.rewriting.proofs.Effect.{partner-asked, effect-below, reach-less, drop-reach, idle-reach}
+use Rattle.rewriting.specs.Kinds.{drops, asksHeads}
+use Rattle.rewriting.proofs.Effect.{asks, at-other, partner-asked, effect-below, is-deleted, heads-back, reach-drop, reach-idle, reach-twin}
 
 -- of a partner that lost a literal: what kinds 3, 5 and 8 ask of it alone
 abbrev pub ready : Kind → Clause → Bool
@@ -35,9 +33,6 @@ ready loop d = false
 -- the target's head is the partner's: the partner of a subsumed clause fires in its place
 abbrev pub Twin : Marked → Step → Type 0
 Twin P s = (s .kind ≡ subsumed) × ((b : ℕ) → b ∈ entry P (s .target) .clause .head → b ∈ entry P (s .partner) .clause .head)
-
-abbrev pub reopens : Kind → Kind → Bool
-reopens j k = cond (drops j) (usesPartner k) (asksHeads k || eqb (number k) 7)
 
 pub data Opens (P : Marked) (s u : Step) : Type 0 where
   openPartner : So (drops (s .kind)) → So (usesPartner (u .kind)) → u .partner ≡ s .target → So (ready (u .kind) (entry (effect P s) (s .target) .clause)) → Opens P s u
@@ -104,12 +99,3 @@ module _ (n : ℕ) (P : Marked) (s : Step) (h : So (applies n P s)) where
   -- A step that applies after a step applied before it, or is opened by it.
   pub opened : (u : Step) → So (applies n (effect P s) u) → So (applies n P u) ⊎ Opens P s u
   opened u q = ⊎-elim (λ e. inl (back n P (effect P s) (effect-below n P s h) u e q)) inr (opened-at (u .kind) (u .target) (u .partner) (u .atom) q)
-
-  -- By kind alone: a drop opens kinds 3, 5 and 8, a deletion 4, 6 and 7, and nothing opens 1 and 2.
-  pub not-reopened : (u : Step) → ¬ So (reopens (s .kind) (u .kind)) → So (applies n (effect P s) u) → So (applies n P u)
-  not-reopened u x q = ⊎-elim (λ y. y) (λ o. absurd (x (by-kind o))) (opened u q)
-    where
-      by-kind : Opens P s u → So (reopens (s .kind) (u .kind))
-      by-kind (openPartner d p e r) = rw (d, p)
-      by-kind (openHead d y m q) = rw (so-false _ d) (or-iff _ _ .1 (λ z. absurd (z y)))
-      by-kind (openReach d e f t) = rw (so-false _ d, e)
