@@ -7,7 +7,7 @@ use native.Mathlib.Omega.{arith}
 use native.Mathlib.Decide.{ℕ-discrete, decLt}
 use lib.ListN.{length, getD, set, length-set, List·getD-eq-default}
 use lib.Seq.{getD-set-same, getD-set-other}
-use Rattle.search.specs.Flags.{flags, lowest, highest, Inside, Rows, Raising, Fenced}
+use Rattle.search.specs.Flags.{flags, Flagged, lowest, highest, Inside, Rows, Raising, Fenced}
 
 -- two rows have no place in common
 pub apart : (r s i j : ℕ) → i < 2048 → j < 2048 → r ≢ s → r * 2048 + i ≢ s * 2048 + j
@@ -140,7 +140,7 @@ raising-more one two three row x y z a b p q = record {
 }
 
 -- those that were set stay
-pub raising-below : (may may' : List ℕ) (row top : ℕ) → Raising may may' row top → (r i k : ℕ) → r ≤ 16 → i < 2048 → (flags may r i ≢ 0) × (flags may r i ≤ k) → (flags may' r i ≢ 0) × (flags may' r i ≤ k)
+pub raising-below : (may may' : List ℕ) (row top : ℕ) → Raising may may' row top → (r i k : ℕ) → r ≤ 16 → i < 2048 → Flagged may r i k → Flagged may' r i k
 raising-below may may' row top g r i k a b f = ((λ e. f .0 (g .grown r i a b e)), (let l = g .lower r i a b (f .0) in omega (arith, f .1)))
 
 pub raising-keeps : (may may' : List ℕ) (row top : ℕ) → Raising may may' row top → (r i : ℕ) → r ≤ 16 → i < 2048 → flags may r i ≢ 0 → flags may' r i ≢ 0

@@ -17,6 +17,10 @@ lowest may row = getD may (34816 + row) 0
 abbrev pub highest : List ℕ → ℕ → ℕ
 highest may row = getD may (34833 + row) 0
 
+-- a place is flagged for a key, or for a lesser one
+abbrev pub Flagged : List ℕ → ℕ → ℕ → ℕ → Type 0
+Flagged may row i key = (flags may row i ≢ 0) × (flags may row i ≤ key + 1)
+
 -- the row has no flag outside the two places
 abbrev pub Inside : List ℕ → ℕ → ℕ → ℕ → Type 0
 Inside may row low end = (i : ℕ) → i < 2048 → flags may row i ≢ 0 → (low ≤ i) × (i < end)

@@ -19,7 +19,7 @@ use Rattle.reach.specs.Bytes.{Reached}
 use Rattle.conditions.specs.Known.{Heads}
 use Rattle.search.specs.declared.Found.{Found}
 use Rattle.search.specs.declared.Found.the-variants.{One, Nothing}
-use Rattle.search.specs.Flags.{flags, Rows, Raising}
+use Rattle.search.specs.Flags.{flags, Flagged, Rows, Raising}
 
 -- a step as the search gives it
 unfoldable pub foundOf : Option Step → Found
@@ -77,7 +77,7 @@ NoPartner ws ms kind p = (t : ℕ) → ¬ So (applies (getD ws 0 0) (view ws ms)
 -- Every target that has a step with the partner p and the atom is flagged.
 pub record Spread (ws ms may may' : List ℕ) (kind p a : ℕ) : Type 0 where
   pub raising : Raising may may' kind (getD ws 1 0)
-  pub flagged : (t : ℕ) → So (applies (getD ws 0 0) (view ws ms) (step (kindOf kind) t p a)) → (flags may' kind t ≢ 0) × (flags may' kind t ≤ p + 1)
+  pub flagged : (t : ℕ) → So (applies (getD ws 0 0) (view ws ms) (step (kindOf kind) t p a)) → Flagged may' kind t p
 
 -- The same by the key: what a step names beside its target, the partner or the atom.
 pub record KeySpread (ws ms may may' : List ℕ) (kind x : ℕ) : Type 0 where

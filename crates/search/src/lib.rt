@@ -11,7 +11,7 @@ ghost use Rattle.table.specs.View.{view, kept-of};
 ghost use Rattle.parts.specs.Parts.{partOf, Ready};
 ghost use Rattle.search.specs.Stamps.{stamped, isStamped, allStamped, Stamps, Below};
 ghost use mathlib.Core.Logic.{_≢_, _⊎_};
-ghost use Rattle.search.specs.Flags.{flags, lowest, highest, Inside, Raising, AllFlagged, Fenced};
+ghost use Rattle.search.specs.Flags.{flags, Flagged, lowest, highest, Inside, Raising, AllFlagged, Fenced};
 ghost use Rattle.rewriting.specs.Reducer.{firstTarget};
 ghost use Rattle.rewriting.proofs.Order.{asked, walked};
 ghost use mathlib.Core.Bool.{true, false};
@@ -269,7 +269,7 @@ fn least_key(old: usize, key: usize) -> usize
 // One flag more, or a lesser key for it, within the row's bounds.
 pub fn flag(may: &mut [u16], row: usize, i: usize, key: usize)
     requires { ⌜ (row ≤ 16) × ((i < 2048) × ((key < 2048) × (length (now may) ≡ 34850))) ⌝ }
-    ensures { λ _. ⌜ Raising (now (may .entry)) (now (may .exit)) row (i + 1) × ((flags (now (may .exit)) row i ≢ 0) × (flags (now (may .exit)) row i ≤ key + 1)) ⌝ }
+    ensures { λ _. ⌜ Raising (now (may .entry)) (now (may .exit)) row (i + 1) × Flagged (now (may .exit)) row i key ⌝ }
 {
     let low = lesser(i, table::wide(may[LOWEST + row]));
     let high = greater(i + 1, table::wide(may[HIGHEST + row]));
@@ -478,6 +478,57 @@ pub fn first_by_partner(
 
 // ---- what was opened
 
+// Whether the place of a row is flagged with no greater key.
+fn flagged(may: &[u16], row: usize, i: usize, key: usize) -> bool
+    requires { ⌜ (row ≤ 16) × ((i < 2048) × ((key < 2048) × (length (now may) ≡ 34850))) ⌝ }
+    ensures { λ r. ⌜ (r ≡ true → Flagged (now (may .entry)) row i key) ⌝ }
+{
+    let old = table::wide(may[row * 2048 + i]);
+    if old == 0 {
+        return false;
+    }
+    old <= key + 1
+}
+
+// Whether the target of kind 8 is the partner.
+fn is_itself(kind: u16, t: usize, p: usize) -> bool
+    ensures { λ r. ⌜ (r ≡ true → (kind ≡ 8) × (p ≡ t)) ⌝ }
+{
+    if kind != 8 {
+        return false;
+    }
+    p == t
+}
+
+// Flags the target t of the kind, if the condition holds with the partner p and the atom: no clause is its own partner.
+fn spread_one(
+    words: &[u16],
+    marks: &[u8],
+    start: &[u16],
+    heads: &[u16],
+    reach: &[u8],
+    may: &mut [u16],
+    kind: u16,
+    p: usize,
+    atom: u16,
+    t: usize,
+)
+    requires { ⌜ (Ready (now words) (now marks) (now start)) × ((t < getD (now words) 1 0) × ((p < getD (now words) 1 0) × (((1 ≤ kind) × (kind ≤ 8)) × ((Known (kindOf kind) (now words) (now marks) (now heads) (now reach)) × (length (now may) ≡ 34850))))) ⌝ }
+    ensures { λ _. ⌜ Raising (now (may .entry)) (now (may .exit)) kind (t + 1) × (So (applies (getD (now (words .entry)) 0 0) (view (now (words .entry)) (now (marks .entry))) (step (kindOf kind) t p atom)) → Flagged (now (may .exit)) kind t p) ⌝ }
+{
+    let row = table::wide(kind);
+    if flagged(may, row, t, p) {
+        return;
+    }
+    if is_itself(kind, t, p) {
+        return;
+    }
+    if !conditions::holds(words, marks, start, heads, reach, kind, t, p, atom) {
+        return;
+    }
+    flag(may, row, t, p);
+}
+
 // Flags every target of the kind that has a step with the partner p and the atom.
 fn spread(
     words: &[u16],
@@ -494,51 +545,9 @@ fn spread(
     requires { ⌜ (Ready (now words) (now marks) (now start)) × ((m ≡ getD (now words) 1 0) × ((p < getD (now words) 1 0) × (((1 ≤ kind) × (kind ≤ 8)) × ((Known (kindOf kind) (now words) (now marks) (now heads) (now reach)) × (length (now may) ≡ 34850))))) ⌝ }
     ensures { λ _. ⌜ Spread (now (words .entry)) (now (marks .entry)) (now (may .entry)) (now (may .exit)) kind p atom ⌝ }
 {
-    let row = table::wide(kind);
     for t in 0..m {
-        if !conditions::holds(words, marks, start, heads, reach, kind, t, p, atom) {
-            continue;
-        }
-        flag(may, row, t, p);
+        spread_one(words, marks, start, heads, reach, may, kind, p, atom, t);
     }
-}
-
-// Whether the place of a row is flagged with no greater key.
-fn flagged(may: &[u16], row: usize, i: usize, key: usize) -> bool
-    requires { ⌜ (row ≤ 16) × ((i < 2048) × ((key < 2048) × (length (now may) ≡ 34850))) ⌝ }
-    ensures { λ r. ⌜ (r ≡ true → (flags (now (may .entry)) row i ≢ 0) × (flags (now (may .entry)) row i ≤ key + 1)) ⌝ }
-{
-    let old = table::wide(may[row * 2048 + i]);
-    if old == 0 {
-        return false;
-    }
-    old <= key + 1
-}
-
-// Flags the target t of the kind, if the condition holds with the partner p and the atom.
-fn spread_one(
-    words: &[u16],
-    marks: &[u8],
-    start: &[u16],
-    heads: &[u16],
-    reach: &[u8],
-    may: &mut [u16],
-    kind: u16,
-    p: usize,
-    atom: u16,
-    t: usize,
-)
-    requires { ⌜ (Ready (now words) (now marks) (now start)) × ((t < getD (now words) 1 0) × ((p < getD (now words) 1 0) × (((1 ≤ kind) × (kind ≤ 8)) × ((Known (kindOf kind) (now words) (now marks) (now heads) (now reach)) × (length (now may) ≡ 34850))))) ⌝ }
-    ensures { λ _. ⌜ Raising (now (may .entry)) (now (may .exit)) kind (t + 1) × (So (condition (kindOf kind) (left (view (now (words .entry)) (now (marks .entry)))) (entry (view (now (words .entry)) (now (marks .entry))) t .clause) (entry (view (now (words .entry)) (now (marks .entry))) p .clause) atom) → (flags (now (may .exit)) kind t ≢ 0) × (flags (now (may .exit)) kind t ≤ p + 1)) ⌝ }
-{
-    let row = table::wide(kind);
-    if flagged(may, row, t, p) {
-        return;
-    }
-    if !conditions::holds(words, marks, start, heads, reach, kind, t, p, atom) {
-        return;
-    }
-    flag(may, row, t, p);
 }
 
 // The same as `spread`, where every target has atom a in a part: its places are walked.
