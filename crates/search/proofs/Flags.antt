@@ -30,29 +30,35 @@ module _ (may : List ℕ) (row t end : ℕ) (w : Inside may row t end) where
       by-cases (ℕ-discrete i t) (λ d. absurd (f (subst (λ j. flags (set may (row * 2048 + t) 0) row j ≡ 0) (sym d) (getD-set-same may (row * 2048 + t) 0 0 l))))
       (λ d. let q = w i k (λ e. f (getD-set-other may (row * 2048 + t) (row * 2048 + i) 0 0 (λ x. d (omega arith)) ∙ e)) in (omega arith, q .1))
 
--- ---- a flag less
+-- ---- a flag less, or another key for it
 
 pub flag-cleared : (may : List ℕ) (i j : ℕ) → j ≡ i → getD (set may i 0) j 0 ≡ 0
 flag-cleared may i j e = by-cases (decLt i (length may)) (λ k. ap (λ j. getD (set may i 0) j 0) e ∙ getD-set-same may i 0 0 k)
     (λ k. List·getD-eq-default (set may i 0) 0 (let q : length (set may i 0) ≡ length may = simp length-set in omega arith))
 
-module _ (may : List ℕ) (row t : ℕ) (a : row ≤ 16) (l : t < 2048) where
-  pub less-flags : (r i : ℕ) → flags may r i ≡ 0 → flags (set may (row * 2048 + t) 0) r i ≡ 0
+module _ (may : List ℕ) (row t v : ℕ) (a : row ≤ 16) (l : t < 2048) (o : flags may row t ≡ 0 → v ≡ 0) where
+  abbrev other : List ℕ
+  other = set may (row * 2048 + t) v
+
+  less-flags : (r i : ℕ) → flags may r i ≡ 0 → flags other r i ≡ 0
   less-flags r i e = by-cases (ℕ-discrete (r * 2048 + i) (row * 2048 + t))
-      (flag-cleared may (row * 2048 + t) (r * 2048 + i))
-      (λ d. getD-set-other may (row * 2048 + t) (r * 2048 + i) 0 0 d ∙ e)
+      (λ d. subst (λ x. getD (set may (row * 2048 + t) x) (r * 2048 + i) 0 ≡ 0) (sym (o (ap (λ j. getD may j 0) (sym d) ∙ e))) (flag-cleared may (row * 2048 + t) (r * 2048 + i) d))
+      (λ d. getD-set-other may (row * 2048 + t) (r * 2048 + i) v 0 d ∙ e)
 
-  bounds-same : (j : ℕ) → 34816 ≤ j → getD (set may (row * 2048 + t) 0) j 0 ≡ getD may j 0
-  bounds-same j h = getD-set-other may (row * 2048 + t) j 0 0 (λ e. omega arith)
+  bounds-same : (j : ℕ) → 34816 ≤ j → getD other j 0 ≡ getD may j 0
+  bounds-same j h = getD-set-other may (row * 2048 + t) j v 0 (λ e. omega arith)
 
-  pub rows-clear : (m : ℕ) → Rows m may → Rows m (set may (row * 2048 + t) 0)
-  rows-clear m w = record {
+  pub rows-set : (m : ℕ) → Rows m may → Rows m other
+  rows-set m w = record {
     long = simp length-set (w .long);
     inside = λ r x y i k f. let q = w .inside r x y i k (λ e. f (less-flags r i e)) in
         (omega (arith, q .0, bounds-same (34816 + r) (omega arith)), omega (arith, q .1, bounds-same (34833 + r) (omega arith)));
     high = λ r x y. omega (arith, w .high r x y, bounds-same (34833 + r) (omega arith));
     few = λ r x y. omega (arith, w .few r x y, bounds-same (34833 + r) (omega arith));
   }
+
+  pub inside-set : (low end : ℕ) → Inside may row low end → Inside other row low end
+  inside-set low end w i k f = w i k (λ e. f (less-flags row i e))
 
 -- ---- a flag more, and bounds that hold it
 

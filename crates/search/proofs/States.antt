@@ -34,7 +34,7 @@ use Rattle.search.specs.Flags.{flags, highest, Inside, Rows, Raising, Al
 use Rattle.search.specs.Kinds.{PartnerKind, AtomKind, HeadsKind}
 use Rattle.search.specs.State.{foundOf, Arrays, Calm, Swept, KeySpread, KeyPassed, Settled, Least, State, Prepared}
 use Rattle.search.proofs.Fits.{kind-number}
-use Rattle.search.proofs.Flags.{apart, outside, rows-clear}
+use Rattle.search.proofs.Flags.{apart, outside, rows-set}
 
 -- ---- flags and keys by their numbers
 
@@ -204,7 +204,7 @@ module _ (ws ms start hs rs may : List ℕ) (z : State ws ms start hs rs may) wh
 
     pub key-passed : KeyPassed ws ms start hs rs may gone kind x
     key-passed = record {
-      state = state-with gone (rows-clear may' (8 + kind) x (omega arith) l (getD ws 1 0) (after-spread .rows))
+      state = state-with gone (rows-set may' (8 + kind) x 0 (omega arith) l (λ _. refl) (getD ws 1 0) (after-spread .rows))
           (λ e. s .raising .grown 0 0 (omega arith) (omega arith) (sym (elsewhere 0 0 (omega arith) (inl (λ y. omega arith))) ∙ e)) (λ k _. key-quiet k) key-least;
       long = simp length-set (s .raising .long);
       reach = elsewhere 0 0 (omega arith) (inl (λ y. omega arith)) ∙ s .raising .frame 0 0 (omega arith) (omega arith) (λ e. omega arith);
@@ -223,7 +223,7 @@ module _ (ws ms start hs rs may : List ℕ) (z : State ws ms start hs rs may) wh
     counted = z .counted;
     atoms = z .atoms;
     bytes = omega (arith, z .bytes);
-    rows = rows-clear may' 0 0 (omega arith) (omega arith) (getD ws 1 0) (g .rows (getD ws 1 0) (λ _ _. omega arith) (z .rows));
+    rows = rows-set may' 0 0 0 (omega arith) (omega arith) (λ _. refl) (getD ws 1 0) (g .rows (getD ws 1 0) (λ _ _. omega arith) (z .rows));
     reached = λ _. r;
     quiet = λ k h. by-cases (ℕ-discrete (number k) 7)
         (λ e. quiet-all (getD ws 0 0) (view ws ms) k (flags after (number k)) (flags after (8 + number k)) (λ u h x. f (u .target) (target-lt ws ms u h) (sym (other (7 * 2048 + u .target) (omega arith)) ∙ subst (λ j. flags after j (u .target) ≡ 0) e x)))

@@ -444,6 +444,7 @@ fn partners(words: &[u16], marks: &[u8], start: &[u16], t: usize) -> usize
 }
 
 // The smallest step of a kind with a partner, in the same way; the target's atoms are stamped for the tests.
+// The flag of the target found goes up to the partner found: none before it makes a step.
 pub fn first_by_partner(
     words: &[u16],
     marks: &[u8],
@@ -466,6 +467,7 @@ pub fn first_by_partner(
             let from = table::wide(may[base + t]) - 1;
             for p in from..e {
                 if partner_applies(words, marks, start, &stamps, kind, t, p) {
+                    may[base + t] = narrow(p + 1);
                     found = Found::One(Step::new(kind, narrow(t), narrow(p), 0));
                     break 'search;
                 }
