@@ -23,8 +23,8 @@ use Rattle.table.specs.View.{view, marksAfter}
 use Rattle.table.proofs.Encoding.{passed-limits}
 use Rattle.table.proofs.View.{view-after, length-after}
 use Rattle.conditions.specs.Known.{headCount, Tallied}
-use Rattle.search.specs.Flags.{flags}
-use Rattle.search.specs.State.{State, Least}
+use Rattle.search.specs.Flags.{flags, most}
+use Rattle.search.specs.State.{State, Least, Most}
 use Rattle.search.proofs.States.{target-lt, key-lt}
 use Rattle.reducer.specs.Opened.{Opened, PartnerFresh, AtomFresh, AllFresh}
 
@@ -73,6 +73,13 @@ module _ (ws ms start hs rs may : List ℕ) (z : State ws ms start hs rs may) (s
       let d = w .lower (number k) (u .target) (omega (arith, number-bounds k)) t (λ m. z .quiet k (λ l. absurd (false≢true (subst (λ j. So (usesPartner j)) l p))) .calm u e m g y) in omega arith)
       (λ q. absurd (o u e q f)) (opened n P s h u a)
 
+  -- and the bounds of kind 3
+  most-on : (may' : List ℕ) → Opened may may' → ((u : Step) → u .kind ≡ success → Opens P s u → flags may' 11 (key u) ≢ 0) → Most ws after (most may') (flags may' 11)
+  most-on may' w o u e f v =
+      let t : u .target < 2048 = omega (arith, target-lt ws after u v, passed-limits ws (z .ready .placed .passed) .fewClauses) in
+      let g = w .grown 11 (key u) (omega arith) (key-lt ws after (z .ready .placed .passed) u v) f in
+      ⊎-elim (λ y. let x = z .bounded u e g y in let d = w .more (u .target) t in omega arith) (λ q. absurd (o u e q f)) (opened n P s h u (subst (λ R. So (applies n R u)) is-effect v))
+
   pub ready-after : Rattle.parts.specs.Parts.Ready ws after start
   ready-after = record { placed = z .ready .placed; marks = omega (arith, z .ready .marks, length-after ws ms s) }
 
@@ -98,6 +105,7 @@ module _ (ws ms start hs rs may : List ℕ) (z : State ws ms start hs rs may) (s
       reached = λ e. record { is = λ a. z .reached (reach-up e) .is a ∙ reach-same a };
       quiet = λ k e. quiet-on k (flags may (number k)) (flags may (8 + number k)) (flags may' (number k)) (flags may' (8 + number k)) (z .quiet k (λ q. reach-up (e q))) (flags-up k) (keys-up k) (only k);
       least = λ k. least-on k may' o (only k);
+      bounded = most-on may' o (only success);
     }
       where
         heads-same : (a : ℕ) → headCount (left (view ws after)) a ≡ headCount (left P) a
@@ -135,6 +143,7 @@ module _ (ws ms start hs rs may : List ℕ) (z : State ws ms start hs rs may) (s
       reached = λ e. record { is = λ a. z .reached (reach-up e) .is a ∙ reach-same (t e) a };
       quiet = λ k e. quiet-on k (flags may (number k)) (flags may (8 + number k)) (flags may' (number k)) (flags may' (8 + number k)) (z .quiet k (λ q. reach-up (e q))) (flags-up k) (keys-up k) (only k e);
       least = λ k p. least-on k may' o (λ u e q. only k (λ l. absurd (false≢true (subst (λ j. So (usesPartner j)) l p))) u e q) p;
+      bounded = most-on may' o (only success (λ l. absurd (false≢true (subst (λ j. So (usesPartner j)) l refl))));
     }
       where
         heads-less : (a : ℕ) → getD hs' a 0 ≡ headCount (left (view ws after)) a

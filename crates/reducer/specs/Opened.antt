@@ -17,7 +17,7 @@ use Rattle.table.specs.Places.{programOf}
 use Rattle.table.specs.View.{view, marksAfterAll, zeros}
 use Rattle.conditions.specs.declared.Step.{Step}
 use Rattle.conditions.specs.Known.{stepOf}
-use Rattle.search.specs.Flags.{flags, Rows, Grown, AllFlagged}
+use Rattle.search.specs.Flags.{flags, most, Rows, Grown, AllFlagged}
 use Rattle.reducer.specs.Reductions.{room, stepsOf, wordsOf}
 
 -- No flag is lost.
@@ -26,6 +26,7 @@ pub record Opened (may may' : List ℕ) : Type 0 where
   pub grown : Grown may may'
   pub lower : (r i : ℕ) → r ≤ 16 → i < 2048 → flags may r i ≢ 0 → flags may' r i ≤ flags may r i
   pub rows : (m : ℕ) → Rows m may → Rows m may'
+  pub more : (i : ℕ) → i < 2048 → most may i ≤ most may' i
 
 -- The clause is a fresh key of kinds 3, 5 and 8.
 pub record PartnerFresh (may : List ℕ) (t : ℕ) : Type 0 where

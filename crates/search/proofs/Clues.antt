@@ -26,7 +26,7 @@ use Rattle.parts.specs.declared.Part.the-variants.{Head, Pos, Neg}
 use Rattle.parts.specs.Parts.{partOf, Stands, Latest, ownerAt}
 use Rattle.parts.proofs.Index.{stands-in, stands-clause, stands-small, kept-stands}
 use Rattle.conditions.specs.Known.{Heads}
-use Rattle.search.specs.Flags.{flags, Raising}
+use Rattle.search.specs.Flags.{Covered, Raising}
 use Rattle.search.specs.Kinds.{PartnerKind, HeadsKind, walkedPart, targetPart}
 use Rattle.search.specs.State.{Clue, NoPartner, Spread, KeySpread}
 use Rattle.search.proofs.Flags.{raising-none, raising-more, raising-below}
@@ -111,7 +111,7 @@ spread-headed ws ms hs may kind a k h e = record {
 pub record Along (ws ms start may may' : List ℕ) (kind p atom : ℕ) (x : Part) (a i : ℕ) : Type 0 where
   pub raising : Raising may may' kind (getD ws 1 0)
   pub here : 0 < i → Stands ws x a (getD start (ownerAt i) 0) i
-  pub done : (t j : ℕ) → Stands ws x a t j → i < j → So (condition (kindOf kind) (left (view ws ms)) (entry (view ws ms) t .clause) (entry (view ws ms) p .clause) atom) → (flags may' kind t ≢ 0) × (flags may' kind t ≤ p + 1)
+  pub done : (t j : ℕ) → Stands ws x a t j → i < j → So (applies (getD ws 0 0) (view ws ms) (step (kindOf kind) t p atom)) → Covered may' kind t p
 
 pub along-none : (ws ms start may : List ℕ) (kind p atom : ℕ) (x : Part) (a i : ℕ) → Passed ws → Latest ws start x a (length ws) i → Along ws ms start may may kind p atom x a i
 along-none ws ms start may kind p atom x a i q l = record {
@@ -124,21 +124,21 @@ pub latest-less : (ws start : List ℕ) (x : Part) (a i k : ℕ) → 0 < i → L
 latest-less ws start x a i k h l = by-cases (decLt 0 k) (λ z. l .some z .0) (λ z. omega arith)
 
 module _ (ws ms start may may' : List ℕ) (kind p atom : ℕ) (x : Part) (a i : ℕ) (w : Along ws ms start may may' kind p atom x a i) (pass : Passed ws) where
-  abbrev holds : ℕ → Bool
-  holds t = condition (kindOf kind) (left (view ws ms)) (entry (view ws ms) t .clause) (entry (view ws ms) p .clause) atom
+  abbrev at : ℕ → Bool
+  at t = applies (getD ws 0 0) (view ws ms) (step (kindOf kind) t p atom)
 
   pub along-on : 0 < i → kind ≤ 16 → (k : ℕ) → ((y : Part) (b t : ℕ) → Stands ws y b t i → Latest ws start y b i k) → (may'' : List ℕ) (t : ℕ) → t ≡ getD start (ownerAt i) 0
-      → Raising may' may'' kind (t + 1) → (So (holds t) → (flags may'' kind t ≢ 0) × (flags may'' kind t ≤ p + 1)) → Along ws ms start may may'' kind p atom x a k
-  along-on h b k l may'' t e g f =
+      → Raising may' may'' kind (t + 1) × (So (at t) → Covered may'' kind t p) → Along ws ms start may may'' kind p atom x a k
+  along-on h b k l may'' t e (g, f) =
       let s = w .here h in
       let q = l x a (getD start (ownerAt i) 0) s in
       record {
         raising = raising-more may may' may'' kind (getD ws 1 0) (t + 1) (getD ws 1 0) (omega arith) (omega (arith, s .clause)) (w .raising) g;
         here = λ z. q .some z .1;
         done = λ u j y z c. by-cases (decLt i j)
-            (λ v. raising-below may' may'' kind (t + 1) g kind u (p + 1) b (stands-small pass y .3) (w .done u j y v c))
+            (λ v. raising-below may' may'' kind (t + 1) g kind u p b (stands-small pass y .3) (w .done u j y v c))
             (λ v. by-cases (ℕ-discrete j i)
-            (λ d. let r : u ≡ t = stands-clause (subst (λ j. Stands ws x a u j) d y) s ∙ sym e in subst (λ i. (flags may'' kind i ≢ 0) × (flags may'' kind i ≤ p + 1)) (sym r) (f (subst (λ i. So (holds i)) r c)))
+            (λ d. let r : u ≡ t = stands-clause (subst (λ j. Stands ws x a u j) d y) s ∙ sym e in subst (λ i. Covered may'' kind i p) (sym r) (f (subst (λ i. So (at i)) r c)))
             (λ d. absurd (q .none u j y z (omega arith))));
       }
 
@@ -147,7 +147,7 @@ module _ (ws ms start may may' : List ℕ) (kind p atom : ℕ) (x : Part) (a i :
     raising = w .raising;
     flagged = λ t h.
         let s = kept-stands ws ms x a t (target-lt ws ms (step (kindOf kind) t p atom) h) (c t h) in
-        w .done t (s .0) (s .1) (let v = stands-in (s .1) in omega arith) (asked-of ws ms kind t p atom h);
+        w .done t (s .0) (s .1) (let v = stands-in (s .1) in omega arith) h;
   }
 
 -- ---- a key
@@ -156,7 +156,7 @@ module _ (ws ms may may' : List ℕ) (kind x : ℕ) where
   pub key-atom : So (usesAtom (kindOf kind)) → Spread ws ms may may' kind 0 x → KeySpread ws ms may may' kind x
   key-atom p s = record {
     raising = s .raising;
-    flagged = λ u e d h. (s .flagged (u .target) (subst (λ y. So (applies (getD ws 0 0) (view ws ms) (step (kindOf kind) (u .target) 0 y))) d (by-atom (getD ws 0 0) (view ws ms) u (kindOf kind) e h p)) .0, λ q. absurd (false≢true (sym (atom-alone (kindOf kind) p) ∙ q)));
+    flagged = λ u e d h. (s .flagged (u .target) (subst (λ y. So (applies (getD ws 0 0) (view ws ms) (step (kindOf kind) (u .target) 0 y))) d (by-atom (getD ws 0 0) (view ws ms) u (kindOf kind) e h p)) .0 .0, λ q. absurd (false≢true (sym (atom-alone (kindOf kind) p) ∙ q)));
   }
 
 module _ (ws ms may : List ℕ) (kind x : ℕ) where

@@ -7,11 +7,22 @@ use native.Mathlib.Omega.{arith}
 use native.Mathlib.Decide.{ℕ-discrete, decLt}
 use lib.ListN.{length, getD, set, length-set, List·getD-eq-default}
 use lib.Seq.{getD-set-same, getD-set-other}
-use Rattle.search.specs.Flags.{flags, lowest, highest, Inside, Rows, Raising, Fenced}
+use Rattle.search.specs.Flags.{flags, most, Flagged, Covered, lowest, highest, Inside, Rows, Raising, Fenced}
 
 -- two rows have no place in common
 pub apart : (r s i j : ℕ) → i < 2048 → j < 2048 → r ≢ s → r * 2048 + i ≢ s * 2048 + j
 apart r s i j a b d e = by-cases (decLt r s) (λ x. omega arith) (λ x. by-cases (decLt s r) (λ y. omega arith) (λ y. d (omega arith)))
+
+-- fewer flags between the same bounds
+rows-with : (may may' : List ℕ) → length may' ≡ length may → ((r i : ℕ) → r ≤ 16 → i < 2048 → flags may r i ≡ 0 → flags may' r i ≡ 0) → ((j : ℕ) → 34816 ≤ j → j < 34850 → getD may' j 0 ≡ getD may j 0)
+    → (m : ℕ) → Rows m may → Rows m may'
+rows-with may may' e f s m w = record {
+  long = e ∙ w .long;
+  inside = λ r x y i k g. let q = w .inside r x y i k (λ z. g (f r i y k z)) in
+      (omega (arith, q .0, s (34816 + r) (omega arith) (omega arith)), omega (arith, q .1, s (34833 + r) (omega arith) (omega arith)));
+  high = λ r x y. omega (arith, w .high r x y, s (34833 + r) (omega arith) (omega arith));
+  few = λ r x y. omega (arith, w .few r x y, s (34833 + r) (omega arith) (omega arith));
+}
 
 -- ---- outside the bounds
 
@@ -30,33 +41,33 @@ module _ (may : List ℕ) (row t end : ℕ) (w : Inside may row t end) where
       by-cases (ℕ-discrete i t) (λ d. absurd (f (subst (λ j. flags (set may (row * 2048 + t) 0) row j ≡ 0) (sym d) (getD-set-same may (row * 2048 + t) 0 0 l))))
       (λ d. let q = w i k (λ e. f (getD-set-other may (row * 2048 + t) (row * 2048 + i) 0 0 (λ x. d (omega arith)) ∙ e)) in (omega arith, q .1))
 
--- ---- a flag less
+-- ---- a flag less, or another key for it
 
 pub flag-cleared : (may : List ℕ) (i j : ℕ) → j ≡ i → getD (set may i 0) j 0 ≡ 0
 flag-cleared may i j e = by-cases (decLt i (length may)) (λ k. ap (λ j. getD (set may i 0) j 0) e ∙ getD-set-same may i 0 0 k)
     (λ k. List·getD-eq-default (set may i 0) 0 (let q : length (set may i 0) ≡ length may = simp length-set in omega arith))
 
-module _ (may : List ℕ) (row t : ℕ) (a : row ≤ 16) (l : t < 2048) where
-  pub less-flags : (r i : ℕ) → flags may r i ≡ 0 → flags (set may (row * 2048 + t) 0) r i ≡ 0
+module _ (may : List ℕ) (row t v : ℕ) (a : row ≤ 16) (l : t < 2048) (o : flags may row t ≡ 0 → v ≡ 0) where
+  abbrev other : List ℕ
+  other = set may (row * 2048 + t) v
+
+  less-flags : (r i : ℕ) → flags may r i ≡ 0 → flags other r i ≡ 0
   less-flags r i e = by-cases (ℕ-discrete (r * 2048 + i) (row * 2048 + t))
-      (flag-cleared may (row * 2048 + t) (r * 2048 + i))
-      (λ d. getD-set-other may (row * 2048 + t) (r * 2048 + i) 0 0 d ∙ e)
+      (λ d. subst (λ x. getD (set may (row * 2048 + t) x) (r * 2048 + i) 0 ≡ 0) (sym (o (ap (λ j. getD may j 0) (sym d) ∙ e))) (flag-cleared may (row * 2048 + t) (r * 2048 + i) d))
+      (λ d. getD-set-other may (row * 2048 + t) (r * 2048 + i) v 0 d ∙ e)
 
-  bounds-same : (j : ℕ) → 34816 ≤ j → getD (set may (row * 2048 + t) 0) j 0 ≡ getD may j 0
-  bounds-same j h = getD-set-other may (row * 2048 + t) j 0 0 (λ e. omega arith)
+  bounds-same : (j : ℕ) → 34816 ≤ j → getD other j 0 ≡ getD may j 0
+  bounds-same j h = getD-set-other may (row * 2048 + t) j v 0 (λ e. omega arith)
 
-  pub rows-clear : (m : ℕ) → Rows m may → Rows m (set may (row * 2048 + t) 0)
-  rows-clear m w = record {
-    long = simp length-set (w .long);
-    inside = λ r x y i k f. let q = w .inside r x y i k (λ e. f (less-flags r i e)) in
-        (omega (arith, q .0, bounds-same (34816 + r) (omega arith)), omega (arith, q .1, bounds-same (34833 + r) (omega arith)));
-    high = λ r x y. omega (arith, w .high r x y, bounds-same (34833 + r) (omega arith));
-    few = λ r x y. omega (arith, w .few r x y, bounds-same (34833 + r) (omega arith));
-  }
+  pub rows-set : (m : ℕ) → Rows m may → Rows m other
+  rows-set = rows-with may other (simp length-set) (λ r i x y. less-flags r i) (λ j x y. bounds-same j x)
+
+  pub inside-set : (low end : ℕ) → Inside may row low end → Inside other row low end
+  inside-set low end w i k f = w i k (λ e. f (less-flags row i e))
 
 -- ---- a flag more, and bounds that hold it
 
-module _ (may : List ℕ) (row i v x y : ℕ) (hr : row ≤ 16) (hi : i < 2048) (long : length may ≡ 34850) (pos : 0 < v) where
+module _ (may : List ℕ) (row i v x y : ℕ) (hr : row ≤ 16) (hi : i < 2048) (long : length may ≡ 36898) (pos : 0 < v) where
   abbrev one : List ℕ
   one = set may (row * 2048 + i) v
 
@@ -86,6 +97,9 @@ module _ (may : List ℕ) (row i v x y : ℕ) (hr : row ≤ 16) (hi : i < 2048) 
 
   highest-other : (r : ℕ) → r ≤ 16 → r ≢ row → highest after r ≡ highest may r
   highest-other r a d = getD-set-other (set one (34816 + row) x) (34833 + row) (34833 + r) y 0 (λ e. d (omega arith)) ∙ getD-set-other one (34816 + row) (34833 + r) x 0 (λ e. omega arith) ∙ getD-set-other may (row * 2048 + i) (34833 + r) v 0 (λ e. omega arith)
+
+  most-same : (j : ℕ) → most after j ≡ most may j
+  most-same j = getD-set-other (set one (34816 + row) x) (34833 + row) (34850 + j) y 0 (λ e. omega arith) ∙ getD-set-other one (34816 + row) (34850 + j) x 0 (λ e. omega arith) ∙ getD-set-other may (row * 2048 + i) (34850 + j) v 0 (λ e. omega arith)
 
   module _ (xi : x ≤ i) (xl : x ≤ lowest may row) (iy : i + 1 ≤ y) (hy : highest may row ≤ y) (o : (y ≡ i + 1) ⊎ (y ≡ highest may row)) (less : flags may row i ≢ 0 → v ≤ flags may row i) where
     flag-rows : (m : ℕ) → (1 ≤ row → row ≤ 8 → i + 1 ≤ m) → Rows m may → Rows m after
@@ -125,10 +139,11 @@ module _ (may : List ℕ) (row i v x y : ℕ) (hr : row ≤ 16) (hi : i < 2048) 
           (λ d. omega (arith, flags-other r j a b d));
       frame = λ r j a b d. flags-other r j a b (apart r row j i b hi d);
       rows = flag-rows;
+      more = λ j l. omega (arith, most-same j);
     }
 
 pub raising-none : (may : List ℕ) (row top : ℕ) → Raising may may row top
-raising-none may row top = record { long = refl; grown = λ r i a b e. e; lower = λ r i a b f. omega arith; frame = λ r i a b d. refl; rows = λ m h w. w }
+raising-none may row top = record { long = refl; grown = λ r i a b e. e; lower = λ r i a b f. omega arith; frame = λ r i a b d. refl; rows = λ m h w. w; more = λ i l. omega arith }
 
 pub raising-more : (one two three : List ℕ) (row x y z : ℕ) → x ≤ z → y ≤ z → Raising one two row x → Raising two three row y → Raising one three row z
 raising-more one two three row x y z a b p q = record {
@@ -137,18 +152,44 @@ raising-more one two three row x y z a b p q = record {
   lower = λ r i c d f. let s = p .lower r i c d f in let t = q .lower r i c d (λ e. f (p .grown r i c d e)) in omega arith;
   frame = λ r i c d e. q .frame r i c d e ∙ p .frame r i c d e;
   rows = λ m h w. q .rows m (λ c d. let k = h c d in omega arith) (p .rows m (λ c d. let k = h c d in omega arith) w);
+  more = λ i l. let s = p .more i l in let t = q .more i l in omega arith;
 }
 
 -- those that were set stay
-pub raising-below : (may may' : List ℕ) (row top : ℕ) → Raising may may' row top → (r i k : ℕ) → r ≤ 16 → i < 2048 → (flags may r i ≢ 0) × (flags may r i ≤ k) → (flags may' r i ≢ 0) × (flags may' r i ≤ k)
-raising-below may may' row top g r i k a b f = ((λ e. f .0 (g .grown r i a b e)), (let l = g .lower r i a b (f .0) in omega (arith, f .1)))
+pub raising-flagged : (may may' : List ℕ) (row top : ℕ) → Raising may may' row top → (r i k : ℕ) → r ≤ 16 → i < 2048 → Flagged may r i k → Flagged may' r i k
+raising-flagged may may' row top g r i k a b f = ((λ e. f .0 (g .grown r i a b e)), (let l = g .lower r i a b (f .0) in omega (arith, f .1)))
+
+pub raising-below : (may may' : List ℕ) (row top : ℕ) → Raising may may' row top → (r i k : ℕ) → r ≤ 16 → i < 2048 → Covered may r i k → Covered may' r i k
+raising-below may may' row top g r i k a b f = (raising-flagged may may' row top g r i k a b (f .0), λ e. (let x = f .1 e in let y = g .more i b in omega arith))
 
 pub raising-keeps : (may may' : List ℕ) (row top : ℕ) → Raising may may' row top → (r i : ℕ) → r ≤ 16 → i < 2048 → flags may r i ≢ 0 → flags may' r i ≢ 0
 raising-keeps may may' row top g r i a b f e = f (g .grown r i a b e)
 
+-- ---- a greater partner
+
+module _ (may : List ℕ) (t v : ℕ) (l : t < 2048) (long : length may ≡ 36898) (h : most may t ≤ v) where
+  abbrev raised : List ℕ
+  raised = set may (34850 + t) v
+
+  below-same : (j : ℕ) → j < 34850 → getD raised j 0 ≡ getD may j 0
+  below-same j k = getD-set-other may (34850 + t) j v 0 (λ e. omega arith)
+
+  pub most-there : most raised t ≡ v
+  most-there = getD-set-same may (34850 + t) v 0 (omega arith)
+
+  pub most-raising : (row top : ℕ) → Raising may raised row top
+  most-raising row top = record {
+    long = simp length-set;
+    grown = λ r i a b e. sym (below-same (r * 2048 + i) (omega arith)) ∙ e;
+    lower = λ r i a b f. omega (arith, below-same (r * 2048 + i) (omega arith));
+    frame = λ r i a b d. below-same (r * 2048 + i) (omega arith);
+    rows = λ m z w. rows-with may raised (simp length-set) (λ r i a b e. below-same (r * 2048 + i) (omega arith) ∙ e) (λ j a b. below-same j b) m w;
+    more = λ i k. by-cases (ℕ-discrete i t) (λ d. subst (λ j. most may j ≤ most raised j) (sym d) (omega (arith, most-there))) (λ d. omega (arith, getD-set-other may (34850 + t) (34850 + i) v 0 (λ e. d (omega arith))));
+  }
+
 -- ---- bounds drawn closer
 
-module _ (may : List ℕ) (row x y : ℕ) (hr : row ≤ 16) (long : length may ≡ 34850) where
+module _ (may : List ℕ) (row x y : ℕ) (hr : row ≤ 16) (long : length may ≡ 36898) where
   abbrev drawn : List ℕ
   drawn = set (set may (34816 + row) x) (34833 + row) y
 
@@ -179,10 +220,10 @@ module _ (may : List ℕ) (row x y : ℕ) (hr : row ≤ 16) (long : length may �
   }
 
   pub drawn-closer : Fenced may drawn row x y
-  drawn-closer = record { long = simp length-set; same = drawn-same; rows = drawn-rows }
+  drawn-closer = record { long = simp length-set; same = drawn-same; rows = drawn-rows; more = λ i l. omega (arith, drawn-other (34850 + i) (λ e. omega arith) (λ e. omega arith)) }
 
 -- an empty row
-pub drawn-empty : (may : List ℕ) (row low end : ℕ) → row ≤ 16 → length may ≡ 34850 → end ≤ low → Fenced may (set (set may (34816 + row) 2048) (34833 + row) 0) row low end
+pub drawn-empty : (may : List ℕ) (row low end : ℕ) → row ≤ 16 → length may ≡ 36898 → end ≤ low → Fenced may (set (set may (34816 + row) 2048) (34833 + row) 0) row low end
 drawn-empty may row low end a l h =
     let f = drawn-closer may row 2048 0 a l in
-    record { long = f .long; same = f .same; rows = λ m w n e g. f .rows m w (λ i k q. let z = n i k q in absurd (omega arith)) (omega arith) (λ _. omega arith) }
+    record { long = f .long; same = f .same; rows = λ m w n e g. f .rows m w (λ i k q. let z = n i k q in absurd (omega arith)) (omega arith) (λ _. omega arith); more = f .more }

@@ -1,24 +1,24 @@
 -- A key spread target by target.
 use mathlib.Core.Path.{_≡_, sym, ap, subst, _∙_}
-use mathlib.Core.Logic.{_≢_, by-cases}
-use mathlib.Core.Bool.{Bool, true, false, cond, _&&_, not, So, false≢true}
+use mathlib.Core.Logic.{by-cases}
+use mathlib.Core.Bool.{Bool, false, cond, _&&_, not, So, false≢true}
 use mathlib.Core.List.{List}
 use Prim.Native.Nat.{ℕ, _+_, _≤_, _<_}
 use native.Mathlib.Omega.{arith}
 use native.Mathlib.Decide.{ℕ-discrete}
 use lib.Dec.{eqb, ltb}
 use lib.ListN.{getD}
-use borrow.Author.Tests.{eqb-true}
+use borrow.Author.Tests.{eqb-true, eq-eqb}
 use Rattle.semantics.proofs.Tests.{not-so, and-iff}
-use Rattle.rewriting.specs.Marked.{Marked, entry, left}
-use Rattle.rewriting.specs.Steps.{Kind, Step, step, kindOf, usesPartner, usesAtom, condition, conditionHolds, applies}
+use Rattle.rewriting.specs.Marked.{Marked, entry}
+use Rattle.rewriting.specs.Steps.{Kind, subsumed, Step, step, kindOf, usesPartner, usesAtom, conditionHolds, applies}
 use Rattle.rewriting.proofs.Left.{kept-lt}
 use Rattle.rewriting.proofs.Order.{atom-alone, partner-alone}
 use Rattle.rewriting.proofs.Quiet.{key}
 use Rattle.rewriting.proofs.Sound.{applies-ask}
 use Rattle.table.specs.View.{view}
 use Rattle.table.proofs.View.{length-view}
-use Rattle.search.specs.Flags.{flags, Raising, AllFlagged}
+use Rattle.search.specs.Flags.{Covered, Raising, AllFlagged}
 use Rattle.search.specs.State.{Spread, KeySpread}
 use Rattle.search.proofs.Flags.{raising-none, raising-more, raising-below}
 use Rattle.search.proofs.States.{target-lt}
@@ -47,37 +47,33 @@ module _ (n : ℕ) (P : Marked) (u : Step) (k : Kind) (e : u .kind ≡ k) (h : S
 
 -- ---- one target after the other
 
+-- no clause is its own partner
+pub itself-not : (n : ℕ) (P : Marked) (kind t p a : ℕ) → (kind ≡ 8) × (p ≡ t) → ¬ So (applies n P (step (kindOf kind) t p a))
+itself-not n P kind t p a (e, d) h =
+    let w = applies-ask n P (step subsumed t p a) (subst (λ k. So (applies n P (step (kindOf k) t p a))) e h) .1 in
+    not-so (ap not (eq-eqb p t d)) (and-iff (entry P p .kept) (not (eqb p t)) .0 w .1)
+
 -- the targets below t are done
 pub record Spreading (ws ms may may' : List ℕ) (kind p a t : ℕ) : Type 0 where
   pub raising : Raising may may' kind (getD ws 1 0)
-  pub flagged : (j : ℕ) → j < t → So (condition (kindOf kind) (left (view ws ms)) (entry (view ws ms) j .clause) (entry (view ws ms) p .clause) a) → (flags may' kind j ≢ 0) × (flags may' kind j ≤ p + 1)
+  pub flagged : (j : ℕ) → j < t → So (applies (getD ws 0 0) (view ws ms) (step (kindOf kind) j p a)) → Covered may' kind j p
 
 pub spreading-none : (ws ms may : List ℕ) (kind p a : ℕ) → Spreading ws ms may may kind p a 0
 spreading-none ws ms may kind p a = record { raising = raising-none may kind (getD ws 1 0); flagged = λ j l. absurd (omega arith) }
 
 module _ (ws ms may may' : List ℕ) (kind p a t : ℕ) (s : Spreading ws ms may may' kind p a t) where
-  abbrev holds : ℕ → Bool
-  holds j = condition (kindOf kind) (left (view ws ms)) (entry (view ws ms) j .clause) (entry (view ws ms) p .clause) a
+  abbrev at : ℕ → Bool
+  at j = applies (getD ws 0 0) (view ws ms) (step (kindOf kind) j p a)
 
-  pub spreading-past : holds t ≡ false → Spreading ws ms may may' kind p a (t + 1)
-  spreading-past e = record {
-    raising = s .raising;
-    flagged = λ j l h. by-cases (ℕ-discrete j t) (λ d. absurd (not-so e (subst (λ i. So (holds i)) d h))) (λ d. s .flagged j (omega arith) h);
-  }
-
-  pub spreading-on : (may'' : List ℕ) → kind ≤ 16 → t < 2048 → t < getD ws 1 0 → Raising may' may'' kind (t + 1) → (flags may'' kind t ≢ 0) × (flags may'' kind t ≤ p + 1) → Spreading ws ms may may'' kind p a (t + 1)
-  spreading-on may'' b l h g f = record {
+  pub spreading-on : (may'' : List ℕ) → kind ≤ 16 → t < 2048 → t < getD ws 1 0 → Raising may' may'' kind (t + 1) × (So (at t) → Covered may'' kind t p) → Spreading ws ms may may'' kind p a (t + 1)
+  spreading-on may'' b l h (g, f) = record {
     raising = raising-more may may' may'' kind (getD ws 1 0) (t + 1) (getD ws 1 0) (omega arith) (omega arith) (s .raising) g;
-    flagged = λ j k q. by-cases (ℕ-discrete j t) (λ d. subst (λ i. (flags may'' kind i ≢ 0) × (flags may'' kind i ≤ p + 1)) (sym d) f)
-        (λ d. raising-below may' may'' kind (t + 1) g kind j (p + 1) b (omega arith) (s .flagged j (omega arith) q));
+    flagged = λ j k q. by-cases (ℕ-discrete j t) (λ d. subst (λ i. Covered may'' kind i p) (sym d) (f (subst (λ i. So (at i)) d q)))
+        (λ d. raising-below may' may'' kind (t + 1) g kind j p b (omega arith) (s .flagged j (omega arith) q));
   }
 
   pub spreading-all : getD ws 1 0 ≤ t → Spread ws ms may may' kind p a
-  unfolding condition
-  spreading-all l = record {
-    raising = s .raising;
-    flagged = λ j h. s .flagged j (omega (arith, target-lt ws ms (step (kindOf kind) j p a) h)) (applies-ask (getD ws 0 0) (view ws ms) (step (kindOf kind) j p a) h .2);
-  }
+  spreading-all l = record { raising = s .raising; flagged = λ j h. s .flagged j (omega (arith, target-lt ws ms (step (kindOf kind) j p a) h)) h }
 
 -- ---- a key
 
@@ -85,21 +81,20 @@ module _ (ws ms may may' : List ℕ) (kind x : ℕ) where
   pub key-partner : So (usesPartner (kindOf kind)) → Spread ws ms may may' kind x 0 → KeySpread ws ms may may' kind x
   key-partner p s = record {
     raising = s .raising;
-    flagged = λ u e d h. let w = s .flagged (u .target) (subst (λ y. So (applies (getD ws 0 0) (view ws ms) (step (kindOf kind) (u .target) y 0))) d (by-partner (getD ws 0 0) (view ws ms) u (kindOf kind) e h p)) in (w .0, λ _. w .1);
+    flagged = λ u e d h. let w = s .flagged (u .target) (subst (λ y. So (applies (getD ws 0 0) (view ws ms) (step (kindOf kind) (u .target) y 0))) d (by-partner (getD ws 0 0) (view ws ms) u (kindOf kind) e h p)) in (w .0 .0, λ _. w);
   }
 
   pub key-all : usesPartner (kindOf kind) ≡ false → Raising may may' kind (getD ws 1 0) → AllFlagged may' kind (getD ws 1 0) → KeySpread ws ms may may' kind x
   key-all n g f = record { raising = g; flagged = λ u e d h. (f (u .target) (target-lt ws ms u h), λ p. absurd (false≢true (sym n ∙ p))) }
 
 -- a number that is no clause's is no partner
+pub partner-lt : (ws ms : List ℕ) (k : Kind) (t p : ℕ) → So (usesPartner k) → So (applies (getD ws 0 0) (view ws ms) (step k t p 0)) → p < getD ws 1 0
+partner-lt ws ms k t p u h =
+    let v = subst (λ b. So (cond b (entry (view ws ms) p .kept && not (eqb p t)) (eqb p 0))) u (applies-ask (getD ws 0 0) (view ws ms) (step k t p 0) h .1) in
+    omega (arith, kept-lt (view ws ms) p (and-iff (entry (view ws ms) p .kept) (not (eqb p t)) .0 v .0), length-view ws ms)
+
 pub key-none : (ws ms may : List ℕ) (kind x : ℕ) → So (usesPartner (kindOf kind)) → getD ws 1 0 ≤ x → KeySpread ws ms may may kind x
 key-none ws ms may kind x p l = record {
   raising = raising-none may kind (getD ws 1 0);
-  flagged = λ u e d h. absurd (let q = no-partner u e d h in omega arith);
+  flagged = λ u e d h. absurd (let q = partner-lt ws ms (kindOf kind) (u .target) (key u) p (by-partner (getD ws 0 0) (view ws ms) u (kindOf kind) e h p) in omega arith);
 }
-  where
-    no-partner : (u : Step) → u .kind ≡ kindOf kind → key u ≡ x → So (applies (getD ws 0 0) (view ws ms) u) → x < getD ws 1 0
-    no-partner u e d h =
-        let w = applies-ask (getD ws 0 0) (view ws ms) (step (kindOf kind) (u .target) x 0) (subst (λ y. So (applies (getD ws 0 0) (view ws ms) (step (kindOf kind) (u .target) y 0))) d (by-partner (getD ws 0 0) (view ws ms) u (kindOf kind) e h p)) .1 in
-        let v = subst (λ b. So (cond b (entry (view ws ms) x .kept && not (eqb x (u .target))) (eqb x 0))) p w in
-        omega (arith, kept-lt (view ws ms) x (and-iff (entry (view ws ms) x .kept) (not (eqb x (u .target))) .0 v .0), length-view ws ms)

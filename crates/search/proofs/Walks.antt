@@ -6,11 +6,11 @@ use mathlib.Core.List.{List, _∷_}
 use mathlib.Core.Option.{none, some}
 use Prim.Native.Nat.{ℕ, zero, suc, _+_, _-_, _*_, _≤_, _<_}
 use native.Mathlib.Omega.{arith}
-use native.Mathlib.Decide.{ℕ-discrete}
+use native.Mathlib.Decide.{ℕ-discrete, decLt}
 use native.Mathlib.Numerals.{add-one}
 use lib.Dec.{eqb}
 use lib.ListN.{getD, set}
-use lib.Seq.{getD-set-other}
+use lib.Seq.{getD-set-same, getD-set-other}
 use borrow.Author.Tests.{eq-eqb, ne-eqb}
 use Rattle.semantics.specs.Lists.{_∈_, ascending}
 use Rattle.semantics.specs.Programs.{Clause}
@@ -20,7 +20,8 @@ use Rattle.rewriting.specs.Steps.{kindOf, Step, step, inNoHead, applies}
 use Rattle.rewriting.specs.Reducer.{firstPartner, firstTarget}
 use Rattle.rewriting.proofs.Counts.{heads, heads-none}
 use Rattle.rewriting.proofs.Order.{firstIn, asked, walked, atom-first, target-gone, partner-end, partner-hit, Before, search-end, search-hit}
-use Rattle.rewriting.proofs.Quiet.{stale, key, quiet-clear, quiet-target}
+use Rattle.rewriting.proofs.Sound.{applies-ask}
+use Rattle.rewriting.proofs.Quiet.{stale, key, quiet-more, quiet-clear, quiet-target}
 use Rattle.table.specs.View.{part, view}
 use Rattle.table.proofs.View.{length-view}
 use Rattle.table.proofs.Parts.{Straight, view-straight, part-slice}
@@ -33,11 +34,12 @@ use Rattle.conditions.specs.Known.{headCount}
 use Rattle.search.specs.declared.Found.{Found}
 use Rattle.search.specs.declared.Found.the-variants.{One, Nothing}
 use Rattle.conditions.specs.declared.Step as row
-use Rattle.search.specs.Flags.{flags, Inside}
+use Rattle.search.specs.Flags.{flags, most, Inside}
 use Rattle.search.specs.Kinds.{PartnerKind, AtomKind, walkedPart}
 use Rattle.search.specs.State.{foundOf, stoppedAt, Calm, Swept, Walk, Partners}
 use Rattle.search.proofs.Fits.{kind-number, words-below}
-use Rattle.search.proofs.Flags.{outside, rows-clear, flag-cleared}
+use Rattle.search.proofs.Flags.{outside, rows-set, flag-cleared}
+use Rattle.search.proofs.Spreads.{by-partner, partner-lt}
 
 -- ---- kinds with an atom, by their numbers
 
@@ -136,20 +138,28 @@ module _ (ws ms : List ℕ) (kind t i e : ℕ) (w : Walk ws ms kind t i e) where
 
 -- ---- the walk of the partners
 
-pub partners-kept : (ws ms : List ℕ) (t m : ℕ) → m ≡ getD ws 1 0 → entry (view ws ms) t .kept ≡ true → Partners ws ms t m
-partners-kept ws ms t m e k = record { most = omega arith; kept = λ _. k; all = λ _. e }
+module _ (ws ms : List ℕ) (kind t : ℕ) (k : PartnerKind kind) where
+  pub partners-kept : (m : ℕ) → m ≡ getD ws 1 0 → entry (view ws ms) t .kept ≡ true → Partners ws ms kind t m
+  partners-kept m e y = record { most = omega arith; kept = λ _. y; all = λ p h. omega (arith, partner-lt ws ms (kindOf kind) t p (k .uses) h) }
 
-pub partners-gone : (ws ms : List ℕ) (t : ℕ) → entry (view ws ms) t .kept ≡ false → Partners ws ms t 0
-partners-gone ws ms t k = record { most = omega arith; kept = λ z. absurd (omega arith); all = λ q. absurd (not-so k q) }
+  -- kind 3: none is above the greatest
+  pub partners-most : (may : List ℕ) (e m : ℕ) → kind ≡ 3 → Calm ws ms may kind → m ≡ getD ws 1 0 → e ≤ m → (e ≡ m) ⊎ (e ≡ most may t) → entry (view ws ms) t .kept ≡ true → Partners ws ms kind t e
+  partners-most may e m three c q l o y = record {
+    most = omega arith;
+    kept = λ _. y;
+    all = λ p h. ⊎-elim (λ d. omega (arith, partner-lt ws ms (kindOf kind) t p (k .uses) h)) (λ d. let v = c .bounded three (step (kindOf kind) t p 0) (ap kindOf three) refl h in
+        let w : key (step (kindOf kind) t p 0) ≡ p = ap (λ b. cond b p 0) (k .uses) in omega (arith, v, w, d)) o;
+  }
 
-module _ (ws ms : List ℕ) (kind t e : ℕ) (q : Partners ws ms t e) (k : PartnerKind kind) where
+  pub partners-gone : entry (view ws ms) t .kept ≡ false → Partners ws ms kind t 0
+  partners-gone y = record { most = omega arith; kept = λ z. absurd (omega arith); all = λ p h. absurd (not-so y (applies-ask (getD ws 0 0) (view ws ms) (step (kindOf kind) t p 0) h .0)) }
+
+module _ (ws ms : List ℕ) (kind t e : ℕ) (q : Partners ws ms kind t e) (k : PartnerKind kind) where
   abbrev applies-at : ℕ → Bool
   applies-at p = applies (getD ws 0 0) (view ws ms) (step (kindOf kind) t p 0)
 
   pub partners-none : ((p : ℕ) → p < e → applies-at p ≡ false) → firstPartner (getD ws 0 0) (view ws ms) (kindOf kind) t ≡ none
-  partners-none h = by-cases (so-dec (entry (view ws ms) t .kept))
-      (λ y. partner-end (getD ws 0 0) (view ws ms) (kindOf kind) t (k .uses) (λ p l. h p (omega (arith, q .all y, length-view ws ms))))
-      (λ y. target-gone (getD ws 0 0) (view ws ms) (kindOf kind) t y)
+  partners-none h = partner-end (getD ws 0 0) (view ws ms) (kindOf kind) t (k .uses) (λ p l. so-false _ (λ y. not-so (h p (q .all p y)) y))
 
   pub partners-hit : (p : ℕ) → p < e → ((i : ℕ) → i < p → applies-at i ≡ false) → applies-at p ≡ true
       → firstPartner (getD ws 0 0) (view ws ms) (kindOf kind) t ≡ some (step (kindOf kind) t p 0)
@@ -165,19 +175,53 @@ module _ (ws ms may may' : List ℕ) (kind : ℕ) (s : Swept ws ms may may' kind
   pub swept-over : (t : ℕ) → getD may' (kind * 2048 + t) 0 ≡ 0 → firstPartner (getD ws 0 0) (view ws ms) (kindOf kind) t ≡ none
   swept-over t e = quiet-target (getD ws 0 0) (view ws ms) (kindOf kind) (flags may' kind) stale (s .calm .quiet) (λ x. refl) t e
 
+  swept-frame : (t v : ℕ) → t < 2048 → (j : ℕ) → (j < kind * 2048) ⊎ (kind * 2048 + 2048 ≤ j) → getD (set may' (kind * 2048 + t) v) j 0 ≡ getD may j 0
+  swept-frame t v l j o = getD-set-other may' (kind * 2048 + t) j v 0 (λ z. ⊎-elim (λ x. omega arith) (λ x. omega arith) o) ∙ s .frame j o
+
+  most-same : (t v i : ℕ) → kind ≤ 16 → t < 2048 → most (set may' (kind * 2048 + t) v) i ≡ most may' i
+  most-same t v i h l = getD-set-other may' (kind * 2048 + t) (34850 + i) v 0 (λ z. omega arith)
+
   -- a target that has no step loses its flag
   pub swept-clear : kind ≤ 16 → (t : ℕ) → t < 2048 → firstPartner (getD ws 0 0) (view ws ms) (kindOf kind) t ≡ none → Swept ws ms may (set may' (kind * 2048 + t) 0) kind
   swept-clear h t l e = record {
     calm = record {
-      rows = rows-clear may' kind t h l (getD ws 1 0) (s .calm .rows);
+      rows = rows-set may' kind t 0 h l (λ _. refl) (getD ws 1 0) (s .calm .rows);
       quiet = quiet-clear (getD ws 0 0) (view ws ms) (kindOf kind) (flags may' kind) stale (s .calm .quiet) (flags (set may' (kind * 2048 + t) 0) kind) t
           (λ i d z. sym (getD-set-other may' (kind * 2048 + t) (kind * 2048 + i) 0 0 (λ q. d (omega arith))) ∙ z) e;
       least = λ p u f g y. let v = s .calm .least p u f g y in by-cases (ℕ-discrete (u .target) t)
           (λ d. let w = flag-cleared may' (kind * 2048 + t) (kind * 2048 + u .target) (let z : kind * 2048 + u .target ≡ kind * 2048 + t = omega arith in z) in omega (arith, w))
           (λ d. omega (arith, getD-set-other may' (kind * 2048 + t) (kind * 2048 + u .target) 0 0 (λ q. d (omega arith)), v));
+      bounded = λ d u f g y. omega (arith, most-same t 0 (u .target) h l, s .calm .bounded d u f g y);
     };
-    frame = λ j o. getD-set-other may' (kind * 2048 + t) j 0 0 (λ z. ⊎-elim (λ x. omega arith) (λ x. omega arith) o) ∙ s .frame j o;
+    frame = swept-frame t 0 l;
   }
+
+  -- the flag of a target goes up to the first partner that it has a step with
+  pub swept-later : PartnerKind kind → (t p : ℕ) → t < 2048 → flags may' kind t ≢ 0 → ((q : ℕ) → q < p → applies (getD ws 0 0) (view ws ms) (step (kindOf kind) t q 0) ≡ false)
+      → Swept ws ms may (set may' (kind * 2048 + t) (p + 1)) kind
+  swept-later k t p l f b = record {
+    calm = record {
+      rows = rows-set may' kind t (p + 1) (let h = k .high in omega arith) l (λ e. absurd (f e)) (getD ws 1 0) (s .calm .rows);
+      quiet = quiet-more (getD ws 0 0) (view ws ms) (kindOf kind) (flags may' kind) stale (s .calm .quiet) (flags after kind) stale
+          (λ i z. by-cases (ℕ-discrete i t) (λ d. absurd (let q = at i d in omega arith)) (λ d. sym (beside i d) ∙ z)) (λ i z. z);
+      least = λ y u g h v. by-cases (ℕ-discrete (u .target) t)
+          (λ d. let q = at (u .target) d in by-cases (decLt (key u) p)
+          (λ x. absurd (not-so (b (key u) x) (subst (λ i. So (applies (getD ws 0 0) (view ws ms) (step (kindOf kind) i (key u) 0))) d (by-partner (getD ws 0 0) (view ws ms) u (kindOf kind) g v y))))
+          (λ x. omega (arith, q)))
+          (λ d. omega (arith, beside (u .target) d, s .calm .least y u g h v));
+      bounded = λ d u g h y. omega (arith, most-same t (p + 1) (u .target) (let z = k .high in omega arith) l, s .calm .bounded d u g h y);
+    };
+    frame = swept-frame t (p + 1) l;
+  }
+    where
+      after : List ℕ
+      after = set may' (kind * 2048 + t) (p + 1)
+
+      at : (i : ℕ) → i ≡ t → flags after kind i ≡ p + 1
+      at i d = ap (λ j. getD after (kind * 2048 + j) 0) d ∙ getD-set-same may' (kind * 2048 + t) (p + 1) 0 (omega (arith, s .calm .rows .long, k .high))
+
+      beside : (i : ℕ) → i ≢ t → flags after kind i ≡ flags may' kind i
+      beside i d = getD-set-other may' (kind * 2048 + t) (kind * 2048 + i) (p + 1) 0 (λ q. d (omega arith))
 
   module _ (t end : ℕ) (w : Inside may' kind t end) (few : getD ws 1 0 ≤ 2048) where
     -- the targets before the row's first flag have no step

@@ -7,7 +7,7 @@ use mathlib.Core.Option.{Option, none, some}
 use Prim.Native.Nat.{ℕ, _+_, _-_, _*_, _≤_, _<_}
 use lib.ListN.{length, getD}
 use Rattle.rewriting.specs.Marked.{entry, left}
-use Rattle.rewriting.specs.Steps.{Kind, loop, number, kindOf, usesPartner, Step, step, applies}
+use Rattle.rewriting.specs.Steps.{Kind, success, loop, number, kindOf, usesPartner, Step, step, applies}
 use Rattle.rewriting.specs.Reducer.{firstPartner}
 use Rattle.rewriting.proofs.Order.{firstIn, asked}
 use Rattle.rewriting.proofs.Quiet.{Quiet, stale, key}
@@ -19,7 +19,7 @@ use Rattle.reach.specs.Bytes.{Reached}
 use Rattle.conditions.specs.Known.{Heads}
 use Rattle.search.specs.declared.Found.{Found}
 use Rattle.search.specs.declared.Found.the-variants.{One, Nothing}
-use Rattle.search.specs.Flags.{flags, Rows, Raising}
+use Rattle.search.specs.Flags.{flags, most, Covered, Rows, Raising}
 
 -- a step as the search gives it
 unfoldable pub foundOf : Option Step → Found
@@ -36,10 +36,15 @@ pub record Arrays (ws ms start hs rs : List ℕ) (kind : ℕ) : Type 0 where
 abbrev pub Least : List ℕ → List ℕ → Kind → (ℕ → ℕ) → (ℕ → ℕ) → Type 0
 Least ws ms k may fresh = So (usesPartner k) → (u : Step) → u .kind ≡ k → fresh (key u) ≡ 0 → So (applies (getD ws 0 0) (view ws ms) u) → may (u .target) ≤ key u + 1
 
+-- The partner of a step of kind 3 whose key is not fresh is below a bound of the target.
+abbrev pub Most : List ℕ → List ℕ → (ℕ → ℕ) → (ℕ → ℕ) → Type 0
+Most ws ms top fresh = (u : Step) → u .kind ≡ success → fresh (key u) ≡ 0 → So (applies (getD ws 0 0) (view ws ms) u) → key u + 1 ≤ top (u .target)
+
 -- A target of the kind without a flag has no step.
 pub record Calm (ws ms may : List ℕ) (kind : ℕ) : Type 0 where
   pub rows : Rows (getD ws 1 0) may
   pub least : Least ws ms (kindOf kind) (flags may kind) stale
+  pub bounded : kind ≡ 3 → Most ws ms (most may) stale
   pub quiet : Quiet (getD ws 0 0) (view ws ms) (kindOf kind) (flags may kind) stale
 
 -- A search of the kind cleared flags of its own, and nothing else changed.
@@ -61,10 +66,10 @@ pub record Walk (ws ms : List ℕ) (kind t i e : ℕ) : Type 0 where
       ≡ firstPartner (getD ws 0 0) (view ws ms) (kindOf kind) t
 
 -- The partners below e are all that the target t can have.
-pub record Partners (ws ms : List ℕ) (t e : ℕ) : Type 0 where
+pub record Partners (ws ms : List ℕ) (kind t e : ℕ) : Type 0 where
   pub most : e ≤ getD ws 1 0
   pub kept : 0 < e → So (entry (view ws ms) t .kept)
-  pub all : So (entry (view ws ms) t .kept) → e ≡ getD ws 1 0
+  pub all : (p : ℕ) → So (applies (getD ws 0 0) (view ws ms) (step (kindOf kind) t p 0)) → p < e
 
 -- Every target that has a step with the partner p and the atom has atom a in a part.
 abbrev pub Clue : List ℕ → List ℕ → ℕ → ℕ → ℕ → Part → ℕ → Type 0
@@ -77,12 +82,12 @@ NoPartner ws ms kind p = (t : ℕ) → ¬ So (applies (getD ws 0 0) (view ws ms)
 -- Every target that has a step with the partner p and the atom is flagged.
 pub record Spread (ws ms may may' : List ℕ) (kind p a : ℕ) : Type 0 where
   pub raising : Raising may may' kind (getD ws 1 0)
-  pub flagged : (t : ℕ) → So (applies (getD ws 0 0) (view ws ms) (step (kindOf kind) t p a)) → (flags may' kind t ≢ 0) × (flags may' kind t ≤ p + 1)
+  pub flagged : (t : ℕ) → So (applies (getD ws 0 0) (view ws ms) (step (kindOf kind) t p a)) → Covered may' kind t p
 
 -- The same by the key: what a step names beside its target, the partner or the atom.
 pub record KeySpread (ws ms may may' : List ℕ) (kind x : ℕ) : Type 0 where
   pub raising : Raising may may' kind (getD ws 1 0)
-  pub flagged : (u : Step) → u .kind ≡ kindOf kind → key u ≡ x → So (applies (getD ws 0 0) (view ws ms) u) → (flags may' kind (u .target) ≢ 0) × (So (usesPartner (kindOf kind)) → flags may' kind (u .target) ≤ x + 1)
+  pub flagged : (u : Step) → u .kind ≡ kindOf kind → key u ≡ x → So (applies (getD ws 0 0) (view ws ms) u) → (flags may' kind (u .target) ≢ 0) × (So (usesPartner (kindOf kind)) → Covered may' kind (u .target) x)
 
 -- no key of the kind is fresh
 abbrev pub Settled : List ℕ → ℕ → Type 0
@@ -99,6 +104,7 @@ pub record State (ws ms start hs rs may : List ℕ) : Type 0 where
   pub reached : flags may 0 0 ≡ 0 → Reached ws ms rs
   pub quiet : (k : Kind) → (k ≡ loop → flags may 0 0 ≡ 0) → Quiet (getD ws 0 0) (view ws ms) k (flags may (number k)) (flags may (8 + number k))
   pub least : (k : Kind) → Least ws ms k (flags may (number k)) (flags may (8 + number k))
+  pub bounded : Most ws ms (most may) (flags may 11)
 
 -- One key is no longer fresh, and the others stay as they were.
 pub record KeyPassed (ws ms start hs rs may may' : List ℕ) (kind x : ℕ) : Type 0 where

@@ -11,7 +11,7 @@ ghost use Rattle.table.specs.View.{view, kept-of};
 ghost use Rattle.parts.specs.Parts.{partOf, Ready};
 ghost use Rattle.search.specs.Stamps.{stamped, isStamped, allStamped, Stamps, Below};
 ghost use mathlib.Core.Logic.{_≢_, _⊎_};
-ghost use Rattle.search.specs.Flags.{flags, lowest, highest, Inside, Raising, AllFlagged, Fenced};
+ghost use Rattle.search.specs.Flags.{flags, most, Flagged, Covered, lowest, highest, Inside, Raising, AllFlagged, Fenced};
 ghost use Rattle.rewriting.specs.Reducer.{firstTarget};
 ghost use Rattle.rewriting.proofs.Order.{asked, walked};
 ghost use mathlib.Core.Bool.{true, false};
@@ -236,12 +236,14 @@ fn asks_heads(kind: u16) -> bool
 
 // ---- flags: a row for each kind's targets, then for each kind's keys
 
-// Where the rows' bounds stand, and the length of all.
+// Where the rows' bounds stand, where the greatest partners of kind 3, and the length of all.
 const LOWEST: usize = 34816;
 
 const HIGHEST: usize = 34833;
 
-pub const FLAGS: usize = 34850;
+const MOST: usize = 34850;
+
+pub const FLAGS: usize = 36898;
 
 fn lesser(a: usize, b: usize) -> usize
     ensures { λ r. ⌜ (r ≤ a) × ((r ≤ b) × ((r ≡ a) ⊎ (r ≡ b))) ⌝ }
@@ -268,8 +270,8 @@ fn least_key(old: usize, key: usize) -> usize
 
 // One flag more, or a lesser key for it, within the row's bounds.
 pub fn flag(may: &mut [u16], row: usize, i: usize, key: usize)
-    requires { ⌜ (row ≤ 16) × ((i < 2048) × ((key < 2048) × (length (now may) ≡ 34850))) ⌝ }
-    ensures { λ _. ⌜ Raising (now (may .entry)) (now (may .exit)) row (i + 1) × ((flags (now (may .exit)) row i ≢ 0) × (flags (now (may .exit)) row i ≤ key + 1)) ⌝ }
+    requires { ⌜ (row ≤ 16) × ((i < 2048) × ((key < 2048) × (length (now may) ≡ 36898))) ⌝ }
+    ensures { λ _. ⌜ Raising (now (may .entry)) (now (may .exit)) row (i + 1) × Flagged (now (may .exit)) row i key ⌝ }
 {
     let low = lesser(i, table::wide(may[LOWEST + row]));
     let high = greater(i + 1, table::wide(may[HIGHEST + row]));
@@ -281,7 +283,7 @@ pub fn flag(may: &mut [u16], row: usize, i: usize, key: usize)
 
 // Every place of a row below a number is flagged.
 pub fn flag_all(may: &mut [u16], row: usize, top: usize)
-    requires { ⌜ (row ≤ 16) × ((top ≤ 2048) × (length (now may) ≡ 34850)) ⌝ }
+    requires { ⌜ (row ≤ 16) × ((top ≤ 2048) × (length (now may) ≡ 36898)) ⌝ }
     ensures { λ _. ⌜ Raising (now (may .entry)) (now (may .exit)) row top × AllFlagged (now (may .exit)) row top ⌝ }
 {
     for i in 0..top {
@@ -290,14 +292,14 @@ pub fn flag_all(may: &mut [u16], row: usize, top: usize)
 }
 
 fn lowest_of(may: &[u16], row: usize) -> usize
-    requires { ⌜ (row ≤ 16) × (length (now may) ≡ 34850) ⌝ }
+    requires { ⌜ (row ≤ 16) × (length (now may) ≡ 36898) ⌝ }
     ensures { λ r. ⌜ r ≡ lowest (now (may .entry)) row ⌝ }
 {
     table::wide(may[LOWEST + row])
 }
 
 fn highest_of(may: &[u16], row: usize) -> usize
-    requires { ⌜ (row ≤ 16) × (length (now may) ≡ 34850) ⌝ }
+    requires { ⌜ (row ≤ 16) × (length (now may) ≡ 36898) ⌝ }
     ensures { λ r. ⌜ r ≡ highest (now (may .entry)) row ⌝ }
 {
     table::wide(may[HIGHEST + row])
@@ -305,7 +307,7 @@ fn highest_of(may: &[u16], row: usize) -> usize
 
 // A row's bounds.
 fn bound(may: &mut [u16], row: usize, low: usize, end: usize)
-    requires { ⌜ (row ≤ 16) × ((length (now may) ≡ 34850) × ((low ≤ 2048) × (end ≤ 2048))) ⌝ }
+    requires { ⌜ (row ≤ 16) × ((length (now may) ≡ 36898) × ((low ≤ 2048) × (end ≤ 2048))) ⌝ }
     ensures { λ _. ⌜ now (may .exit) ≡ set (set (now (may .entry)) (34816 + row) low) (34833 + row) end ⌝ }
 {
     may[LOWEST + row] = narrow(low);
@@ -314,7 +316,7 @@ fn bound(may: &mut [u16], row: usize, low: usize, end: usize)
 
 // A row's bounds are drawn closer.
 fn fence(may: &mut [u16], row: usize, low: usize, end: usize)
-    requires { ⌜ (row ≤ 16) × ((length (now may) ≡ 34850) × (end ≤ 2048)) ⌝ }
+    requires { ⌜ (row ≤ 16) × ((length (now may) ≡ 36898) × (end ≤ 2048)) ⌝ }
     ensures { λ _. ⌜ Fenced (now (may .entry)) (now (may .exit)) row low end ⌝ }
 {
     if end <= low {
@@ -431,19 +433,23 @@ pub fn first_by_atom(
 
 // ---- the search of a kind with a partner
 
-// How many partners the search tries for the target t: none where it is gone.
-fn partners(words: &[u16], marks: &[u8], start: &[u16], t: usize) -> usize
-    requires { ⌜ (Ready (now words) (now marks) (now start)) × (t < getD (now words) 1 0) ⌝ }
-    ensures { λ r. ⌜ Partners (now (words .entry)) (now (marks .entry)) t r ⌝ }
+// The partners that the search tries for the target t end here: none where it is gone, and for kind 3 up to the greatest.
+fn partners(words: &[u16], marks: &[u8], start: &[u16], may: &[u16], kind: u16, t: usize) -> usize
+    requires { ⌜ (Ready (now words) (now marks) (now start)) × ((t < getD (now words) 1 0) × ((PartnerKind kind) × Calm (now words) (now marks) (now may) kind)) ⌝ }
+    ensures { λ r. ⌜ Partners (now (words .entry)) (now (marks .entry)) kind t r ⌝ }
 {
-    if parts::kept(words, marks, start, t) {
-        table::wide(words[1])
-    } else {
-        0
+    if !parts::kept(words, marks, start, t) {
+        return 0;
     }
+    let m = table::wide(words[1]);
+    if kind != 3 {
+        return m;
+    }
+    lesser(m, table::wide(may[MOST + t]))
 }
 
 // The smallest step of a kind with a partner, in the same way; the target's atoms are stamped for the tests.
+// The flag of the target found goes up to the partner found: none before it makes a step.
 pub fn first_by_partner(
     words: &[u16],
     marks: &[u8],
@@ -462,10 +468,11 @@ pub fn first_by_partner(
         if may[base + t] != 0 {
             let mut stamps = [0u8; 3072];
             stamp_clause(words, marks, start, t, &mut stamps);
-            let e = partners(words, marks, start, t);
+            let e = partners(words, marks, start, may, kind, t);
             let from = table::wide(may[base + t]) - 1;
             for p in from..e {
                 if partner_applies(words, marks, start, &stamps, kind, t, p) {
+                    may[base + t] = narrow(p + 1);
                     found = Found::One(Step::new(kind, narrow(t), narrow(p), 0));
                     break 'search;
                 }
@@ -477,6 +484,92 @@ pub fn first_by_partner(
 }
 
 // ---- what was opened
+
+// Whether the place of a row is flagged with no greater key.
+fn flagged(may: &[u16], row: usize, i: usize, key: usize) -> bool
+    requires { ⌜ (row ≤ 16) × ((i < 2048) × ((key < 2048) × (length (now may) ≡ 36898))) ⌝ }
+    ensures { λ r. ⌜ (r ≡ true → Flagged (now (may .entry)) row i key) ⌝ }
+{
+    let old = table::wide(may[row * 2048 + i]);
+    if old == 0 {
+        return false;
+    }
+    old <= key + 1
+}
+
+// Whether the target is covered for the key: flagged with no greater one, and for kind 3 with the greatest no less.
+fn covered(may: &[u16], row: usize, t: usize, key: usize) -> bool
+    requires { ⌜ (row ≤ 16) × ((t < 2048) × ((key < 2048) × (length (now may) ≡ 36898))) ⌝ }
+    ensures { λ r. ⌜ (r ≡ true → Covered (now (may .entry)) row t key) ⌝ }
+{
+    if !flagged(may, row, t, key) {
+        return false;
+    }
+    if row != 3 {
+        return true;
+    }
+    key < table::wide(may[MOST + t])
+}
+
+// A partner more for the target of kind 3.
+fn raise_most(may: &mut [u16], t: usize, p: usize)
+    requires { ⌜ (t < 2048) × ((p < 2048) × (length (now may) ≡ 36898)) ⌝ }
+    ensures { λ _. ⌜ Raising (now (may .entry)) (now (may .exit)) 3 (t + 1) × (p + 1 ≤ most (now (may .exit)) t) ⌝ }
+{
+    let top = greater(p + 1, table::wide(may[MOST + t]));
+    may[MOST + t] = narrow(top);
+}
+
+// The target is covered for the key.
+fn cover(may: &mut [u16], row: usize, t: usize, key: usize)
+    requires { ⌜ (row ≤ 16) × ((t < 2048) × ((key < 2048) × (length (now may) ≡ 36898))) ⌝ }
+    ensures { λ _. ⌜ Raising (now (may .entry)) (now (may .exit)) row (t + 1) × Covered (now (may .exit)) row t key ⌝ }
+{
+    flag(may, row, t, key);
+    if row != 3 {
+        return;
+    }
+    raise_most(may, t, key);
+}
+
+// Whether the target of kind 8 is the partner.
+fn is_itself(kind: u16, t: usize, p: usize) -> bool
+    ensures { λ r. ⌜ (r ≡ true → (kind ≡ 8) × (p ≡ t)) ⌝ }
+{
+    if kind != 8 {
+        return false;
+    }
+    p == t
+}
+
+// Flags the target t of the kind, if the condition holds with the partner p and the atom: no clause is its own partner.
+fn spread_one(
+    words: &[u16],
+    marks: &[u8],
+    start: &[u16],
+    heads: &[u16],
+    reach: &[u8],
+    may: &mut [u16],
+    kind: u16,
+    p: usize,
+    atom: u16,
+    t: usize,
+)
+    requires { ⌜ (Ready (now words) (now marks) (now start)) × ((t < getD (now words) 1 0) × ((p < getD (now words) 1 0) × (((1 ≤ kind) × (kind ≤ 8)) × ((Known (kindOf kind) (now words) (now marks) (now heads) (now reach)) × (length (now may) ≡ 36898))))) ⌝ }
+    ensures { λ _. ⌜ Raising (now (may .entry)) (now (may .exit)) kind (t + 1) × (So (applies (getD (now (words .entry)) 0 0) (view (now (words .entry)) (now (marks .entry))) (step (kindOf kind) t p atom)) → Covered (now (may .exit)) kind t p) ⌝ }
+{
+    let row = table::wide(kind);
+    if covered(may, row, t, p) {
+        return;
+    }
+    if is_itself(kind, t, p) {
+        return;
+    }
+    if !conditions::holds(words, marks, start, heads, reach, kind, t, p, atom) {
+        return;
+    }
+    cover(may, row, t, p);
+}
 
 // Flags every target of the kind that has a step with the partner p and the atom.
 fn spread(
@@ -491,54 +584,12 @@ fn spread(
     atom: u16,
     m: usize,
 )
-    requires { ⌜ (Ready (now words) (now marks) (now start)) × ((m ≡ getD (now words) 1 0) × ((p < getD (now words) 1 0) × (((1 ≤ kind) × (kind ≤ 8)) × ((Known (kindOf kind) (now words) (now marks) (now heads) (now reach)) × (length (now may) ≡ 34850))))) ⌝ }
+    requires { ⌜ (Ready (now words) (now marks) (now start)) × ((m ≡ getD (now words) 1 0) × ((p < getD (now words) 1 0) × (((1 ≤ kind) × (kind ≤ 8)) × ((Known (kindOf kind) (now words) (now marks) (now heads) (now reach)) × (length (now may) ≡ 36898))))) ⌝ }
     ensures { λ _. ⌜ Spread (now (words .entry)) (now (marks .entry)) (now (may .entry)) (now (may .exit)) kind p atom ⌝ }
 {
-    let row = table::wide(kind);
     for t in 0..m {
-        if !conditions::holds(words, marks, start, heads, reach, kind, t, p, atom) {
-            continue;
-        }
-        flag(may, row, t, p);
+        spread_one(words, marks, start, heads, reach, may, kind, p, atom, t);
     }
-}
-
-// Whether the place of a row is flagged with no greater key.
-fn flagged(may: &[u16], row: usize, i: usize, key: usize) -> bool
-    requires { ⌜ (row ≤ 16) × ((i < 2048) × ((key < 2048) × (length (now may) ≡ 34850))) ⌝ }
-    ensures { λ r. ⌜ (r ≡ true → (flags (now (may .entry)) row i ≢ 0) × (flags (now (may .entry)) row i ≤ key + 1)) ⌝ }
-{
-    let old = table::wide(may[row * 2048 + i]);
-    if old == 0 {
-        return false;
-    }
-    old <= key + 1
-}
-
-// Flags the target t of the kind, if the condition holds with the partner p and the atom.
-fn spread_one(
-    words: &[u16],
-    marks: &[u8],
-    start: &[u16],
-    heads: &[u16],
-    reach: &[u8],
-    may: &mut [u16],
-    kind: u16,
-    p: usize,
-    atom: u16,
-    t: usize,
-)
-    requires { ⌜ (Ready (now words) (now marks) (now start)) × ((t < getD (now words) 1 0) × ((p < getD (now words) 1 0) × (((1 ≤ kind) × (kind ≤ 8)) × ((Known (kindOf kind) (now words) (now marks) (now heads) (now reach)) × (length (now may) ≡ 34850))))) ⌝ }
-    ensures { λ _. ⌜ Raising (now (may .entry)) (now (may .exit)) kind (t + 1) × (So (condition (kindOf kind) (left (view (now (words .entry)) (now (marks .entry)))) (entry (view (now (words .entry)) (now (marks .entry))) t .clause) (entry (view (now (words .entry)) (now (marks .entry))) p .clause) atom) → (flags (now (may .exit)) kind t ≢ 0) × (flags (now (may .exit)) kind t ≤ p + 1)) ⌝ }
-{
-    let row = table::wide(kind);
-    if flagged(may, row, t, p) {
-        return;
-    }
-    if !conditions::holds(words, marks, start, heads, reach, kind, t, p, atom) {
-        return;
-    }
-    flag(may, row, t, p);
 }
 
 // The same as `spread`, where every target has atom a in a part: its places are walked.
@@ -555,7 +606,7 @@ fn spread_along(
     part: Part,
     a: u16,
 )
-    requires { ⌜ (Ready (now words) (now marks) (now start)) × ((p < getD (now words) 1 0) × (((1 ≤ kind) × (kind ≤ 8)) × ((Known (kindOf kind) (now words) (now marks) (now heads) (now reach)) × ((length (now may) ≡ 34850) × ((a < 1024) × Clue (now words) (now marks) kind p atom part a))))) ⌝ }
+    requires { ⌜ (Ready (now words) (now marks) (now start)) × ((p < getD (now words) 1 0) × (((1 ≤ kind) × (kind ≤ 8)) × ((Known (kindOf kind) (now words) (now marks) (now heads) (now reach)) × ((length (now may) ≡ 36898) × ((a < 1024) × Clue (now words) (now marks) kind p atom part a))))) ⌝ }
     ensures { λ _. ⌜ Spread (now (words .entry)) (now (marks .entry)) (now (may .entry)) (now (may .exit)) kind p atom ⌝ }
 {
     let mut i = parts::last_place(words, start, part, a);
@@ -604,7 +655,7 @@ fn spread_body(
     x: usize,
     m: usize,
 )
-    requires { ⌜ (Ready (now words) (now marks) (now start)) × ((m ≡ getD (now words) 1 0) × ((x < getD (now words) 1 0) × (length (now may) ≡ 34850))) ⌝ }
+    requires { ⌜ (Ready (now words) (now marks) (now start)) × ((m ≡ getD (now words) 1 0) × ((x < getD (now words) 1 0) × (length (now may) ≡ 36898))) ⌝ }
     ensures { λ _. ⌜ Spread (now (words .entry)) (now (marks .entry)) (now (may .entry)) (now (may .exit)) 8 x 0 ⌝ }
 {
     if !parts::empty(words, marks, start, x, Part::Pos) {
@@ -656,7 +707,7 @@ fn spread_partner(
     x: usize,
     m: usize,
 )
-    requires { ⌜ (Ready (now words) (now marks) (now start)) × ((m ≡ getD (now words) 1 0) × ((x < getD (now words) 1 0) × ((PartnerKind kind) × (length (now may) ≡ 34850)))) ⌝ }
+    requires { ⌜ (Ready (now words) (now marks) (now start)) × ((m ≡ getD (now words) 1 0) × ((x < getD (now words) 1 0) × ((PartnerKind kind) × (length (now may) ≡ 36898)))) ⌝ }
     ensures { λ _. ⌜ Spread (now (words .entry)) (now (marks .entry)) (now (may .entry)) (now (may .exit)) kind x 0 ⌝ }
 {
     if !parts::empty(words, marks, start, x, Part::Head) {

@@ -42,7 +42,7 @@ loop-again : tie.Need-loop-again Inv-loop μ-loop
 loop-again c =
     let l = c .before .before .before .before .before .before .loop-test .taken in
     let w = c .before .before .before .before .before .before .before .loop .inv in
-    (w .0, w .1, along-on _ _ _ _ _ _ _ _ _ _ _ (w .2) (c .before .before .before .before .before .before .before .before .before .before .before .before .before .before .before .pre .0 .placed .passed) (omega arith) (omega (arith, c .before .before .before .before .before .before .before .before .before .before .before .before .before .before .before .pre .1 .1 .0)) _ (c .before .before .before .before .place-before .ensures) _ _ (c .before .before .before .before .before .owner .ensures) (c .before .before .spread-one .ensures .0) (c .before .before .spread-one .ensures .1))
+    (w .0, w .1, along-on _ _ _ _ _ _ _ _ _ _ _ (w .2) (c .before .before .before .before .before .before .before .before .before .before .before .before .before .before .before .pre .0 .placed .passed) (omega arith) (omega (arith, c .before .before .before .before .before .before .before .before .before .before .before .before .before .before .before .pre .1 .1 .0)) _ (c .before .before .before .before .place-before .ensures) _ _ (c .before .before .before .before .before .owner .ensures) (c .before .before .spread-one .ensures))
 
 same-length : tie.Need-same-length Inv-loop μ-loop
 same-length c = c .before .loop .inv .2 .raising .long
