@@ -1,97 +1,128 @@
-//! What the programs `reducer_cases` and `checker_cases` have to print: the stored output is what document 01's literal
-//! implementation gives for the stored input, printed in the same form.
+//! The cases of the program `cases`: its stored output is what document 01's literal implementation gives for its stored
+//! input, and each call of the library does the same, in all of the memory that is lent to it.
 #![deny(warnings)]
-use gambrolt_tests::paper::table::Table;
-use gambrolt_tests::paper::{list, reduce, Answer};
-use gambrolt_tests::rescan::Reducer;
+use gambrolt_tests::compare::Tally;
+use gambrolt_tests::paper::program::{parse, words};
+use gambrolt_tests::paper::Answer;
 
-/// Numbers of a text one after the other; those past its end are 0.
-struct Numbers<'a> {
-    text: &'a str,
+const INPUT: &[u8] = include_bytes!("../../crates/cases/stdin");
+const OUTPUT: &[u8] = include_bytes!("../../crates/cases/stdout");
+
+fn lines(text: &'static [u8]) -> Vec<&'static [u8]> {
+    let text = text.strip_suffix(b"\n").expect("the last line ends in a line feed");
+    text.split(|&byte| byte == b'\n').collect()
 }
 
-impl Numbers<'_> {
-    fn next(&mut self) -> usize {
-        self.text = self.text.trim_start_matches(|c: char| !c.is_ascii_digit());
-        let digits = self.text.len() - self.text.trim_start_matches(|c: char| c.is_ascii_digit()).len();
-        let (number, rest) = self.text.split_at(digits);
-        self.text = rest;
-        number.parse().unwrap_or(0)
-    }
-
-    /// How many words, then the words.
-    fn words(&mut self) -> Vec<u16> {
-        (0..self.next()).map(|_| self.next() as u16).collect()
-    }
+/// What stands before the first colon, and what stands after it.
+fn parts(case: &[u8]) -> (&[u8], &[u8]) {
+    let colon = case.iter().position(|&byte| byte == b':');
+    colon.map_or((case, &[]), |colon| (&case[..colon], &case[colon + 1..]))
 }
 
-fn answer_line(taken: &str, answer: Answer) -> String {
+/// The words between blanks that are numbers; the call's name is none.
+fn numbers(text: &[u8]) -> Vec<u16> {
+    let text = std::str::from_utf8(text).expect("numbers");
+    text.split(' ').filter(|word| word.starts_with(|c: char| c.is_ascii_digit())).map(|w| w.parse().unwrap()).collect()
+}
+
+fn answered(answer: Answer) -> String {
     match answer {
-        Ok(steps) => format!("{taken}={steps}"),
+        Ok(value) => format!("taken={value}"),
         Err(refused) => format!("refused={},{}", refused.number, refused.place),
     }
 }
 
-/// The marks that were lent and two more, or for many of them how many are 0.
-fn marks_line(mut marks: Vec<u8>) -> String {
-    marks.extend([7; 2]);
-    match marks.len() {
-        0..=49 => marks.iter().map(u8::to_string).collect(),
-        _ => marks.iter().filter(|&&mark| mark == 0).count().to_string(),
+fn marks_shown(marks: &[u8]) -> String {
+    marks.iter().chain(&[7; 2]).map(u8::to_string).collect()
+}
+
+/// The words and two more past them.
+fn words_shown(words: &[u16], past: u16) -> String {
+    words.iter().chain(&[past; 2]).map(|word| format!("{word},")).collect()
+}
+
+/// "In a text a slash stands for a line feed, a tilde for a carriage return, a caret for NUL and an underscore for a tab."
+fn text_meant(text: &[u8]) -> Vec<u8> {
+    let byte = |&byte: &u8| match byte {
+        b'/' => b'\n',
+        b'~' => b'\r',
+        b'^' => 0,
+        b'_' => b'\t',
+        byte => byte,
+    };
+    text.iter().map(byte).collect()
+}
+
+fn table(words: &[u16]) -> String {
+    let answer = Tally::new().check_table(words);
+    let numbers = |_| format!(" table={},{},{}", words[0], words[1], words.len());
+    answered(answer) + &answer.map_or(String::new(), numbers)
+}
+
+fn list(words: &[u16], rest: &[u16]) -> String {
+    let (answer, marks) = Tally::new().check(words, &vec![7; rest[0].into()], &rest[1..]);
+    format!("{} marks={}", answered(answer), marks_shown(&marks))
+}
+
+fn reduce(words: &[u16], rest: &[u16]) -> String {
+    let (answer, marks, list) = Tally::new().reduce(words, &vec![7; rest[0].into()], &vec![9; rest[1].into()]);
+    format!("{} marks={} words={}", answered(answer), marks_shown(&marks), words_shown(&list, 9))
+}
+
+fn kept(words: &[u16], rest: &[u16]) -> String {
+    let marks: Vec<u8> = rest[1..].iter().map(|&mark| mark.try_into().unwrap()).collect();
+    let (answer, out) = Tally::new().reduced_table(words, &marks, &vec![9; rest[0].into()]);
+    format!("{} words={}", answered(answer), words_shown(&out, 9))
+}
+
+fn write(words: &[u16], rest: &[u16]) -> String {
+    let (answer, out) = Tally::new().write_text(words, &vec![b'.'; rest[0].into()]);
+    let text = String::from_utf8(out).unwrap().replace('\n', "/");
+    format!("{} text={text}..", answered(answer))
+}
+
+fn parsed(room: u16, text: &[u8]) -> String {
+    let (answer, table) = Tally::new().read_text(&text_meant(text), &vec![7; room.into()]);
+    format!("{} words={}", answered(answer), words_shown(&table[..answer.unwrap_or(0) as usize], 7))
+}
+
+/// The line that the program prints for a case.
+fn printed(case: &[u8]) -> String {
+    let (before, after) = parts(case);
+    let words = numbers(before);
+    match case.split(|&byte| byte == b' ').next().unwrap() {
+        b"table" => table(&words),
+        b"cycle" => answered(Tally::new().cycle(&words)),
+        b"set" => answered(Tally::new().test(&words, &numbers(after))),
+        b"list" => list(&words, &numbers(after)),
+        b"reduce" => reduce(&words, &numbers(after)),
+        b"kept" => kept(&words, &numbers(after)),
+        b"write" => write(&words, &numbers(after)),
+        b"parse" => parsed(words[0], after),
+        _ => panic!("no such call: {}", case.escape_ascii()),
     }
 }
 
-/// The list with the two words behind it; of a long one the last two steps.
-fn list_line(mut list: Vec<u16>, steps: u64) -> String {
-    list.extend([9; 2]);
-    let end = 4 * steps as usize + 2;
-    let from = if end < 60 { 0 } else { end - 10 };
-    list[from..end].iter().map(|word| format!("{word},")).collect()
-}
-
-fn reduced(input: &mut Numbers) -> String {
-    let (table, marks, room) = (input.words(), vec![7; input.next()], vec![9; input.next()]);
-    let few = table.len() < 2000;
-    let (answer, marks, list) =
-        if few { reduce::reduce(&table, &marks, &room) } else { rescanned(&table, &marks, room) };
-    let list = list_line(list, answer.unwrap_or(0));
-    format!("{} marks={} list={list}", answer_line("steps", answer), marks_line(marks))
-}
-
-/// The literal reducer takes half a minute for a thousand steps at a thousand clauses: for such a table, which passes all
-/// questions, the rescanning reducer makes the list, and the literal checker takes it and gives its marks.
-fn rescanned(table: &[u16], marks: &[u8], mut list: Vec<u16>) -> (Answer, Vec<u8>, Vec<u16>) {
-    let made = Reducer::new(&Table::read(table).unwrap().program()).run().concat();
-    let (answer, marks) = list::check(table, marks, &made);
-    assert_eq!(answer, Ok(made.len() as u64 / 4));
-    list[..made.len()].copy_from_slice(&made);
-    (answer, marks, list)
-}
-
-fn checked(input: &mut Numbers) -> String {
-    let (table, marks, list) = (input.words(), vec![7; input.next()], input.words());
-    let (answer, marks) = list::check(&table, &marks, &list);
-    format!("{} marks={}", answer_line("accepted", answer), marks_line(marks))
-}
-
-/// Case by case, as long as there is text.
-fn compared(stdin: &str, stdout: &str, case: fn(&mut Numbers) -> String) {
-    let mut input = Numbers { text: stdin };
-    for (number, line) in stdout.lines().enumerate() {
-        assert!(!input.text.is_empty(), "fewer cases than lines");
-        assert_eq!(case(&mut input), line, "case {number}");
+#[test]
+fn every_case() {
+    let (input, output) = (lines(INPUT), lines(OUTPUT));
+    assert_eq!(input.len(), output.len(), "a line is printed for each line");
+    for (line, stored) in input.into_iter().zip(output) {
+        let expected = if line.starts_with(b"#") { line.to_vec() } else { printed(line).into_bytes() };
+        assert!(stored == expected, "{}\nstored: {}", line.escape_ascii(), stored.escape_ascii());
     }
-    assert!(input.text.is_empty(), "more cases than lines");
 }
 
+/// A heading "# N atoms: PROGRAM" gives the program of the cases below it.
 #[test]
-fn cases_of_the_reducer() {
-    let crates = (include_str!("../../crates/reducer_cases/stdin"), include_str!("../../crates/reducer_cases/stdout"));
-    compared(crates.0, crates.1, reduced);
-}
-
-#[test]
-fn cases_of_the_checker() {
-    let crates = (include_str!("../../crates/checker_cases/stdin"), include_str!("../../crates/checker_cases/stdout"));
-    compared(crates.0, crates.1, checked);
+fn headings() {
+    let mut program = None;
+    for line in lines(INPUT) {
+        if let Some(heading) = line.strip_prefix(b"# ") {
+            let heading = std::str::from_utf8(heading).unwrap();
+            program = heading.split_once(" atoms:").map(|(atoms, text)| words(&parse(atoms.parse().unwrap(), text)));
+        } else if let Some(words) = &program {
+            assert_eq!(&numbers(parts(line).0), words, "{}", line.escape_ascii());
+        }
+    }
 }

@@ -4,7 +4,9 @@ use gambrolt_tests::compare::Tally;
 use gambrolt_tests::library;
 use gambrolt_tests::make::shapes::SHAPES;
 use gambrolt_tests::paper::program::{parse, words, Clause, Program};
+use gambrolt_tests::paper::table::Table;
 use gambrolt_tests::paper::{Answer, Refused};
+use gambrolt_tests::rescan::Reducer;
 
 fn refused(number: u64, place: u64) -> Answer {
     Err(Refused { number, place })
@@ -15,11 +17,13 @@ fn table(atoms: u16, program: &str) -> Vec<u16> {
     words(&parse(atoms, program))
 }
 
-/// The reducer's steps, and the marks that they leave.
+/// The reducer's steps, and the marks that they leave; as many marks are 0, and the list's other words stay.
 fn reduce(table: &[u16]) -> (Vec<[u16; 4]>, Vec<u8>) {
-    let (steps, marks, list) = library::reduce(table, &vec![7; table.len()], &vec![7; 4 * table.len()]);
-    let list = list.chunks(4).take(steps as usize).map(|step| step.try_into().unwrap());
-    (list.collect(), marks)
+    let (steps, marks, list) = library::reduce(table, &vec![7; table.len()], &vec![9; 4 * table.len()]);
+    let (made, rest) = list.split_at(4 * steps as usize);
+    assert_eq!(marks.iter().filter(|&&mark| mark == 0).count(), steps as usize);
+    assert!(rest.iter().all(|&word| word == 9));
+    (made.chunks(4).map(|step| step.try_into().unwrap()).collect(), marks)
 }
 
 fn steps(table: &[u16]) -> Vec<[u16; 4]> {
@@ -41,12 +45,36 @@ fn conditions(atoms: u16, facts: u16) -> Vec<u16> {
     words(&Program { atoms, clauses })
 }
 
+/// The library and a second reducer make these steps, and the checker takes them. The literal reducer takes half a minute for a
+/// thousand steps at a thousand clauses; there the rescanning one is asked.
+fn reduced_by(table: &[u16], expected: &[[u16; 4]]) {
+    assert_eq!(steps(table), expected);
+    let read = Table::read(table).unwrap();
+    if table.len() < 2000 {
+        let room = vec![9; 4 * read.clauses_and_body_literals()];
+        let (answer, _, list) = Tally::new().reduce(table, &vec![7; table.len()], &room);
+        assert_eq!((answer, &list[..4 * expected.len()]), (Ok(expected.len() as u64), &expected.concat()[..]));
+    } else {
+        assert_eq!(Reducer::new(&read.program()).run(), expected);
+    }
+    assert_eq!(check(table, &expected.concat()), Ok(expected.len() as u64));
+}
+
+/// The checker's answer, whose marks at 0 are the steps that it takes.
+fn check(table: &[u16], list: &[u16]) -> Answer {
+    let (answer, marks) = Tally::new().check(table, &vec![7; table.len()], list);
+    let zeros = marks.iter().filter(|&&mark| mark == 0).count() as u64;
+    assert_eq!(answer.unwrap_or_else(|refused| refused.place), zeros);
+    answer
+}
+
 #[test]
 fn three_hundred_conditions_and_299_facts() {
     let table = conditions(301, 299);
-    let mut expected: Vec<[u16; 4]> = (0..299).map(|fact| [3, 299, fact, 0]).collect();
-    expected.push([6, 299, 0, 299]);
-    assert_eq!(steps(&table), expected);
+    let successes: Vec<[u16; 4]> = (0..299).map(|fact| [3, 299, fact, 0]).collect();
+    reduced_by(&table, &[&successes[..], &[[6, 299, 0, 299]]].concat());
+    assert_eq!(check(&table, &[&successes[..], &[[3, 299, 0, 0]]].concat().concat()), refused(16, 299));
+    assert_eq!(check(&table, &[&successes[..], &[[5, 298, 299, 0]]].concat().concat()), refused(16, 299));
     let facts = parse(301, &(0..299).map(|i| format!("{i}.")).collect::<String>());
     assert_eq!(reduced(&table), words(&facts), "300 never becomes a fact");
 }
@@ -54,15 +82,16 @@ fn three_hundred_conditions_and_299_facts() {
 #[test]
 fn three_hundred_conditions_and_300_facts() {
     let table = conditions(301, 300);
-    assert_eq!(steps(&table), (0..300).map(|fact| [3, 300, fact, 0]).collect::<Vec<_>>());
+    let successes: Vec<[u16; 4]> = (0..300).map(|fact| [3, 300, fact, 0]).collect();
+    reduced_by(&table, &successes);
+    assert_eq!(check(&table, &[&successes[..], &[[8, 300, 300, 0]]].concat().concat()), refused(14, 300));
     let facts = parse(301, &(0..301).map(|i| format!("{i}.")).collect::<String>());
     assert_eq!(reduced(&table), words(&facts), "300 becomes a fact");
 }
 
 #[test]
 fn a_thousand_conditions() {
-    let table = conditions(1001, 1000);
-    assert_eq!(steps(&table), (0..1000).map(|fact| [3, 1000, fact, 0]).collect::<Vec<_>>());
+    reduced_by(&conditions(1001, 1000), &(0..1000).map(|fact| [3, 1000, fact, 0]).collect::<Vec<_>>());
 }
 
 #[test]

@@ -1,0 +1,167 @@
+//! Tables, marks, sets and texts at the limits. The answers were worked out by hand; document 01's literal implementation and
+//! the library give the same, in all of the memory that is lent to them.
+#![deny(warnings)]
+use gambrolt_tests::compare::Tally;
+use gambrolt_tests::library;
+use gambrolt_tests::paper::{Answer, Refused};
+
+fn refused(number: u64, place: u64) -> Answer {
+    Err(Refused { number, place })
+}
+
+/// Three clauses that fill 8,192 words.
+fn full() -> Vec<u16> {
+    let mut words = vec![1024, 3];
+    for counts in [[1024, 1024, 1024], [1024, 1024, 1024], [1024, 1013, 0]] {
+        words.extend(counts);
+        words.extend(counts.into_iter().flat_map(|count| 0..count));
+    }
+    assert_eq!(words.len(), 8192);
+    words
+}
+
+/// As many words, all 0 but the number of clauses.
+fn empty_clauses(clauses: u16, len: usize) -> Vec<u16> {
+    let mut words = vec![0; len];
+    words[1] = clauses;
+    words
+}
+
+#[test]
+fn words_of_a_table() {
+    let with_clauses = |clauses: u16| {
+        let mut words = full();
+        words[1] = clauses;
+        words
+    };
+    let check = |words: &[u16]| Tally::new().check_table(words);
+    assert_eq!(check(&full()), Ok(0));
+    assert_eq!(check(&[full(), vec![0]].concat()), refused(1, 0));
+    assert_eq!(check(&full()[..8191]), refused(5, 6152));
+    assert_eq!(check(&with_clauses(2)), refused(8, 6152));
+    assert_eq!(check(&with_clauses(4)), refused(4, 8192));
+}
+
+#[test]
+fn clauses_of_a_table() {
+    let check = |clauses: u16, len: usize| Tally::new().check_table(&empty_clauses(clauses, len));
+    assert_eq!(check(2048, 6146), Ok(0));
+    assert_eq!(check(2048, 6145), refused(4, 6143));
+    assert_eq!(check(2048, 6147), refused(8, 6146));
+    assert_eq!(check(2049, 6149), refused(3, 1));
+    assert_eq!(check(2049, 6146), refused(3, 1));
+}
+
+#[test]
+fn reduced_tables() {
+    let reduced = |words: &[u16], marks: &[u8], room: usize| Tally::new().reduced_table(words, marks, &vec![9; room]);
+    let (table, mut marks) = (full(), vec![1; 8192]);
+    assert_eq!(reduced(&table, &marks, 8192), (Ok(8192), table.clone()));
+    assert_eq!(reduced(&table, &marks, 8191), (refused(18, 0), vec![9; 8191]));
+    // the body of clause 0 is dropped, and clause 1 deleted
+    marks[1029..3078].fill(0);
+    let left = [&[1024, 2, 1024, 0, 0], &table[5..1029], &table[6152..]].concat();
+    assert_eq!(reduced(&table, &marks, 3069), (Ok(3069), left));
+    assert_eq!(reduced(&table, &marks, 3068), (refused(18, 0), vec![9; 3068]));
+    // every other clause is deleted
+    let (table, mut marks) = (empty_clauses(2048, 6146), vec![1; 6146]);
+    marks[5..].iter_mut().step_by(6).for_each(|mark| *mark = 0);
+    let left = [empty_clauses(1024, 3074), vec![9; 5118]].concat();
+    assert_eq!(reduced(&table, &marks, 8192), (Ok(3074), left));
+}
+
+/// The library alone is asked: the literal implementation takes seconds for such a table and a set of 16.
+#[test]
+fn sets_and_cycles() {
+    let both = |words: &[u16], set: &[u16]| (library::test(words, set), library::cycle(words));
+    let all: Vec<u16> = (0..16).collect();
+    let facts = |atoms: &[u16]| -> Vec<u16> { atoms.iter().flat_map(|&atom| [1, 0, 0, atom]).collect() };
+    let (eight, one) = (8 << 48 | 2, 1 << 48);
+    assert_eq!(both(&[vec![1024], vec![0; 8191]].concat(), &[]), (eight, eight));
+    assert_eq!(both(&[vec![1024], vec![0; 8192]].concat(), &[]), (one, one));
+    // 0 <- 0 again and again, then the facts
+    let loops = [vec![16, 1616], [1, 1, 0, 0, 0].repeat(1600), facts(&all)].concat();
+    assert_eq!(both(&loops, &all), (1, 1));
+    // the fact 15 again and again, then all facts; all but 14; none, and two empty clauses
+    let many =
+        |clauses: u16, again: usize, rest: Vec<u16>| [vec![16, clauses], facts(&[15]).repeat(again), rest].concat();
+    assert_eq!(both(&many(2047, 2031, facts(&all)), &all), (1, 0));
+    let but_14: Vec<u16> = all.iter().copied().filter(|&atom| atom != 14).collect();
+    assert_eq!(both(&many(2046, 2031, facts(&but_14)), &all), (0, 0));
+    assert_eq!(both(&many(2048, 2046, vec![0; 6]), &all), (0, 0));
+}
+
+#[test]
+fn lists() {
+    let fact = [2, 1, 1, 0, 0, 0];
+    assert_eq!(Tally::new().check(&fact, &[7; 6], &[0; 32760]), (refused(12, 0), vec![1; 6]));
+    assert_eq!(Tally::new().check(&fact, &[7; 6], &[0; 32764]), (refused(11, 0), vec![7; 6]));
+}
+
+/// The text is read where there is room for so many words.
+fn read(text: &str, room: usize) -> Answer {
+    Tally::new().read_text(text.as_bytes(), &vec![7; room]).0
+}
+
+/// The text has 8,192 words and so many bytes, and is written again with just enough room; a byte less does not suffice.
+fn whole(text: &str, bytes: usize) {
+    let (words, table) = Tally::new().read_text(text.as_bytes(), &[7; 8196]);
+    assert_eq!((words, text.len()), (Ok(8192), bytes));
+    let write = |room: usize| Tally::new().write_text(&table[..8192], &vec![9; room]);
+    assert_eq!(write(bytes), (Ok(bytes as u64), text.as_bytes().to_vec()));
+    assert_eq!(write(bytes - 1), (refused(28, 0), vec![9; bytes - 1]));
+}
+
+/// Seven clauses with 1,024 head atoms each, then one with so many, and the lines behind it.
+fn wide(clauses: u16, last: u16, lines: &str) -> String {
+    let numbers = |count: u16| (0..count).map(|atom| atom.to_string()).collect::<Vec<_>>().join(",");
+    let seven = format!("head={}\npos=\nneg=\n", numbers(1024)).repeat(7);
+    format!("atoms=1024\nclauses={clauses}\n{seven}head={}\n{lines}", numbers(last))
+}
+
+#[test]
+fn words_of_a_text() {
+    let answer = |last: u16, lines: &str| read(&wide(8, last, lines), 8196);
+    whole(&wide(8, 998, "pos=\nneg=\n"), 32093);
+    assert_eq!(answer(999, "pos=\nneg=\n"), refused(26, 28196));
+    assert_eq!(answer(998, "pos=0\nneg=\n"), refused(26, 32083));
+    assert_eq!(answer(998, "pos=\nneg=0\n"), refused(26, 32088));
+    assert_eq!(answer(998, "pos=1024\nneg=\n"), refused(26, 32083), "26 before 6");
+    assert_eq!(answer(997, "pos=1,1\nneg=\n"), refused(26, 32079), "26 before 7");
+    assert_eq!(answer(998, "pos=01\nneg=\n"), refused(25, 32083), "26 after 25");
+}
+
+/// "a clause's counts are counted at its head line"
+#[test]
+fn counts_of_a_text() {
+    let lines = "pos=\nneg=\nhead=\npos=\nneg=\n";
+    whole(&wide(9, 995, lines), 32097);
+    assert_eq!(read(&wide(9, 996, lines), 8196), refused(26, 32085));
+}
+
+#[test]
+fn clauses_of_a_text() {
+    let clauses = "head=1023\npos=\nneg=\n".repeat(2046) + &"head=\npos=\nneg=\n".repeat(2);
+    whole(&format!("atoms=1024\nclauses=2048\n{clauses}"), 40976);
+}
+
+/// A beginning, filled up with the same byte to so many.
+fn filled(start: &str, byte: &str, len: usize) -> String {
+    format!("{start}{}", byte.repeat(len - start.len()))
+}
+
+#[test]
+fn bytes_of_a_text() {
+    assert_eq!(read(&filled("atoms=0\nclauses=0\n", "x", 65536), 8192), refused(27, 18));
+    assert_eq!(read(&filled("atoms=0\nclauses=0\n", "x", 65537), 8192), refused(22, 0));
+    assert_eq!(read(&filled("atoms=", "x", 65536), 8192), refused(24, 0));
+    assert_eq!(read(&(filled("atoms=", "x", 65535) + "\n"), 8192), refused(25, 0));
+    assert_eq!(read(&filled("", "a", 65536), 8192), refused(24, 0));
+    assert_eq!(read(&filled("", "\n", 65536), 8192), refused(24, 0));
+    let zeros = ",0".repeat(32754);
+    let list = format!("atoms=1024\nclauses=1\nhead=0{zeros}\n");
+    assert_eq!((list.len(), read(&list, 8192)), (65536, refused(26, 21)), "26 before 7");
+    assert_eq!(read(&filled("", "a", 65537), 0), refused(22, 0), "22 before 23");
+    assert_eq!(read(&filled("", "a", 65536), 8191), refused(23, 0), "23 before any byte");
+    assert_eq!(Tally::new().write_text(&[0; 8193], &[]).0, refused(1, 0), "1 before 28");
+}
