@@ -5,3 +5,4 @@ pub mod Walks
 pub mod States
 pub mod Spreads
 pub mod Clues
+pub mod Subsumers

@@ -1,13 +1,13 @@
 -- What the search knows: the arrays beside the words and the marks, and which targets it need not look at.
 use mathlib.Core.Path.{_≡_}
 use mathlib.Core.Logic.{_≢_, _⊎_}
-use mathlib.Core.Bool.{So}
+use mathlib.Core.Bool.{So, true}
 use mathlib.Core.List.{List}
 use mathlib.Core.Option.{Option, none, some}
 use Prim.Native.Nat.{ℕ, _+_, _-_, _*_, _≤_, _<_}
 use lib.ListN.{length, getD}
 use Rattle.rewriting.specs.Marked.{entry, left}
-use Rattle.rewriting.specs.Steps.{Kind, success, loop, number, kindOf, usesPartner, Step, step, applies}
+use Rattle.rewriting.specs.Steps.{Kind, success, loop, subsumed, number, kindOf, usesPartner, Step, step, condition, applies}
 use Rattle.rewriting.specs.Reducer.{firstPartner}
 use Rattle.rewriting.proofs.Order.{firstIn, asked}
 use Rattle.rewriting.proofs.Quiet.{Quiet, stale, key}
@@ -78,6 +78,13 @@ Clue ws ms kind p atom x a = (t : ℕ) → So (applies (getD ws 0 0) (view ws ms
 -- No step of the kind has the partner.
 abbrev pub NoPartner : List ℕ → List ℕ → ℕ → ℕ → Type 0
 NoPartner ws ms kind p = (t : ℕ) → ¬ So (applies (getD ws 0 0) (view ws ms) (step (kindOf kind) t p 0))
+
+-- Clause q stands before x, subsumes it and is not fresh: what x subsumes, q does too, but for q itself.
+pub record Subsumer (ws ms may : List ℕ) (x q : ℕ) : Type 0 where
+  pub less : q < x
+  pub stale : flags may 16 q ≡ 0
+  pub kept : entry (view ws ms) q .kept ≡ true
+  pub holds : So (condition subsumed (left (view ws ms)) (entry (view ws ms) x .clause) (entry (view ws ms) q .clause) 0)
 
 -- Every target that has a step with the partner p and the atom is flagged.
 pub record Spread (ws ms may may' : List ℕ) (kind p a : ℕ) : Type 0 where

@@ -18,7 +18,7 @@ ghost use mathlib.Core.Bool.{true, false};
 ghost use Rattle.search.specs.Kinds.{PartnerKind, AtomKind, HeadsKind, walkedPart, targetPart};
 ghost use Rattle.rewriting.specs.Reducer.{firstStep};
 ghost use Rattle.conditions.specs.Known.{Known};
-ghost use Rattle.search.specs.State.{Arrays, Walk, Partners, Calm, Swept, Clue, NoPartner, Spread, KeySpread, KeyPassed, State, Settled, Prepared, foundOf, stoppedAt};
+ghost use Rattle.search.specs.State.{Arrays, Walk, Partners, Calm, Swept, Clue, NoPartner, Subsumer, Spread, KeySpread, KeyPassed, State, Settled, Prepared, foundOf, stoppedAt};
 use conditions::Step;
 use parts::Bounds;
 use parts::Part;
@@ -485,12 +485,20 @@ pub fn first_by_partner(
 
 // ---- what was opened
 
+// The flag at a place of a row.
+fn flag_of(may: &[u16], row: usize, i: usize) -> usize
+    requires { ⌜ (row ≤ 16) × ((i < 2048) × (length (now may) ≡ 36898)) ⌝ }
+    ensures { λ r. ⌜ r ≡ flags (now (may .entry)) row i ⌝ }
+{
+    table::wide(may[row * 2048 + i])
+}
+
 // Whether the place of a row is flagged with no greater key.
 fn flagged(may: &[u16], row: usize, i: usize, key: usize) -> bool
     requires { ⌜ (row ≤ 16) × ((i < 2048) × ((key < 2048) × (length (now may) ≡ 36898))) ⌝ }
     ensures { λ r. ⌜ (r ≡ true → Flagged (now (may .entry)) row i key) ⌝ }
 {
-    let old = table::wide(may[row * 2048 + i]);
+    let old = flag_of(may, row, i);
     if old == 0 {
         return false;
     }
@@ -734,6 +742,71 @@ fn spread_partner(
     spread(words, marks, start, heads, reach, may, kind, x, 0, m);
 }
 
+// The least key of the flag of x as a target of kind 8, or x where it is none before x.
+fn least_before(may: &[u16], x: usize) -> usize
+    requires { ⌜ (x < 2048) × (length (now may) ≡ 36898) ⌝ }
+    ensures { λ r. ⌜ r ≤ x ⌝ }
+{
+    let old = flag_of(may, 8, x);
+    if old == 0 {
+        return x;
+    }
+    lesser(x, old - 1)
+}
+
+// Whether the kind is 8 and the clause q, which stands before x, subsumes it and is spread already.
+fn is_subsumed(
+    words: &[u16],
+    marks: &[u8],
+    start: &[u16],
+    heads: &[u16],
+    reach: &[u8],
+    may: &[u16],
+    kind: u16,
+    x: usize,
+    q: usize,
+) -> bool
+    requires { ⌜ (State (now words) (now marks) (now start) (now heads) (now reach) (now may)) × ((x < getD (now words) 1 0) × (q ≤ x)) ⌝ }
+    ensures { λ r. ⌜ (r ≡ true → (kind ≡ 8) × Subsumer (now (words .entry)) (now (marks .entry)) (now (may .entry)) x q) ⌝ }
+{
+    if kind != 8 {
+        return false;
+    }
+    if q == x {
+        return false;
+    }
+    if flag_of(may, 16, q) != 0 {
+        return false;
+    }
+    if !parts::kept(words, marks, start, q) {
+        return false;
+    }
+    conditions::holds(words, marks, start, heads, reach, 8, x, q, 0)
+}
+
+// The targets of a partner. Where a clause before it subsumes it, they are flagged already, but for that clause.
+fn spread_clause(
+    words: &[u16],
+    marks: &[u8],
+    start: &[u16],
+    heads: &[u16],
+    reach: &[u8],
+    may: &mut [u16],
+    kind: u16,
+    x: usize,
+    m: usize,
+)
+    requires { ⌜ (State (now words) (now marks) (now start) (now heads) (now reach) (now may)) × ((m ≡ getD (now words) 1 0) × ((x < getD (now words) 1 0) × (PartnerKind kind))) ⌝ }
+    ensures { λ _. ⌜ Spread (now (words .entry)) (now (marks .entry)) (now (may .entry)) (now (may .exit)) kind x 0 ⌝ }
+{
+    let q = least_before(may, x);
+    if !is_subsumed(words, marks, start, heads, reach, may, kind, x, q) {
+        spread_partner(words, marks, start, heads, reach, may, kind, x, m);
+        return;
+    }
+    spread_one(words, marks, start, heads, reach, may, kind, x, 0, q);
+}
+
 // The targets of kind 4 or 6 that have an atom, where it is in no kept head.
 fn spread_atom(
     words: &[u16],
@@ -788,7 +861,7 @@ fn spread_key(
         if !may_partner(words, marks, start, kind, x) {
             return;
         }
-        spread_partner(words, marks, start, heads, reach, may, kind, x, m);
+        spread_clause(words, marks, start, heads, reach, may, kind, x, m);
         return;
     }
     if !asks_heads(kind) {

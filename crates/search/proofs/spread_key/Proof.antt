@@ -23,11 +23,11 @@ may-partner-requires c κs = (c .before .before .before .before .before .before 
 returns-2 : tie.Need-returns-2
 returns-2 c = key-without _ _ _ _ _ (sym (c .before .before .before .before .uses-partner .ensures) ∙ c .before .before .before .if1 .taken) (c .before .may-partner .ensures (not-true _ (c .if3 .taken)))
 
-spread-partner-requires : tie.Need-spread-partner-requires
-spread-partner-requires c κs = (c .before .before .before .before .before .before .before .before .before .before .before .before .pre .0 .ready, (c .before .before .before .before .before .before .before .before .before .before .before .before .pre .1 .0, (omega (arith, c .before .before .before .if2 .left, c .before .before .before .before .before .before .before .before .before .before .before .before .pre .1 .0), (partner-kind _ (c .before .before .before .before .before .before .before .before .before .before .before .before .pre .1 .1 .0 .0) (c .before .before .before .before .before .before .before .before .before .before .before .before .pre .1 .1 .0 .1) (sym (c .before .before .before .before .before .uses-partner .ensures) ∙ c .before .before .before .before .if1 .taken), c .before .before .before .before .before .before .before .before .before .before .before .before .pre .0 .rows .long))))
+spread-clause-requires : tie.Need-spread-clause-requires
+spread-clause-requires c κs = (c .before .before .before .before .before .before .before .before .before .before .before .before .pre .0, (c .before .before .before .before .before .before .before .before .before .before .before .before .pre .1 .0, (omega (arith, c .before .before .before .if2 .left, c .before .before .before .before .before .before .before .before .before .before .before .before .pre .1 .0), (partner-kind _ (c .before .before .before .before .before .before .before .before .before .before .before .before .pre .1 .1 .0 .0) (c .before .before .before .before .before .before .before .before .before .before .before .before .pre .1 .1 .0 .1) (sym (c .before .before .before .before .before .uses-partner .ensures) ∙ c .before .before .before .before .if1 .taken)))))
 
 returns-3 : tie.Need-returns-3
-returns-3 c = key-partner _ _ _ _ _ _ (sym (c .before .before .before .before .before .before .before .before .uses-partner .ensures) ∙ c .before .before .before .before .before .before .before .if1 .taken) (c .before .before .spread-partner .ensures)
+returns-3 c = key-partner _ _ _ _ _ _ (sym (c .before .before .before .before .before .before .before .before .uses-partner .ensures) ∙ c .before .before .before .before .before .before .before .if1 .taken) (c .before .before .spread-clause .ensures)
 
 flag-all-requires : tie.Need-flag-all-requires
 flag-all-requires c κs = (omega (arith, c .wide .ensures .0, c .before .before .before .before .before .before .before .before .before .before .before .before .pre .1 .1 .0), (omega (arith, c .before .before .before .before .before .before .before .before .before .before .before .before .pre .1 .0, few-clauses _ _ _ _ _ _ (c .before .before .before .before .before .before .before .before .before .before .before .before .pre .0)), c .before .before .before .before .before .before .before .before .before .before .before .before .pre .0 .rows .long))
@@ -54,4 +54,4 @@ returns-7 c = key-atom _ _ _ _ _ _ (heads-atom _ (c .before .before .before .bef
 pub spread-key-spec : {M : Type 1} → statement M
 spread-key-spec =
     tie.close
-    (tie.spec uses-partner-requires returns may-partner-requires returns-2 spread-partner-requires (λ c. search needs) returns-3 (λ c κs. search needs) (λ c κs. search needs) flag-all-requires (λ c. search needs) returns-4 returns-5 returns-6 (λ c κs. search needs) spread-atom-requires (λ c. search needs) returns-7)
+    (tie.spec uses-partner-requires returns may-partner-requires returns-2 spread-clause-requires (λ c. search needs) returns-3 (λ c κs. search needs) (λ c κs. search needs) flag-all-requires (λ c. search needs) returns-4 returns-5 returns-6 (λ c κs. search needs) spread-atom-requires (λ c. search needs) returns-7)
