@@ -2,13 +2,14 @@
 # make lib: the library for C; make install PREFIX=..: header, library and pkg-config file. make bench: docs/BENCHMARKS.md's table.
 # make shell: the program `gambrolt` in build/; make install-shell: it and its man page. make test-shell: its tests.
 # make fuzz: a minute of a fuzzer on it.
-.PHONY: run test lib install bench test-lib test-c shell install-shell test-shell fuzz clean compiler
+.PHONY: run test lib install bench test-lib test-c shell install-shell test-shell fuzz clean compiler packages
 
 PREFIX ?= /usr/local
 LIB_DIR := $(CURDIR)/target/staticlib
+PROGRAM := $(CURDIR)/target/bin/reduce
 BUILD := $(CURDIR)/build
 C_FLAGS := -std=c11 -Wall -Wextra -Werror -O2 -Iinclude
-CARGO_ENV = GAMBROLT_LIB_DIR=$(LIB_DIR) CARGO_TARGET_DIR=$(BUILD)
+CARGO_ENV = MAKEFLAGS= GAMBROLT_LIB_DIR=$(LIB_DIR) CARGO_TARGET_DIR=$(BUILD)
 
 # the program on document 01's sample: the reduced program, then its steps
 run:
@@ -21,8 +22,8 @@ test:
 lib: $(LIB_DIR)/libgambrolt.a
 	@echo "the library: $(LIB_DIR)/libgambrolt.a; its header: $(CURDIR)/include/gambrolt.h"
 
-# the library against an independent implementation of document 01; GAMBROLT_ROUNDS=10 for a larger run
-test-lib: lib | compiler
+# the library and the program against an independent implementation of document 01; GAMBROLT_ROUNDS=10 for a larger run
+test-lib: lib $(PROGRAM) | compiler
 	$(CARGO_ENV) cargo test --offline --release --manifest-path tests/Cargo.toml
 
 # the example in C: what it prints, and what valgrind, or else the address sanitizer, says of it
@@ -65,6 +66,11 @@ $(LIB_DIR)/libgambrolt.a: crates.txt $(shell find crates)
 	@rt staticlib gambrolt
 	@touch $@
 
+# not beside the library: both are made below target/
+$(PROGRAM): crates.txt $(shell find crates) | $(LIB_DIR)/libgambrolt.a
+	@rt check reduce
+	@touch $@
+
 shell: build/gambrolt
 
 build/gambrolt: $(SHELL_FILES) | compiler
@@ -84,7 +90,11 @@ build/lying: $(SHELL_FILES) | compiler
 	@mkdir -p build
 	$(CC) $(STRICT) -O2 shell/*.c shell/tests/lying.c -Wl,--wrap=gambrolt_reduce $(LIBGAMBROLT) -o $@
 
-test-shell: build/gambrolt build/lying build/sanitized/gambrolt build/sanitized/builder build/sanitized/damage
+# what its tests call, from Debian's packages where it is missing
+packages: | compiler
+	@sh shell/tests/packages.sh
+
+test-shell: packages build/gambrolt build/lying build/sanitized/gambrolt build/sanitized/builder build/sanitized/damage
 	@sh shell/tests/run.sh
 
 fuzz: $(LIBGAMBROLT)

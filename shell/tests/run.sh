@@ -1,11 +1,10 @@
 #!/bin/sh
-# run.sh - the tests of the program `gambrolt`, with the real grounder and the real solver. `make test-shell` builds what
-# they need and calls this from the repository's root.
+# run.sh - the tests of the program `gambrolt`, with the real grounder and the real solver. `make test-shell` builds and
+# installs what they need and calls this from the repository's root.
 set -u
 tmp=$(mktemp -d)
 trap 'rm -rf "$tmp"' EXIT
 . shell/tests/lib.sh
-need gringo clasp groff:groff-base script:bsdutils
 
 for part in builder refusals usage selfcheck forms examples random damaged page; do
     . "shell/tests/$part.sh"

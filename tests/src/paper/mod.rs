@@ -1,6 +1,7 @@
 //! Document 01, sentence by sentence, literal rather than fast. It shares nothing with the library.
 
 pub mod cycle;
+pub mod filter;
 pub mod list;
 pub mod program;
 pub mod reduce;
