@@ -79,6 +79,10 @@ Clue ws ms kind p atom x a = (t : ℕ) → So (applies (getD ws 0 0) (view ws ms
 abbrev pub NoPartner : List ℕ → List ℕ → ℕ → ℕ → Type 0
 NoPartner ws ms kind p = (t : ℕ) → ¬ So (applies (getD ws 0 0) (view ws ms) (step (kindOf kind) t p 0))
 
+-- No step of the kind has the target and the partner.
+abbrev pub NoTarget : List ℕ → List ℕ → ℕ → ℕ → ℕ → Type 0
+NoTarget ws ms kind t p = (a : ℕ) → ¬ So (applies (getD ws 0 0) (view ws ms) (step (kindOf kind) t p a))
+
 -- Clause q stands before x, subsumes it and is not fresh: what x subsumes, q does too, but for q itself.
 pub record Subsumer (ws ms may : List ℕ) (x q : ℕ) : Type 0 where
   pub less : q < x

@@ -18,7 +18,7 @@ ghost use mathlib.Core.Bool.{true, false};
 ghost use Rattle.search.specs.Kinds.{PartnerKind, AtomKind, HeadsKind, walkedPart, targetPart};
 ghost use Rattle.rewriting.specs.Reducer.{firstStep};
 ghost use Rattle.conditions.specs.Known.{Known};
-ghost use Rattle.search.specs.State.{Arrays, Walk, Partners, Calm, Swept, Clue, NoPartner, Subsumer, Spread, KeySpread, KeyPassed, State, Settled, Prepared, foundOf, stoppedAt};
+ghost use Rattle.search.specs.State.{Arrays, Walk, Partners, Calm, Swept, Clue, NoPartner, NoTarget, Subsumer, Spread, KeySpread, KeyPassed, State, Settled, Prepared, foundOf, stoppedAt};
 use conditions::Step;
 use parts::Bounds;
 use parts::Part;
@@ -550,7 +550,18 @@ fn is_itself(kind: u16, t: usize, p: usize) -> bool
     p == t
 }
 
-// Flags the target t of the kind, if the condition holds with the partner p and the atom: no clause is its own partner.
+// Whether clause t can be a target of the partner p: it is kept and, for kind 8, another clause.
+fn may_target(words: &[u16], marks: &[u8], start: &[u16], kind: u16, t: usize, p: usize) -> bool
+    requires { ⌜ (Ready (now words) (now marks) (now start)) × (t < getD (now words) 1 0) ⌝ }
+    ensures { λ r. ⌜ (r ≡ false → NoTarget (now (words .entry)) (now (marks .entry)) kind t p) ⌝ }
+{
+    if is_itself(kind, t, p) {
+        return false;
+    }
+    parts::kept(words, marks, start, t)
+}
+
+// Flags the target t of the kind, if the condition holds with the partner p and the atom.
 fn spread_one(
     words: &[u16],
     marks: &[u8],
@@ -570,7 +581,7 @@ fn spread_one(
     if covered(may, row, t, p) {
         return;
     }
-    if is_itself(kind, t, p) {
+    if !may_target(words, marks, start, kind, t, p) {
         return;
     }
     if !conditions::holds(words, marks, start, heads, reach, kind, t, p, atom) {
@@ -737,6 +748,9 @@ fn spread_partner(
     }
     if kind == 8 {
         spread_body(words, marks, start, heads, reach, may, x, m);
+        return;
+    }
+    if kind == 3 {
         return;
     }
     spread(words, marks, start, heads, reach, may, kind, x, 0, m);
