@@ -22,16 +22,16 @@ use Rattle.reducer.specs.Opened.{AllOpen}
 all-zero : (k i : ℕ) → _≡_ {A = ℕ} (getD (replicate k 0) i 0) 0
 all-zero k i = by-cases (decLt i k) (λ l. getD-replicate {A = ℕ} k i 0 0 l) (λ l. List·getD-eq-default (replicate k 0) 0 (omega (arith, length-replicate {A = ℕ} k 0)))
 
-rows-none : (m : ℕ) (may : List ℕ) → may ≡ replicate 36898 0 → Rows m may
+rows-none : (m : ℕ) (may : List ℕ) → may ≡ replicate 38946 0 → Rows m may
 rows-none m may e = record {
-  long = ap length e ∙ length-replicate {A = ℕ} 36898 0;
+  long = ap length e ∙ length-replicate {A = ℕ} 38946 0;
   inside = λ r a b i l f. absurd (f (none (r * 2048 + i)));
   high = λ r a b. omega (arith, none (34833 + r));
   few = λ r a b. omega (arith, none (34833 + r));
 }
   where
     none : (i : ℕ) → getD may i 0 ≡ 0
-    none i = ap (λ l. getD l i 0) e ∙ all-zero 36898 i
+    none i = ap (λ l. getD l i 0) e ∙ all-zero 38946 i
 
 -- ---- row after row
 
@@ -41,7 +41,7 @@ then a b c f g r i x y e = f r i x y (g r i x y e)
 kept : (a b : List ℕ) (row top : ℕ) → row ≤ 16 → top ≤ 2048 → Grown a b → AllFlagged a row top → AllFlagged b row top
 kept a b row top x y g f i l e = f i l (g row i x (omega arith) e)
 
-module _ (m : ℕ) (l0 l1 l2 l3 l4 l5 l6 l7 l8 : List ℕ) (z : l0 ≡ replicate 36898 0) (few : m ≤ 2048)
+module _ (m : ℕ) (l0 l1 l2 l3 l4 l5 l6 l7 l8 : List ℕ) (z : l0 ≡ replicate 38946 0) (few : m ≤ 2048)
     (r1 : Raising l0 l1 0 1 × ((flags l1 0 0 ≢ 0) × (flags l1 0 0 ≤ 1))) (r2 : Raising l1 l2 1 m × AllFlagged l2 1 m) (r3 : Raising l2 l3 2 m × AllFlagged l3 2 m)
     (r4 : Raising l3 l4 11 2048 × AllFlagged l4 11 2048) (r5 : Raising l4 l5 12 2048 × AllFlagged l5 12 2048) (r6 : Raising l5 l6 13 2048 × AllFlagged l6 13 2048)
     (r7 : Raising l6 l7 14 2048 × AllFlagged l7 14 2048) (r8 : Raising l7 l8 16 2048 × AllFlagged l8 16 2048) where
@@ -84,6 +84,7 @@ module _ (m : ℕ) (l0 l1 l2 l3 l4 l5 l6 l7 l8 : List ℕ) (z : l0 ≡ replicate
       noHead = kept l5 l8 12 2048 (omega arith) (omega arith) after5 (r5 .1) a l;
       failure = kept l7 l8 14 2048 (omega arith) (omega arith) (r8 .0 .grown) (r7 .1) a l;
     };
+    none = λ i l. r8 .0 .rest i l ∙ r7 .0 .rest i l ∙ r6 .0 .rest i l ∙ r5 .0 .rest i l ∙ r4 .0 .rest i l ∙ r3 .0 .rest i l ∙ r2 .0 .rest i l ∙ r1 .0 .rest i l ∙ ap (λ x. getD x (36898 + i) 0) z ∙ all-zero 38946 (36898 + i);
   }
 
 -- ---- the state
@@ -98,6 +99,7 @@ state-begun ws ms start hs rs may r h a b o = record {
   reached = λ q. absurd (o .reach q);
   quiet = go;
   least = λ k p u e f h. absurd (fresh k p (key u) (key-lt ws ms (r .placed .passed) u h) f);
+  gaps = λ p j l a b. absurd (let q = o .none p l in omega arith);
   bounded = λ u e f h. absurd (o .partner (key u) (key-lt ws ms (r .placed .passed) u h) .success f);
 }
   where

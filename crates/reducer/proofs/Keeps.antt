@@ -24,7 +24,7 @@ use Rattle.table.proofs.Encoding.{passed-limits}
 use Rattle.table.proofs.View.{view-after, length-after}
 use Rattle.conditions.specs.Known.{headCount, Tallied}
 use Rattle.search.specs.Flags.{flags, most}
-use Rattle.search.specs.State.{State, Least, Most}
+use Rattle.search.specs.State.{State, Least, Most, Gaps}
 use Rattle.search.proofs.States.{target-lt, key-lt}
 use Rattle.reducer.specs.Opened.{Opened, PartnerFresh, AtomFresh, AllFresh}
 
@@ -80,6 +80,10 @@ module _ (ws ms start hs rs may : List ℕ) (z : State ws ms start hs rs may) (s
       let g = w .grown 11 (key u) (omega arith) (key-lt ws after (z .ready .placed .passed) u v) f in
       ⊎-elim (λ y. let x = z .bounded u e g y in let d = w .more (u .target) t in omega arith) (λ q. absurd (o u e q f)) (opened n P s h u (subst (λ R. So (applies n R u)) is-effect v))
 
+  -- a clause that is gone stays gone
+  gaps-on : (may' : List ℕ) → Opened may may' → Gaps ws after may'
+  gaps-on may' w p j l a b k = z .gaps p j l a (omega (arith, w .rest p l, b)) (effect-below n P s h j .kept (subst (λ R. So (entry R j .kept)) is-effect k))
+
   pub ready-after : Rattle.parts.specs.Parts.Ready ws after start
   ready-after = record { placed = z .ready .placed; marks = omega (arith, z .ready .marks, length-after ws ms s) }
 
@@ -106,6 +110,7 @@ module _ (ws ms start hs rs may : List ℕ) (z : State ws ms start hs rs may) (s
       quiet = λ k e. quiet-on k (flags may (number k)) (flags may (8 + number k)) (flags may' (number k)) (flags may' (8 + number k)) (z .quiet k (λ q. reach-up (e q))) (flags-up k) (keys-up k) (only k);
       least = λ k. least-on k may' o (only k);
       bounded = most-on may' o (only success);
+      gaps = gaps-on may' o;
     }
       where
         heads-same : (a : ℕ) → headCount (left (view ws after)) a ≡ headCount (left P) a
@@ -143,6 +148,7 @@ module _ (ws ms start hs rs may : List ℕ) (z : State ws ms start hs rs may) (s
       reached = λ e. record { is = λ a. z .reached (reach-up e) .is a ∙ reach-same (t e) a };
       quiet = λ k e. quiet-on k (flags may (number k)) (flags may (8 + number k)) (flags may' (number k)) (flags may' (8 + number k)) (z .quiet k (λ q. reach-up (e q))) (flags-up k) (keys-up k) (only k e);
       least = λ k p. least-on k may' o (λ u e q. only k (λ l. absurd (false≢true (subst (λ j. So (usesPartner j)) l p))) u e q) p;
+      gaps = gaps-on may' o;
       bounded = most-on may' o (only success (λ l. absurd (false≢true (subst (λ j. So (usesPartner j)) l refl))));
     }
       where

@@ -32,13 +32,13 @@ use Rattle.reducer.specs.Opened.{Opened, AtomFresh, AllFresh, Lost}
 -- ---- rows
 
 pub opened-by : (may may' : List ℕ) (row top : ℕ) → Raising may may' row top → (row ≡ 0) ⊎ (9 ≤ row) → Opened may may'
-opened-by may may' row top g o = record { long = g .long; grown = g .grown; lower = g .lower; rows = λ m w. g .rows m (λ a b. ⊎-elim (λ x. absurd (omega arith)) (λ x. absurd (omega arith)) o) w; more = g .more }
+opened-by may may' row top g o = record { long = g .long; grown = g .grown; lower = g .lower; rows = λ m w. g .rows m (λ a b. ⊎-elim (λ x. absurd (omega arith)) (λ x. absurd (omega arith)) o) w; more = g .more; rest = g .rest }
 
 pub opened-none : (may : List ℕ) → Opened may may
-opened-none may = record { long = refl; grown = λ r i a b e. e; lower = λ r i a b f. omega arith; rows = λ m w. w; more = λ i l. omega arith }
+opened-none may = record { long = refl; grown = λ r i a b e. e; lower = λ r i a b f. omega arith; rows = λ m w. w; more = λ i l. omega arith; rest = λ i l. refl }
 
 pub opened-more : (one two three : List ℕ) → Opened one two → Opened two three → Opened one three
-opened-more one two three p q = record { long = q .long ∙ p .long; grown = λ r i a b e. p .grown r i a b (q .grown r i a b e); lower = λ r i a b f. let s = p .lower r i a b f in let t = q .lower r i a b (λ e. f (p .grown r i a b e)) in omega arith; rows = λ m w. q .rows m (p .rows m w); more = λ i l. let s = p .more i l in let t = q .more i l in omega arith }
+opened-more one two three p q = record { long = q .long ∙ p .long; grown = λ r i a b e. p .grown r i a b (q .grown r i a b e); lower = λ r i a b f. let s = p .lower r i a b f in let t = q .lower r i a b (λ e. f (p .grown r i a b e)) in omega arith; rows = λ m w. q .rows m (p .rows m w); more = λ i l. let s = p .more i l in let t = q .more i l in omega arith; rest = λ i l. q .rest i l ∙ p .rest i l }
 
 pub fresh-more : (may may' : List ℕ) (a : ℕ) → a < 2048 → Opened may may' → AtomFresh may a → AtomFresh may' a
 fresh-more may may' a l o f = record { noHead = λ e. f .noHead (o .grown 12 a (omega arith) l e); failure = λ e. f .failure (o .grown 14 a (omega arith) l e) }

@@ -17,7 +17,7 @@ use Rattle.table.specs.Places.{programOf}
 use Rattle.table.specs.View.{view, marksAfterAll, zeros}
 use Rattle.conditions.specs.declared.Step.{Step}
 use Rattle.conditions.specs.Known.{stepOf}
-use Rattle.search.specs.Flags.{flags, most, Rows, Grown, AllFlagged}
+use Rattle.search.specs.Flags.{flags, most, next, Rows, Grown, AllFlagged}
 use Rattle.reducer.specs.Reductions.{room, stepsOf, wordsOf}
 
 -- No flag is lost.
@@ -27,6 +27,7 @@ pub record Opened (may may' : List ℕ) : Type 0 where
   pub lower : (r i : ℕ) → r ≤ 16 → i < 2048 → flags may r i ≢ 0 → flags may' r i ≤ flags may r i
   pub rows : (m : ℕ) → Rows m may → Rows m may'
   pub more : (i : ℕ) → i < 2048 → most may i ≤ most may' i
+  pub rest : (i : ℕ) → i < 2048 → next may' i ≡ next may i
 
 -- The clause is a fresh key of kinds 3, 5 and 8.
 pub record PartnerFresh (may : List ℕ) (t : ℕ) : Type 0 where
@@ -43,7 +44,7 @@ pub record AtomFresh (may : List ℕ) (a : ℕ) : Type 0 where
 abbrev pub AllFresh : List ℕ → List ℕ → Type 0
 AllFresh may l = (a : ℕ) → a ∈ l → AtomFresh may a
 
--- Every target of kinds 1 and 2 is flagged, every key of the others is fresh, and the reach is not known.
+-- Every target of kinds 1 and 2 is flagged, every key of the others is fresh, the reach is not known, and no clause is known to be gone.
 pub record AllOpen (may : List ℕ) (m : ℕ) : Type 0 where
   pub rows : Rows m may
   pub reach : flags may 0 0 ≢ 0
@@ -51,6 +52,7 @@ pub record AllOpen (may : List ℕ) (m : ℕ) : Type 0 where
   pub contradiction : AllFlagged may 2 m
   pub partner : (t : ℕ) → t < 2048 → PartnerFresh may t
   pub atom : (a : ℕ) → a < 2048 → AtomFresh may a
+  pub none : (i : ℕ) → i < 2048 → next may i ≡ 0
 
 -- The step applies.
 pub record Taken (ws ms : List ℕ) (s : Step) : Type 0 where

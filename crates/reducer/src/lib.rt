@@ -56,7 +56,7 @@ fn most_steps(words: &[u16]) -> usize
 
 // A clause lost a literal: it is a fresh key of the kinds with a partner, 3, 5 and 8.
 fn open_partner(may: &mut [u16], t: usize)
-    requires { ⌜ (t < 2048) × (length (now may) ≡ 36898) ⌝ }
+    requires { ⌜ (t < 2048) × (length (now may) ≡ 38946) ⌝ }
     ensures { λ _. ⌜ Opened (now (may .entry)) (now (may .exit)) × PartnerFresh (now (may .exit)) t ⌝ }
 {
     search::flag(may, 11, t, 0);
@@ -66,7 +66,7 @@ fn open_partner(may: &mut [u16], t: usize)
 
 // An atom lost a head: it is a fresh key of kinds 4 and 6.
 fn open_atom(may: &mut [u16], atom: usize)
-    requires { ⌜ (atom < 2048) × (length (now may) ≡ 36898) ⌝ }
+    requires { ⌜ (atom < 2048) × (length (now may) ≡ 38946) ⌝ }
     ensures { λ _. ⌜ Opened (now (may .entry)) (now (may .exit)) × AtomFresh (now (may .exit)) atom ⌝ }
 {
     search::flag(may, 12, atom, 0);
@@ -75,7 +75,7 @@ fn open_atom(may: &mut [u16], atom: usize)
 
 // So is every head atom of a clause that was deleted.
 fn open_head(words: &[u16], marks: &[u8], start: &[u16], may: &mut [u16], t: usize)
-    requires { ⌜ (Ready (now words) (now marks) (now start)) × ((t < getD (now words) 1 0) × (length (now may) ≡ 36898)) ⌝ }
+    requires { ⌜ (Ready (now words) (now marks) (now start)) × ((t < getD (now words) 1 0) × (length (now may) ≡ 38946)) ⌝ }
     ensures { λ _. ⌜ Opened (now (may .entry)) (now (may .exit)) × AllFresh (now (may .exit)) (entry (view (now (words .entry)) (now (marks .entry))) t .clause .head) ⌝ }
 {
     let s = parts::span(words, start, t, Part::Head);
@@ -253,7 +253,7 @@ fn run_steps(
 
 // Every target of kinds 1 and 2 is flagged, every key of kinds 3, 4, 5, 6 and 8 is fresh, and the reach is to be found.
 fn flag_kinds(may: &mut [u16], m: usize)
-    requires { ⌜ (now may ≡ replicate 36898 0) × (m ≤ 2048) ⌝ }
+    requires { ⌜ (now may ≡ replicate 38946 0) × (m ≤ 2048) ⌝ }
     ensures { λ _. ⌜ AllOpen (now (may .exit)) m ⌝ }
 {
     search::flag(may, 0, 0, 0);

@@ -31,7 +31,7 @@ use Rattle.search.specs.Kinds.{PartnerKind, HeadsKind, walkedPart, targe
 use Rattle.search.specs.State.{Clue, NoPartner, Spread, KeySpread}
 use Rattle.search.proofs.Flags.{raising-none, raising-more, raising-below}
 use Rattle.search.proofs.States.{target-lt}
-use Rattle.search.proofs.Spreads.{by-partner, by-atom}
+use Rattle.search.proofs.Spreads.{by-partner, by-atom, partner-kept}
 use Rattle.search.proofs.Walks.{bare-test}
 
 -- ---- an atom that each target has
@@ -70,6 +70,22 @@ head-clue (suc (suc (suc (suc (suc (suc (suc (suc (suc n))))))))) cs c d k e h =
 
 pub clue-head : (ws ms : List ℕ) (kind x : ℕ) → PartnerKind kind → null (entry (view ws ms) x .clause .head) ≡ false → Clue ws ms kind x 0 (targetPart kind) (getD (entry (view ws ms) x .clause .head) 0 0)
 clue-head ws ms kind x k e t h = head-clue kind (left (view ws ms)) (entry (view ws ms) t .clause) (entry (view ws ms) x .clause) k e (asked-of ws ms kind t x 0 h)
+
+-- a fact without a head serves no step of kind 3
+headless : (f : ℕ → Bool) (l : List ℕ) → null l ≡ true → ¬ So (single f l)
+headless f [] e h = false≢true h
+headless f (b ∷ l) e h = false≢true e
+
+pub spread-headless : (ws ms may : List ℕ) (kind x : ℕ) → kind ≡ 3 → null (entry (view ws ms) x .clause .head) ≡ true → Spread ws ms may may kind x 0
+unfolding condition
+spread-headless ws ms may kind x k e = record {
+  raising = raising-none may kind (getD ws 1 0);
+  flagged = λ t h.
+      let c = entry (view ws ms) t .clause in
+      let d = entry (view ws ms) x .clause in
+      let w = subst (λ j. So (condition (kindOf j) (left (view ws ms)) c d 0)) k (asked-of ws ms kind t x 0 h) in
+      absurd (headless (λ b. mem b (c .pos)) (d .head) e (and-iff (fact d) (single (λ b. mem b (c .pos)) (d .head)) .0 w .1));
+}
 
 pub clue-pos : (ws ms : List ℕ) (x : ℕ) → null (entry (view ws ms) x .clause .pos) ≡ false → Clue ws ms 8 x 0 Pos (getD (entry (view ws ms) x .clause .pos) 0 0)
 unfolding condition
@@ -194,10 +210,7 @@ fact-asked (suc (suc (suc (suc (suc (suc (suc (suc (suc n))))))))) cs c d k e h 
 
 -- a clause that is gone, or is no fact, is no partner
 pub gone-partner : (ws ms : List ℕ) (kind x : ℕ) → PartnerKind kind → entry (view ws ms) x .kept ≡ false → NoPartner ws ms kind x
-gone-partner ws ms kind x k e t h =
-    let w = applies-ask (getD ws 0 0) (view ws ms) (step (kindOf kind) t x 0) h .1 in
-    let v = subst (λ b. So (cond b (entry (view ws ms) x .kept && not (eqb x t)) (eqb x 0))) (k .uses) w in
-    not-so e (and-iff (entry (view ws ms) x .kept) (not (eqb x t)) .0 v .0)
+gone-partner ws ms kind x k e t h = not-so e (partner-kept (view ws ms) (getD ws 0 0) (kindOf kind) t x 0 (k .uses) h)
 
 pub open-partner : (ws ms : List ℕ) (kind x : ℕ) → PartnerKind kind → kind ≢ 8 → fact (entry (view ws ms) x .clause) ≡ false → NoPartner ws ms kind x
 open-partner ws ms kind x k d e t h = not-so e (fact-asked kind (left (view ws ms)) (entry (view ws ms) t .clause) (entry (view ws ms) x .clause) k d (asked-of ws ms kind t x 0 h))

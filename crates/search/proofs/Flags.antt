@@ -7,14 +7,14 @@ use native.Mathlib.Omega.{arith}
 use native.Mathlib.Decide.{ℕ-discrete, decLt}
 use lib.ListN.{length, getD, set, length-set, List·getD-eq-default}
 use lib.Seq.{getD-set-same, getD-set-other}
-use Rattle.search.specs.Flags.{flags, most, Flagged, Covered, lowest, highest, Inside, Rows, Raising, Fenced}
+use Rattle.search.specs.Flags.{flags, most, next, Flagged, Covered, lowest, highest, Inside, Rows, Raising, Fenced}
 
 -- two rows have no place in common
 pub apart : (r s i j : ℕ) → i < 2048 → j < 2048 → r ≢ s → r * 2048 + i ≢ s * 2048 + j
 apart r s i j a b d e = by-cases (decLt r s) (λ x. omega arith) (λ x. by-cases (decLt s r) (λ y. omega arith) (λ y. d (omega arith)))
 
 -- fewer flags between the same bounds
-rows-with : (may may' : List ℕ) → length may' ≡ length may → ((r i : ℕ) → r ≤ 16 → i < 2048 → flags may r i ≡ 0 → flags may' r i ≡ 0) → ((j : ℕ) → 34816 ≤ j → j < 34850 → getD may' j 0 ≡ getD may j 0)
+pub rows-with : (may may' : List ℕ) → length may' ≡ length may → ((r i : ℕ) → r ≤ 16 → i < 2048 → flags may r i ≡ 0 → flags may' r i ≡ 0) → ((j : ℕ) → 34816 ≤ j → j < 34850 → getD may' j 0 ≡ getD may j 0)
     → (m : ℕ) → Rows m may → Rows m may'
 rows-with may may' e f s m w = record {
   long = e ∙ w .long;
@@ -67,7 +67,7 @@ module _ (may : List ℕ) (row t v : ℕ) (a : row ≤ 16) (l : t < 2048) (o : f
 
 -- ---- a flag more, and bounds that hold it
 
-module _ (may : List ℕ) (row i v x y : ℕ) (hr : row ≤ 16) (hi : i < 2048) (long : length may ≡ 36898) (pos : 0 < v) where
+module _ (may : List ℕ) (row i v x y : ℕ) (hr : row ≤ 16) (hi : i < 2048) (long : length may ≡ 38946) (pos : 0 < v) where
   abbrev one : List ℕ
   one = set may (row * 2048 + i) v
 
@@ -100,6 +100,9 @@ module _ (may : List ℕ) (row i v x y : ℕ) (hr : row ≤ 16) (hi : i < 2048) 
 
   most-same : (j : ℕ) → most after j ≡ most may j
   most-same j = getD-set-other (set one (34816 + row) x) (34833 + row) (34850 + j) y 0 (λ e. omega arith) ∙ getD-set-other one (34816 + row) (34850 + j) x 0 (λ e. omega arith) ∙ getD-set-other may (row * 2048 + i) (34850 + j) v 0 (λ e. omega arith)
+
+  next-same : (j : ℕ) → next after j ≡ next may j
+  next-same j = getD-set-other (set one (34816 + row) x) (34833 + row) (36898 + j) y 0 (λ e. omega arith) ∙ getD-set-other one (34816 + row) (36898 + j) x 0 (λ e. omega arith) ∙ getD-set-other may (row * 2048 + i) (36898 + j) v 0 (λ e. omega arith)
 
   module _ (xi : x ≤ i) (xl : x ≤ lowest may row) (iy : i + 1 ≤ y) (hy : highest may row ≤ y) (o : (y ≡ i + 1) ⊎ (y ≡ highest may row)) (less : flags may row i ≢ 0 → v ≤ flags may row i) where
     flag-rows : (m : ℕ) → (1 ≤ row → row ≤ 8 → i + 1 ≤ m) → Rows m may → Rows m after
@@ -140,10 +143,11 @@ module _ (may : List ℕ) (row i v x y : ℕ) (hr : row ≤ 16) (hi : i < 2048) 
       frame = λ r j a b d. flags-other r j a b (apart r row j i b hi d);
       rows = flag-rows;
       more = λ j l. omega (arith, most-same j);
+      rest = λ j l. next-same j;
     }
 
 pub raising-none : (may : List ℕ) (row top : ℕ) → Raising may may row top
-raising-none may row top = record { long = refl; grown = λ r i a b e. e; lower = λ r i a b f. omega arith; frame = λ r i a b d. refl; rows = λ m h w. w; more = λ i l. omega arith }
+raising-none may row top = record { long = refl; grown = λ r i a b e. e; lower = λ r i a b f. omega arith; frame = λ r i a b d. refl; rows = λ m h w. w; more = λ i l. omega arith; rest = λ i l. refl }
 
 pub raising-more : (one two three : List ℕ) (row x y z : ℕ) → x ≤ z → y ≤ z → Raising one two row x → Raising two three row y → Raising one three row z
 raising-more one two three row x y z a b p q = record {
@@ -153,6 +157,7 @@ raising-more one two three row x y z a b p q = record {
   frame = λ r i c d e. q .frame r i c d e ∙ p .frame r i c d e;
   rows = λ m h w. q .rows m (λ c d. let k = h c d in omega arith) (p .rows m (λ c d. let k = h c d in omega arith) w);
   more = λ i l. let s = p .more i l in let t = q .more i l in omega arith;
+  rest = λ i l. q .rest i l ∙ p .rest i l;
 }
 
 -- those that were set stay
@@ -167,7 +172,7 @@ raising-keeps may may' row top g r i a b f e = f (g .grown r i a b e)
 
 -- ---- a greater partner
 
-module _ (may : List ℕ) (t v : ℕ) (l : t < 2048) (long : length may ≡ 36898) (h : most may t ≤ v) where
+module _ (may : List ℕ) (t v : ℕ) (l : t < 2048) (long : length may ≡ 38946) (h : most may t ≤ v) where
   abbrev raised : List ℕ
   raised = set may (34850 + t) v
 
@@ -185,11 +190,12 @@ module _ (may : List ℕ) (t v : ℕ) (l : t < 2048) (long : length may ≡ 3689
     frame = λ r i a b d. below-same (r * 2048 + i) (omega arith);
     rows = λ m z w. rows-with may raised (simp length-set) (λ r i a b e. below-same (r * 2048 + i) (omega arith) ∙ e) (λ j a b. below-same j b) m w;
     more = λ i k. by-cases (ℕ-discrete i t) (λ d. subst (λ j. most may j ≤ most raised j) (sym d) (omega (arith, most-there))) (λ d. omega (arith, getD-set-other may (34850 + t) (34850 + i) v 0 (λ e. d (omega arith))));
+    rest = λ i k. getD-set-other may (34850 + t) (36898 + i) v 0 (λ e. omega arith);
   }
 
 -- ---- bounds drawn closer
 
-module _ (may : List ℕ) (row x y : ℕ) (hr : row ≤ 16) (long : length may ≡ 36898) where
+module _ (may : List ℕ) (row x y : ℕ) (hr : row ≤ 16) (long : length may ≡ 38946) where
   abbrev drawn : List ℕ
   drawn = set (set may (34816 + row) x) (34833 + row) y
 
@@ -220,10 +226,10 @@ module _ (may : List ℕ) (row x y : ℕ) (hr : row ≤ 16) (long : length may �
   }
 
   pub drawn-closer : Fenced may drawn row x y
-  drawn-closer = record { long = simp length-set; same = drawn-same; rows = drawn-rows; more = λ i l. omega (arith, drawn-other (34850 + i) (λ e. omega arith) (λ e. omega arith)) }
+  drawn-closer = record { long = simp length-set; same = drawn-same; rows = drawn-rows; more = λ i l. omega (arith, drawn-other (34850 + i) (λ e. omega arith) (λ e. omega arith)); rest = λ i l. drawn-other (36898 + i) (λ e. omega arith) (λ e. omega arith) }
 
 -- an empty row
-pub drawn-empty : (may : List ℕ) (row low end : ℕ) → row ≤ 16 → length may ≡ 36898 → end ≤ low → Fenced may (set (set may (34816 + row) 2048) (34833 + row) 0) row low end
+pub drawn-empty : (may : List ℕ) (row low end : ℕ) → row ≤ 16 → length may ≡ 38946 → end ≤ low → Fenced may (set (set may (34816 + row) 2048) (34833 + row) 0) row low end
 drawn-empty may row low end a l h =
     let f = drawn-closer may row 2048 0 a l in
-    record { long = f .long; same = f .same; rows = λ m w n e g. f .rows m w (λ i k q. let z = n i k q in absurd (omega arith)) (omega arith) (λ _. omega arith); more = f .more }
+    record { long = f .long; same = f .same; rows = λ m w n e g. f .rows m w (λ i k q. let z = n i k q in absurd (omega arith)) (omega arith) (λ _. omega arith); more = f .more; rest = f .rest }

@@ -6,3 +6,4 @@ pub mod States
 pub mod Spreads
 pub mod Clues
 pub mod Subsumers
+pub mod Gaps

@@ -87,11 +87,15 @@ module _ (ws ms may may' : List ℕ) (kind x : ℕ) where
   pub key-all : usesPartner (kindOf kind) ≡ false → Raising may may' kind (getD ws 1 0) → AllFlagged may' kind (getD ws 1 0) → KeySpread ws ms may may' kind x
   key-all n g f = record { raising = g; flagged = λ u e d h. (f (u .target) (target-lt ws ms u h), λ p. absurd (false≢true (sym n ∙ p))) }
 
+-- a partner is kept
+pub partner-kept : (P : Marked) (n : ℕ) (k : Kind) (t p a : ℕ) → So (usesPartner k) → So (applies n P (step k t p a)) → So (entry P p .kept)
+partner-kept P n k t p a u h =
+    let v = subst (λ b. So (cond b (entry P p .kept && not (eqb p t)) (eqb p 0))) u (applies-ask n P (step k t p a) h .1) in
+    and-iff (entry P p .kept) (not (eqb p t)) .0 v .0
+
 -- a number that is no clause's is no partner
 pub partner-lt : (ws ms : List ℕ) (k : Kind) (t p : ℕ) → So (usesPartner k) → So (applies (getD ws 0 0) (view ws ms) (step k t p 0)) → p < getD ws 1 0
-partner-lt ws ms k t p u h =
-    let v = subst (λ b. So (cond b (entry (view ws ms) p .kept && not (eqb p t)) (eqb p 0))) u (applies-ask (getD ws 0 0) (view ws ms) (step k t p 0) h .1) in
-    omega (arith, kept-lt (view ws ms) p (and-iff (entry (view ws ms) p .kept) (not (eqb p t)) .0 v .0), length-view ws ms)
+partner-lt ws ms k t p u h = omega (arith, kept-lt (view ws ms) p (partner-kept (view ws ms) (getD ws 0 0) k t p 0 u h), length-view ws ms)
 
 pub key-none : (ws ms may : List ℕ) (kind x : ℕ) → So (usesPartner (kindOf kind)) → getD ws 1 0 ≤ x → KeySpread ws ms may may kind x
 key-none ws ms may kind x p l = record {

@@ -30,9 +30,9 @@ use Rattle.conditions.specs.Known.{Heads, Known}
 use Rattle.conditions.specs.declared.Step as row
 use Rattle.search.specs.declared.Found.{Found}
 use Rattle.search.specs.declared.Found.the-variants.{One, Nothing}
-use Rattle.search.specs.Flags.{flags, most, highest, Inside, Rows, Raising, AllFlagged, Fenced}
+use Rattle.search.specs.Flags.{flags, most, next, highest, Inside, Rows, Raising, AllFlagged, Fenced}
 use Rattle.search.specs.Kinds.{PartnerKind, AtomKind, HeadsKind}
-use Rattle.search.specs.State.{foundOf, Arrays, Calm, Swept, KeySpread, KeyPassed, Settled, Least, Most, State, Prepared}
+use Rattle.search.specs.State.{foundOf, Arrays, Calm, Swept, KeySpread, KeyPassed, Settled, Least, Most, Gaps, State, Prepared}
 use Rattle.search.proofs.Fits.{kind-number}
 use Rattle.search.proofs.Flags.{apart, outside, rows-set}
 
@@ -103,13 +103,14 @@ module _ (ws ms start hs rs may : List ℕ) (z : State ws ms start hs rs may) wh
         (λ i l e. e) (λ i l e. s i l);
     least = λ p u e f h. subst (λ j. flags may j (u .target) ≤ key u + 1) (kind-number kind a b) (z .least (kindOf kind) p u e (subst (λ j. flags may (8 + j) (key u) ≡ 0) (sym (kind-number kind a b)) (s (key u) (key-lt ws ms (z .ready .placed .passed) u h))) h);
     bounded = λ e u f _ h. z .bounded u f (subst (λ j. flags may (8 + j) (key u) ≡ 0) e (s (key u) (key-lt ws ms (z .ready .placed .passed) u h))) h;
+    gaps = z .gaps;
   }
 
   -- other flags of the same words and marks
   state-with : (may' : List ℕ) → Rows (getD ws 1 0) may' → (flags may' 0 0 ≡ 0 → flags may 0 0 ≡ 0)
       → ((k : Kind) → known k may → Quiet (getD ws 0 0) (view ws ms) k (flags may (number k)) (flags may (8 + number k)) → Quiet (getD ws 0 0) (view ws ms) k (flags may' (number k)) (flags may' (8 + number k)))
-      → ((k : Kind) → known k may → Least ws ms k (flags may' (number k)) (flags may' (8 + number k))) → Most ws ms (most may') (flags may' 11) → State ws ms start hs rs may'
-  state-with may' r e q w b = record {
+      → ((k : Kind) → known k may → Least ws ms k (flags may' (number k)) (flags may' (8 + number k))) → Most ws ms (most may') (flags may' 11) → Gaps ws ms may' → State ws ms start hs rs may'
+  state-with may' r e q w b g = record {
     ready = z .ready;
     counted = z .counted;
     atoms = z .atoms;
@@ -119,6 +120,7 @@ module _ (ws ms start hs rs may : List ℕ) (z : State ws ms start hs rs may) wh
     quiet = λ k h. q k (λ x. e (h x)) (z .quiet k (λ x. e (h x)));
     least = λ k p. w k (partner-loop may k p) p;
     bounded = b;
+    gaps = g;
   }
 
   -- a target that has a step with a key that is not fresh is flagged, so its flag can only have become less
@@ -137,6 +139,9 @@ module _ (ws ms start hs rs may : List ℕ) (z : State ws ms start hs rs may) wh
       let x = z .bounded u e (b (key u) (key-lt ws ms (z .ready .placed .passed) u h) f) h in
       let y = a (u .target) (omega (arith, target-lt ws ms u h, few-clauses)) in omega arith
 
+  gaps-at : (may' : List ℕ) → ((i : ℕ) → i < 2048 → next may' i ≡ next may i) → Gaps ws ms may'
+  gaps-at may' e p j l a b = z .gaps p j l a (omega (arith, e p l, b))
+
   same-at : (may' : List ℕ) (k : Kind) → ((i : ℕ) → i < 2048 → flags may' (number k) i ≡ 0 → flags may (number k) i ≡ 0) → ((i : ℕ) → i < 2048 → flags may' (8 + number k) i ≡ 0 → flags may (8 + number k) i ≡ 0)
       → Quiet (getD ws 0 0) (view ws ms) k (flags may (number k)) (flags may (8 + number k)) → Quiet (getD ws 0 0) (view ws ms) k (flags may' (number k)) (flags may' (8 + number k))
   same-at may' k a b q = quiet-same ws ms (z .ready .placed .passed) k (flags may (number k)) (flags may (8 + number k)) (flags may' (number k)) (flags may' (8 + number k)) q a b
@@ -146,29 +151,29 @@ module _ (ws ms start hs rs may : List ℕ) (z : State ws ms start hs rs may) wh
   state-raised may' row top g h = state-with may' (g .rows (getD ws 1 0) h (z .rows)) (λ e. g .grown 0 0 (omega arith) (omega arith) e)
       (λ k _. same-at may' k (λ i l e. g .grown (number k) i (row-low k) l e) (λ i l e. g .grown (8 + number k) i (row-high k) l e))
       (λ k n. least-at may' k n (λ i l f. g .lower (number k) i (row-low k) l f) (λ i l e. g .grown (8 + number k) i (row-high k) l e))
-      (most-at may' (g .more) (λ i l e. g .grown 11 i (omega arith) l e))
+      (most-at may' (g .more) (λ i l e. g .grown 11 i (omega arith) l e)) (gaps-at may' (g .rest))
 
   -- after bounds were drawn closer
   pub state-fenced : (may' : List ℕ) (row low end : ℕ) → Fenced may may' row low end → Inside may row low end → end ≤ 2048 → (row ≤ 8 → end ≤ getD ws 1 0) → State ws ms start hs rs may'
   state-fenced may' row low end f n h g = state-with may' (f .rows (getD ws 1 0) (z .rows) n h g) (λ e. sym (f .same 0 0 (omega arith) (omega arith)) ∙ e)
       (λ k _. same-at may' k (λ i l e. sym (f .same (number k) i (row-low k) l) ∙ e) (λ i l e. sym (f .same (8 + number k) i (row-high k) l) ∙ e))
       (λ k n. least-at may' k n (λ i l _. omega (arith, f .same (number k) i (row-low k) l)) (λ i l e. sym (f .same (8 + number k) i (row-high k) l) ∙ e))
-      (most-at may' (f .more) (λ i l e. sym (f .same 11 i (omega arith) l) ∙ e))
+      (most-at may' (f .more) (λ i l e. sym (f .same 11 i (omega arith) l) ∙ e)) (gaps-at may' (f .rest))
 
   -- after a search
   pub state-swept : (may' : List ℕ) (kind : ℕ) → 1 ≤ kind → kind ≤ 8 → Swept ws ms may may' kind → State ws ms start hs rs may'
-  state-swept may' kind a b s = state-with may' (s .calm .rows) (λ e. sym (s .frame 0 (inl (omega arith))) ∙ e) (λ k _ q. by-cases (ℕ-discrete (number k) kind)
+  state-swept may' kind a b s = state-with may' (s .calm .rows) (λ e. sym (s .frame 0 (omega arith) (inl (omega arith))) ∙ e) (λ k _ q. by-cases (ℕ-discrete (number k) kind)
       (λ e. quiet-more (getD ws 0 0) (view ws ms) k (flags may' (number k)) stale
       (subst (λ j. Quiet (getD ws 0 0) (view ws ms) j (flags may' (number k)) stale) (ap kindOf (sym e) ∙ kindOf-number k)
       (subst (λ j. Quiet (getD ws 0 0) (view ws ms) (kindOf kind) (flags may' j) stale) (sym e) (s .calm .quiet)))
       (flags may' (number k)) (flags may' (8 + number k)) (λ i e. e) (λ i e. refl))
-      (λ d. same-at may' k (λ i l e. sym (s .frame (number k * 2048 + i) (aside (number k) i l d)) ∙ e)
-      (λ i l e. sym (s .frame ((8 + number k) * 2048 + i) (aside (8 + number k) i l (λ x. omega (arith, number-bounds k)))) ∙ e) q))
+      (λ d. same-at may' k (λ i l e. sym (s .frame (number k * 2048 + i) (omega (arith, number-bounds k)) (aside (number k) i l d)) ∙ e)
+      (λ i l e. sym (s .frame ((8 + number k) * 2048 + i) (omega (arith, number-bounds k)) (aside (8 + number k) i l (λ x. omega (arith, number-bounds k)))) ∙ e) q))
       (λ k n. by-cases (ℕ-discrete (number k) kind)
       (λ e p u f g h. subst (λ j. flags may' j (u .target) ≤ key u + 1) (sym e) (s .calm .least (subst (λ j. So (usesPartner j)) (sym (ap kindOf (sym e) ∙ kindOf-number k)) p) u (f ∙ sym (ap kindOf (sym e) ∙ kindOf-number k)) refl h))
-      (λ d. least-at may' k n (λ i l _. omega (arith, s .frame (number k * 2048 + i) (aside (number k) i l d)))
-      (λ i l e. sym (s .frame ((8 + number k) * 2048 + i) (aside (8 + number k) i l (λ x. omega (arith, number-bounds k)))) ∙ e)))
-      (most-at may' (λ i l. omega (arith, s .frame (34850 + i) (inr (omega arith)))) (λ i l e. sym (s .frame (11 * 2048 + i) (inr (omega arith))) ∙ e))
+      (λ d. least-at may' k n (λ i l _. omega (arith, s .frame (number k * 2048 + i) (omega (arith, number-bounds k)) (aside (number k) i l d)))
+      (λ i l e. sym (s .frame ((8 + number k) * 2048 + i) (omega (arith, number-bounds k)) (aside (8 + number k) i l (λ x. omega (arith, number-bounds k)))) ∙ e)))
+      (most-at may' (λ i l. omega (arith, s .frame (34850 + i) (omega arith) (inr (omega arith)))) (λ i l e. sym (s .frame (11 * 2048 + i) (omega arith) (inr (omega arith))) ∙ e)) (s .calm .gaps)
     where
       aside : (r i : ℕ) → i < 2048 → r ≢ kind → (r * 2048 + i < kind * 2048) ⊎ (kind * 2048 + 2048 ≤ r * 2048 + i)
       aside r i l d = by-cases (decLt r kind) (λ x. inl (omega arith)) (λ x. inr (omega arith))
@@ -226,7 +231,8 @@ module _ (ws ms start hs rs may : List ℕ) (z : State ws ms start hs rs may) wh
     pub key-passed : KeyPassed ws ms start hs rs may gone kind x
     key-passed = record {
       state = state-with gone (rows-set may' (8 + kind) x 0 (omega arith) l (λ _. refl) (getD ws 1 0) (after-spread .rows))
-          (λ e. s .raising .grown 0 0 (omega arith) (omega arith) (sym (elsewhere 0 0 (omega arith) (inl (λ y. omega arith))) ∙ e)) (λ k _. key-quiet k) key-least key-bounded;
+          (λ e. s .raising .grown 0 0 (omega arith) (omega arith) (sym (elsewhere 0 0 (omega arith) (inl (λ y. omega arith))) ∙ e)) (λ k _. key-quiet k) key-least key-bounded
+          (gaps-at gone (λ i k. getD-set-other may' ((8 + kind) * 2048 + x) (36898 + i) 0 0 (λ y. omega arith) ∙ s .raising .rest i k));
       long = simp length-set (s .raising .long);
       reach = elsewhere 0 0 (omega arith) (inl (λ y. omega arith)) ∙ s .raising .frame 0 0 (omega arith) (omega arith) (λ e. omega arith);
       gone = getD-set-same may' ((8 + kind) * 2048 + x) 0 0 (omega (arith, after-spread .rows .long));
@@ -253,6 +259,7 @@ module _ (ws ms start hs rs may : List ℕ) (z : State ws ms start hs rs may) wh
     least = λ k p. least-at after k (partner-loop may k p) (λ i l f. let w = g .lower (number k) i (row-low k) l f in omega (arith, w, other (number k * 2048 + i) (omega (arith, number-bounds k))))
         (λ i l e. g .grown (8 + number k) i (row-high k) l (sym (other ((8 + number k) * 2048 + i) (omega (arith, number-bounds k))) ∙ e)) p;
     bounded = most-at after (λ i l. omega (arith, g .more i l, other (34850 + i) (omega arith))) (λ i l e. g .grown 11 i (omega arith) l (sym (other (11 * 2048 + i) (omega arith)) ∙ e));
+    gaps = gaps-at after (λ i l. other (36898 + i) (omega arith) ∙ g .rest i l);
   }
     where
       after : List ℕ

@@ -36,7 +36,7 @@ use Rattle.search.specs.declared.Found.the-variants.{One, Nothing}
 use Rattle.conditions.specs.declared.Step as row
 use Rattle.search.specs.Flags.{flags, most, Inside}
 use Rattle.search.specs.Kinds.{PartnerKind, AtomKind, walkedPart}
-use Rattle.search.specs.State.{foundOf, stoppedAt, Calm, Swept, Walk, Partners}
+use Rattle.search.specs.State.{foundOf, stoppedAt, Gaps, Calm, Swept, Walk, Partners}
 use Rattle.search.proofs.Fits.{kind-number, words-below}
 use Rattle.search.proofs.Flags.{outside, rows-set, flag-cleared}
 use Rattle.search.proofs.Spreads.{by-partner, partner-lt}
@@ -167,19 +167,28 @@ module _ (ws ms : List ℕ) (kind t e : ℕ) (q : Partners ws ms kind t e) (k : 
 
 -- ---- targets
 
+-- a target has no step with a partner before its flag's key
+pub calm-from : (ws ms may : List ℕ) (kind : ℕ) → Calm ws ms may kind → PartnerKind kind → (t q : ℕ) → q + 1 < flags may kind t → applies (getD ws 0 0) (view ws ms) (step (kindOf kind) t q 0) ≡ false
+calm-from ws ms may kind c k t q l = so-false _ (λ h.
+    let v = c .least (k .uses) (step (kindOf kind) t q 0) refl refl h in
+    let w : key (step (kindOf kind) t q 0) ≡ q = ap (λ b. cond b q 0) (k .uses) in omega (arith, v, w, l))
+
 pub swept-none : (ws ms may : List ℕ) (kind : ℕ) → Calm ws ms may kind → Swept ws ms may may kind
-swept-none ws ms may kind c = record { calm = c; frame = λ j _. refl }
+swept-none ws ms may kind c = record { calm = c; frame = λ j _ _. refl }
 
 module _ (ws ms may may' : List ℕ) (kind : ℕ) (s : Swept ws ms may may' kind) where
   -- a target without a flag has no step
   pub swept-over : (t : ℕ) → getD may' (kind * 2048 + t) 0 ≡ 0 → firstPartner (getD ws 0 0) (view ws ms) (kindOf kind) t ≡ none
   swept-over t e = quiet-target (getD ws 0 0) (view ws ms) (kindOf kind) (flags may' kind) stale (s .calm .quiet) (λ x. refl) t e
 
-  swept-frame : (t v : ℕ) → t < 2048 → (j : ℕ) → (j < kind * 2048) ⊎ (kind * 2048 + 2048 ≤ j) → getD (set may' (kind * 2048 + t) v) j 0 ≡ getD may j 0
-  swept-frame t v l j o = getD-set-other may' (kind * 2048 + t) j v 0 (λ z. ⊎-elim (λ x. omega arith) (λ x. omega arith) o) ∙ s .frame j o
+  swept-frame : (t v : ℕ) → t < 2048 → (j : ℕ) → j < 36898 → (j < kind * 2048) ⊎ (kind * 2048 + 2048 ≤ j) → getD (set may' (kind * 2048 + t) v) j 0 ≡ getD may j 0
+  swept-frame t v l j h o = getD-set-other may' (kind * 2048 + t) j v 0 (λ z. ⊎-elim (λ x. omega arith) (λ x. omega arith) o) ∙ s .frame j h o
 
   most-same : (t v i : ℕ) → kind ≤ 16 → t < 2048 → most (set may' (kind * 2048 + t) v) i ≡ most may' i
   most-same t v i h l = getD-set-other may' (kind * 2048 + t) (34850 + i) v 0 (λ z. omega arith)
+
+  gaps-same : (t v : ℕ) → kind ≤ 16 → t < 2048 → Gaps ws ms (set may' (kind * 2048 + t) v)
+  gaps-same t v h l p j a b d = s .calm .gaps p j a b (omega (arith, getD-set-other may' (kind * 2048 + t) (36898 + p) v 0 (λ z. omega arith), d))
 
   -- a target that has no step loses its flag
   pub swept-clear : kind ≤ 16 → (t : ℕ) → t < 2048 → firstPartner (getD ws 0 0) (view ws ms) (kindOf kind) t ≡ none → Swept ws ms may (set may' (kind * 2048 + t) 0) kind
@@ -192,6 +201,7 @@ module _ (ws ms may may' : List ℕ) (kind : ℕ) (s : Swept ws ms may may' kind
           (λ d. let w = flag-cleared may' (kind * 2048 + t) (kind * 2048 + u .target) (let z : kind * 2048 + u .target ≡ kind * 2048 + t = omega arith in z) in omega (arith, w))
           (λ d. omega (arith, getD-set-other may' (kind * 2048 + t) (kind * 2048 + u .target) 0 0 (λ q. d (omega arith)), v));
       bounded = λ d u f g y. omega (arith, most-same t 0 (u .target) h l, s .calm .bounded d u f g y);
+      gaps = gaps-same t 0 h l;
     };
     frame = swept-frame t 0 l;
   }
@@ -210,6 +220,7 @@ module _ (ws ms may may' : List ℕ) (kind : ℕ) (s : Swept ws ms may may' kind
           (λ x. omega (arith, q)))
           (λ d. omega (arith, beside (u .target) d, s .calm .least y u g h v));
       bounded = λ d u g h y. omega (arith, most-same t (p + 1) (u .target) (let z = k .high in omega arith) l, s .calm .bounded d u g h y);
+      gaps = gaps-same t (p + 1) (let z = k .high in omega arith) l;
     };
     frame = swept-frame t (p + 1) l;
   }
@@ -227,12 +238,6 @@ module _ (ws ms may may' : List ℕ) (kind : ℕ) (s : Swept ws ms may may' kind
     -- the targets before the row's first flag have no step
     pub swept-before : t ≤ getD ws 1 0 → Before (getD ws 0 0) (view ws ms) (kindOf kind) t
     swept-before l j k = swept-over j (outside may' kind t end j w (omega arith) (λ a b. omega arith))
-
-    -- nor have partners before the flag's key
-    pub swept-from : PartnerKind kind → (q : ℕ) → q + 1 < flags may' kind t → applies (getD ws 0 0) (view ws ms) (step (kindOf kind) t q 0) ≡ false
-    swept-from k q l = so-false _ (λ h.
-        let v = s .calm .least (k .uses) (step (kindOf kind) t q 0) refl refl h in
-        let w : key (step (kindOf kind) t q 0) ≡ q = ap (λ b. cond b q 0) (k .uses) in omega (arith, v, w, l))
 
     -- nor has any where the row has no flag
     pub swept-all : end ≤ t → Before (getD ws 0 0) (view ws ms) (kindOf kind) (getD ws 1 0)

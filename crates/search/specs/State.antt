@@ -19,7 +19,7 @@ use Rattle.reach.specs.Bytes.{Reached}
 use Rattle.conditions.specs.Known.{Heads}
 use Rattle.search.specs.declared.Found.{Found}
 use Rattle.search.specs.declared.Found.the-variants.{One, Nothing}
-use Rattle.search.specs.Flags.{flags, most, Covered, Rows, Raising}
+use Rattle.search.specs.Flags.{flags, most, next, Covered, Inside, Rows, Raising}
 
 -- a step as the search gives it
 unfoldable pub foundOf : Option Step → Found
@@ -40,17 +40,22 @@ Least ws ms k may fresh = So (usesPartner k) → (u : Step) → u .kind ≡ k �
 abbrev pub Most : List ℕ → List ℕ → (ℕ → ℕ) → (ℕ → ℕ) → Type 0
 Most ws ms top fresh = (u : Step) → u .kind ≡ success → fresh (key u) ≡ 0 → So (applies (getD ws 0 0) (view ws ms) u) → key u + 1 ≤ top (u .target)
 
+-- From a clause up to its number every clause is gone.
+abbrev pub Gaps : List ℕ → List ℕ → List ℕ → Type 0
+Gaps ws ms may = (p j : ℕ) → p < 2048 → p ≤ j → j < next may p → ¬ So (entry (view ws ms) j .kept)
+
 -- A target of the kind without a flag has no step.
 pub record Calm (ws ms may : List ℕ) (kind : ℕ) : Type 0 where
   pub rows : Rows (getD ws 1 0) may
   pub least : Least ws ms (kindOf kind) (flags may kind) stale
   pub bounded : kind ≡ 3 → Most ws ms (most may) stale
+  pub gaps : Gaps ws ms may
   pub quiet : Quiet (getD ws 0 0) (view ws ms) (kindOf kind) (flags may kind) stale
 
--- A search of the kind cleared flags of its own, and nothing else changed.
+-- A search of the kind changed flags of its own, and nothing else but the numbers of gone clauses.
 pub record Swept (ws ms may may' : List ℕ) (kind : ℕ) : Type 0 where
   pub calm : Calm ws ms may' kind
-  pub frame : (j : ℕ) → (j < kind * 2048) ⊎ (kind * 2048 + 2048 ≤ j) → getD may' j 0 ≡ getD may j 0
+  pub frame : (j : ℕ) → j < 36898 → (j < kind * 2048) ⊎ (kind * 2048 + 2048 ≤ j) → getD may' j 0 ≡ getD may j 0
 
 -- where a search stopped: at the target found, or at the end
 unfoldable pub stoppedAt : Found → ℕ → ℕ
@@ -71,6 +76,20 @@ pub record Partners (ws ms : List ℕ) (kind t e : ℕ) : Type 0 where
   pub kept : 0 < e → So (entry (view ws ms) t .kept)
   pub all : (p : ℕ) → So (applies (getD ws 0 0) (view ws ms) (step (kindOf kind) t p 0)) → p < e
 
+-- The clauses from q up to r are gone.
+pub record Skipped (ws ms may may' : List ℕ) (q e r : ℕ) : Type 0 where
+  pub less : r ≤ e
+  pub gone : (j : ℕ) → q ≤ j → j < r → ¬ So (entry (view ws ms) j .kept)
+  pub gaps : Gaps ws ms may'
+  pub long : length may' ≡ length may
+  pub same : (j : ℕ) → j < 36898 → getD may' j 0 ≡ getD may j 0
+
+-- The flag of a target of the kind went up past clauses that are gone.
+pub record Lifted (ws ms may may' : List ℕ) (kind t : ℕ) : Type 0 where
+  pub swept : Swept ws ms may may' kind
+  pub flagged : flags may' kind t ≢ 0
+  pub inside : (low end : ℕ) → Inside may kind low end → Inside may' kind low end
+
 -- Every target that has a step with the partner p and the atom has atom a in a part.
 abbrev pub Clue : List ℕ → List ℕ → ℕ → ℕ → ℕ → Part → ℕ → Type 0
 Clue ws ms kind p atom x a = (t : ℕ) → So (applies (getD ws 0 0) (view ws ms) (step (kindOf kind) t p atom)) → a ∈ partOf x (entry (view ws ms) t .clause)
@@ -78,6 +97,10 @@ Clue ws ms kind p atom x a = (t : ℕ) → So (applies (getD ws 0 0) (view ws ms
 -- No step of the kind has the partner.
 abbrev pub NoPartner : List ℕ → List ℕ → ℕ → ℕ → Type 0
 NoPartner ws ms kind p = (t : ℕ) → ¬ So (applies (getD ws 0 0) (view ws ms) (step (kindOf kind) t p 0))
+
+-- No step of the kind has the target and the partner.
+abbrev pub NoTarget : List ℕ → List ℕ → ℕ → ℕ → ℕ → Type 0
+NoTarget ws ms kind t p = (a : ℕ) → ¬ So (applies (getD ws 0 0) (view ws ms) (step (kindOf kind) t p a))
 
 -- Clause q stands before x, subsumes it and is not fresh: what x subsumes, q does too, but for q itself.
 pub record Subsumer (ws ms may : List ℕ) (x q : ℕ) : Type 0 where
@@ -112,6 +135,7 @@ pub record State (ws ms start hs rs may : List ℕ) : Type 0 where
   pub quiet : (k : Kind) → (k ≡ loop → flags may 0 0 ≡ 0) → Quiet (getD ws 0 0) (view ws ms) k (flags may (number k)) (flags may (8 + number k))
   pub least : (k : Kind) → Least ws ms k (flags may (number k)) (flags may (8 + number k))
   pub bounded : Most ws ms (most may) (flags may 11)
+  pub gaps : Gaps ws ms may
 
 -- One key is no longer fresh, and the others stay as they were.
 pub record KeyPassed (ws ms start hs rs may may' : List ℕ) (kind x : ℕ) : Type 0 where

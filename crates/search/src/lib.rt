@@ -1,7 +1,7 @@
 // The search for the smallest applicable step: only flagged targets are looked at.
 ghost use mathlib.Core.Path.{_≡_};
 ghost use mathlib.Core.Bool.{So, _&&_};
-ghost use Prim.Native.Nat.{_+_, _-_, _*_, _≤_, _<_};
+ghost use Prim.Native.Nat.{ℕ, _+_, _-_, _*_, _≤_, _<_};
 ghost use lib.Dec.{eqb};
 ghost use lib.ListN.{length, getD, set, replicate};
 ghost use Rattle.semantics.specs.Lists.{all};
@@ -18,7 +18,7 @@ ghost use mathlib.Core.Bool.{true, false};
 ghost use Rattle.search.specs.Kinds.{PartnerKind, AtomKind, HeadsKind, walkedPart, targetPart};
 ghost use Rattle.rewriting.specs.Reducer.{firstStep};
 ghost use Rattle.conditions.specs.Known.{Known};
-ghost use Rattle.search.specs.State.{Arrays, Walk, Partners, Calm, Swept, Clue, NoPartner, Subsumer, Spread, KeySpread, KeyPassed, State, Settled, Prepared, foundOf, stoppedAt};
+ghost use Rattle.search.specs.State.{Arrays, Walk, Partners, Gaps, Calm, Swept, Skipped, Lifted, Clue, NoPartner, NoTarget, Subsumer, Spread, KeySpread, KeyPassed, State, Settled, Prepared, foundOf, stoppedAt};
 use conditions::Step;
 use parts::Bounds;
 use parts::Part;
@@ -236,14 +236,16 @@ fn asks_heads(kind: u16) -> bool
 
 // ---- flags: a row for each kind's targets, then for each kind's keys
 
-// Where the rows' bounds stand, where the greatest partners of kind 3, and the length of all.
+// Where the rows' bounds stand, where the greatest partners of kind 3, where the numbers of gone clauses, and the length of all.
 const LOWEST: usize = 34816;
 
 const HIGHEST: usize = 34833;
 
 const MOST: usize = 34850;
 
-pub const FLAGS: usize = 36898;
+const NEXT: usize = 36898;
+
+pub const FLAGS: usize = 38946;
 
 fn lesser(a: usize, b: usize) -> usize
     ensures { λ r. ⌜ (r ≤ a) × ((r ≤ b) × ((r ≡ a) ⊎ (r ≡ b))) ⌝ }
@@ -270,7 +272,7 @@ fn least_key(old: usize, key: usize) -> usize
 
 // One flag more, or a lesser key for it, within the row's bounds.
 pub fn flag(may: &mut [u16], row: usize, i: usize, key: usize)
-    requires { ⌜ (row ≤ 16) × ((i < 2048) × ((key < 2048) × (length (now may) ≡ 36898))) ⌝ }
+    requires { ⌜ (row ≤ 16) × ((i < 2048) × ((key < 2048) × (length (now may) ≡ 38946))) ⌝ }
     ensures { λ _. ⌜ Raising (now (may .entry)) (now (may .exit)) row (i + 1) × Flagged (now (may .exit)) row i key ⌝ }
 {
     let low = lesser(i, table::wide(may[LOWEST + row]));
@@ -283,7 +285,7 @@ pub fn flag(may: &mut [u16], row: usize, i: usize, key: usize)
 
 // Every place of a row below a number is flagged.
 pub fn flag_all(may: &mut [u16], row: usize, top: usize)
-    requires { ⌜ (row ≤ 16) × ((top ≤ 2048) × (length (now may) ≡ 36898)) ⌝ }
+    requires { ⌜ (row ≤ 16) × ((top ≤ 2048) × (length (now may) ≡ 38946)) ⌝ }
     ensures { λ _. ⌜ Raising (now (may .entry)) (now (may .exit)) row top × AllFlagged (now (may .exit)) row top ⌝ }
 {
     for i in 0..top {
@@ -292,14 +294,14 @@ pub fn flag_all(may: &mut [u16], row: usize, top: usize)
 }
 
 fn lowest_of(may: &[u16], row: usize) -> usize
-    requires { ⌜ (row ≤ 16) × (length (now may) ≡ 36898) ⌝ }
+    requires { ⌜ (row ≤ 16) × (length (now may) ≡ 38946) ⌝ }
     ensures { λ r. ⌜ r ≡ lowest (now (may .entry)) row ⌝ }
 {
     table::wide(may[LOWEST + row])
 }
 
 fn highest_of(may: &[u16], row: usize) -> usize
-    requires { ⌜ (row ≤ 16) × (length (now may) ≡ 36898) ⌝ }
+    requires { ⌜ (row ≤ 16) × (length (now may) ≡ 38946) ⌝ }
     ensures { λ r. ⌜ r ≡ highest (now (may .entry)) row ⌝ }
 {
     table::wide(may[HIGHEST + row])
@@ -307,7 +309,7 @@ fn highest_of(may: &[u16], row: usize) -> usize
 
 // A row's bounds.
 fn bound(may: &mut [u16], row: usize, low: usize, end: usize)
-    requires { ⌜ (row ≤ 16) × ((length (now may) ≡ 36898) × ((low ≤ 2048) × (end ≤ 2048))) ⌝ }
+    requires { ⌜ (row ≤ 16) × ((length (now may) ≡ 38946) × ((low ≤ 2048) × (end ≤ 2048))) ⌝ }
     ensures { λ _. ⌜ now (may .exit) ≡ set (set (now (may .entry)) (34816 + row) low) (34833 + row) end ⌝ }
 {
     may[LOWEST + row] = narrow(low);
@@ -316,7 +318,7 @@ fn bound(may: &mut [u16], row: usize, low: usize, end: usize)
 
 // A row's bounds are drawn closer.
 fn fence(may: &mut [u16], row: usize, low: usize, end: usize)
-    requires { ⌜ (row ≤ 16) × ((length (now may) ≡ 36898) × (end ≤ 2048)) ⌝ }
+    requires { ⌜ (row ≤ 16) × ((length (now may) ≡ 38946) × (end ≤ 2048)) ⌝ }
     ensures { λ _. ⌜ Fenced (now (may .entry)) (now (may .exit)) row low end ⌝ }
 {
     if end <= low {
@@ -448,6 +450,55 @@ fn partners(words: &[u16], marks: &[u8], start: &[u16], may: &[u16], kind: u16, 
     lesser(m, table::wide(may[MOST + t]))
 }
 
+// The first clause from a number on that is kept, or the end.
+fn kept_from(words: &[u16], marks: &[u8], start: &[u16], from: usize, e: usize) -> usize
+    requires { ⌜ (Ready (now words) (now marks) (now start)) × (e ≤ getD (now words) 1 0) ⌝ }
+    ensures { λ r. ⌜ (r ≤ e) × ((j : ℕ) → from ≤ j → j < r → ¬ So (entry (view (now (words .entry)) (now (marks .entry))) j .kept)) ⌝ }
+{
+    for i in from..e {
+        if parts::kept(words, marks, start, i) {
+            return i;
+        }
+    }
+    e
+}
+
+// The same from clause q on, where the clauses that were passed before are not passed again.
+fn first_kept(
+    words: &[u16],
+    marks: &[u8],
+    start: &[u16],
+    may: &mut [u16],
+    q: usize,
+    e: usize,
+) -> usize
+    requires { ⌜ (Ready (now words) (now marks) (now start)) × ((e ≤ getD (now words) 1 0) × ((q < 2048) × ((length (now may) ≡ 38946) × Gaps (now words) (now marks) (now may)))) ⌝ }
+    ensures { λ r. ⌜ Skipped (now (words .entry)) (now (marks .entry)) (now (may .entry)) (now (may .exit)) q e r ⌝ }
+{
+    let from = greater(q, table::wide(may[NEXT + q]));
+    let r = kept_from(words, marks, start, from, e);
+    if r <= from {
+        return r;
+    }
+    may[NEXT + q] = narrow(r);
+    r
+}
+
+// The flag of a target goes up past clauses that are gone.
+fn lift(words: &[u16], marks: &[u8], start: &[u16], may: &mut [u16], kind: u16, t: usize)
+    requires { ⌜ (Ready (now words) (now marks) (now start)) × ((t < getD (now words) 1 0) × ((PartnerKind kind) × ((flags (now may) kind t ≢ 0) × Calm (now words) (now marks) (now may) kind))) ⌝ }
+    ensures { λ _. ⌜ Lifted (now (words .entry)) (now (marks .entry)) (now (may .entry)) (now (may .exit)) kind t ⌝ }
+{
+    let m = table::wide(words[1]);
+    let row = table::wide(kind);
+    let q = flag_of(may, row, t) - 1;
+    if m <= q {
+        return;
+    }
+    let r = first_kept(words, marks, start, may, q, m);
+    may[row * 2048 + t] = narrow(r + 1);
+}
+
 // The smallest step of a kind with a partner, in the same way; the target's atoms are stamped for the tests.
 // The flag of the target found goes up to the partner found: none before it makes a step.
 pub fn first_by_partner(
@@ -466,6 +517,7 @@ pub fn first_by_partner(
     let mut found = Found::Nothing;
     'search: for t in low..end {
         if may[base + t] != 0 {
+            lift(words, marks, start, may, kind, t);
             let mut stamps = [0u8; 3072];
             stamp_clause(words, marks, start, t, &mut stamps);
             let e = partners(words, marks, start, may, kind, t);
@@ -487,7 +539,7 @@ pub fn first_by_partner(
 
 // The flag at a place of a row.
 fn flag_of(may: &[u16], row: usize, i: usize) -> usize
-    requires { ⌜ (row ≤ 16) × ((i < 2048) × (length (now may) ≡ 36898)) ⌝ }
+    requires { ⌜ (row ≤ 16) × ((i < 2048) × (length (now may) ≡ 38946)) ⌝ }
     ensures { λ r. ⌜ r ≡ flags (now (may .entry)) row i ⌝ }
 {
     table::wide(may[row * 2048 + i])
@@ -495,7 +547,7 @@ fn flag_of(may: &[u16], row: usize, i: usize) -> usize
 
 // Whether the place of a row is flagged with no greater key.
 fn flagged(may: &[u16], row: usize, i: usize, key: usize) -> bool
-    requires { ⌜ (row ≤ 16) × ((i < 2048) × ((key < 2048) × (length (now may) ≡ 36898))) ⌝ }
+    requires { ⌜ (row ≤ 16) × ((i < 2048) × ((key < 2048) × (length (now may) ≡ 38946))) ⌝ }
     ensures { λ r. ⌜ (r ≡ true → Flagged (now (may .entry)) row i key) ⌝ }
 {
     let old = flag_of(may, row, i);
@@ -507,7 +559,7 @@ fn flagged(may: &[u16], row: usize, i: usize, key: usize) -> bool
 
 // Whether the target is covered for the key: flagged with no greater one, and for kind 3 with the greatest no less.
 fn covered(may: &[u16], row: usize, t: usize, key: usize) -> bool
-    requires { ⌜ (row ≤ 16) × ((t < 2048) × ((key < 2048) × (length (now may) ≡ 36898))) ⌝ }
+    requires { ⌜ (row ≤ 16) × ((t < 2048) × ((key < 2048) × (length (now may) ≡ 38946))) ⌝ }
     ensures { λ r. ⌜ (r ≡ true → Covered (now (may .entry)) row t key) ⌝ }
 {
     if !flagged(may, row, t, key) {
@@ -521,7 +573,7 @@ fn covered(may: &[u16], row: usize, t: usize, key: usize) -> bool
 
 // A partner more for the target of kind 3.
 fn raise_most(may: &mut [u16], t: usize, p: usize)
-    requires { ⌜ (t < 2048) × ((p < 2048) × (length (now may) ≡ 36898)) ⌝ }
+    requires { ⌜ (t < 2048) × ((p < 2048) × (length (now may) ≡ 38946)) ⌝ }
     ensures { λ _. ⌜ Raising (now (may .entry)) (now (may .exit)) 3 (t + 1) × (p + 1 ≤ most (now (may .exit)) t) ⌝ }
 {
     let top = greater(p + 1, table::wide(may[MOST + t]));
@@ -530,7 +582,7 @@ fn raise_most(may: &mut [u16], t: usize, p: usize)
 
 // The target is covered for the key.
 fn cover(may: &mut [u16], row: usize, t: usize, key: usize)
-    requires { ⌜ (row ≤ 16) × ((t < 2048) × ((key < 2048) × (length (now may) ≡ 36898))) ⌝ }
+    requires { ⌜ (row ≤ 16) × ((t < 2048) × ((key < 2048) × (length (now may) ≡ 38946))) ⌝ }
     ensures { λ _. ⌜ Raising (now (may .entry)) (now (may .exit)) row (t + 1) × Covered (now (may .exit)) row t key ⌝ }
 {
     flag(may, row, t, key);
@@ -550,7 +602,18 @@ fn is_itself(kind: u16, t: usize, p: usize) -> bool
     p == t
 }
 
-// Flags the target t of the kind, if the condition holds with the partner p and the atom: no clause is its own partner.
+// Whether clause t can be a target of the partner p: it is kept and, for kind 8, another clause.
+fn may_target(words: &[u16], marks: &[u8], start: &[u16], kind: u16, t: usize, p: usize) -> bool
+    requires { ⌜ (Ready (now words) (now marks) (now start)) × (t < getD (now words) 1 0) ⌝ }
+    ensures { λ r. ⌜ (r ≡ false → NoTarget (now (words .entry)) (now (marks .entry)) kind t p) ⌝ }
+{
+    if is_itself(kind, t, p) {
+        return false;
+    }
+    parts::kept(words, marks, start, t)
+}
+
+// Flags the target t of the kind, if the condition holds with the partner p and the atom.
 fn spread_one(
     words: &[u16],
     marks: &[u8],
@@ -563,14 +626,14 @@ fn spread_one(
     atom: u16,
     t: usize,
 )
-    requires { ⌜ (Ready (now words) (now marks) (now start)) × ((t < getD (now words) 1 0) × ((p < getD (now words) 1 0) × (((1 ≤ kind) × (kind ≤ 8)) × ((Known (kindOf kind) (now words) (now marks) (now heads) (now reach)) × (length (now may) ≡ 36898))))) ⌝ }
+    requires { ⌜ (Ready (now words) (now marks) (now start)) × ((t < getD (now words) 1 0) × ((p < getD (now words) 1 0) × (((1 ≤ kind) × (kind ≤ 8)) × ((Known (kindOf kind) (now words) (now marks) (now heads) (now reach)) × (length (now may) ≡ 38946))))) ⌝ }
     ensures { λ _. ⌜ Raising (now (may .entry)) (now (may .exit)) kind (t + 1) × (So (applies (getD (now (words .entry)) 0 0) (view (now (words .entry)) (now (marks .entry))) (step (kindOf kind) t p atom)) → Covered (now (may .exit)) kind t p) ⌝ }
 {
     let row = table::wide(kind);
     if covered(may, row, t, p) {
         return;
     }
-    if is_itself(kind, t, p) {
+    if !may_target(words, marks, start, kind, t, p) {
         return;
     }
     if !conditions::holds(words, marks, start, heads, reach, kind, t, p, atom) {
@@ -592,7 +655,7 @@ fn spread(
     atom: u16,
     m: usize,
 )
-    requires { ⌜ (Ready (now words) (now marks) (now start)) × ((m ≡ getD (now words) 1 0) × ((p < getD (now words) 1 0) × (((1 ≤ kind) × (kind ≤ 8)) × ((Known (kindOf kind) (now words) (now marks) (now heads) (now reach)) × (length (now may) ≡ 36898))))) ⌝ }
+    requires { ⌜ (Ready (now words) (now marks) (now start)) × ((m ≡ getD (now words) 1 0) × ((p < getD (now words) 1 0) × (((1 ≤ kind) × (kind ≤ 8)) × ((Known (kindOf kind) (now words) (now marks) (now heads) (now reach)) × (length (now may) ≡ 38946))))) ⌝ }
     ensures { λ _. ⌜ Spread (now (words .entry)) (now (marks .entry)) (now (may .entry)) (now (may .exit)) kind p atom ⌝ }
 {
     for t in 0..m {
@@ -614,7 +677,7 @@ fn spread_along(
     part: Part,
     a: u16,
 )
-    requires { ⌜ (Ready (now words) (now marks) (now start)) × ((p < getD (now words) 1 0) × (((1 ≤ kind) × (kind ≤ 8)) × ((Known (kindOf kind) (now words) (now marks) (now heads) (now reach)) × ((length (now may) ≡ 36898) × ((a < 1024) × Clue (now words) (now marks) kind p atom part a))))) ⌝ }
+    requires { ⌜ (Ready (now words) (now marks) (now start)) × ((p < getD (now words) 1 0) × (((1 ≤ kind) × (kind ≤ 8)) × ((Known (kindOf kind) (now words) (now marks) (now heads) (now reach)) × ((length (now may) ≡ 38946) × ((a < 1024) × Clue (now words) (now marks) kind p atom part a))))) ⌝ }
     ensures { λ _. ⌜ Spread (now (words .entry)) (now (marks .entry)) (now (may .entry)) (now (may .exit)) kind p atom ⌝ }
 {
     let mut i = parts::last_place(words, start, part, a);
@@ -663,7 +726,7 @@ fn spread_body(
     x: usize,
     m: usize,
 )
-    requires { ⌜ (Ready (now words) (now marks) (now start)) × ((m ≡ getD (now words) 1 0) × ((x < getD (now words) 1 0) × (length (now may) ≡ 36898))) ⌝ }
+    requires { ⌜ (Ready (now words) (now marks) (now start)) × ((m ≡ getD (now words) 1 0) × ((x < getD (now words) 1 0) × (length (now may) ≡ 38946))) ⌝ }
     ensures { λ _. ⌜ Spread (now (words .entry)) (now (marks .entry)) (now (may .entry)) (now (may .exit)) 8 x 0 ⌝ }
 {
     if !parts::empty(words, marks, start, x, Part::Pos) {
@@ -715,7 +778,7 @@ fn spread_partner(
     x: usize,
     m: usize,
 )
-    requires { ⌜ (Ready (now words) (now marks) (now start)) × ((m ≡ getD (now words) 1 0) × ((x < getD (now words) 1 0) × ((PartnerKind kind) × (length (now may) ≡ 36898)))) ⌝ }
+    requires { ⌜ (Ready (now words) (now marks) (now start)) × ((m ≡ getD (now words) 1 0) × ((x < getD (now words) 1 0) × ((PartnerKind kind) × (length (now may) ≡ 38946)))) ⌝ }
     ensures { λ _. ⌜ Spread (now (words .entry)) (now (marks .entry)) (now (may .entry)) (now (may .exit)) kind x 0 ⌝ }
 {
     if !parts::empty(words, marks, start, x, Part::Head) {
@@ -739,12 +802,15 @@ fn spread_partner(
         spread_body(words, marks, start, heads, reach, may, x, m);
         return;
     }
+    if kind == 3 {
+        return;
+    }
     spread(words, marks, start, heads, reach, may, kind, x, 0, m);
 }
 
 // The least key of the flag of x as a target of kind 8, or x where it is none before x.
 fn least_before(may: &[u16], x: usize) -> usize
-    requires { ⌜ (x < 2048) × (length (now may) ≡ 36898) ⌝ }
+    requires { ⌜ (x < 2048) × (length (now may) ≡ 38946) ⌝ }
     ensures { λ r. ⌜ r ≤ x ⌝ }
 {
     let old = flag_of(may, 8, x);

@@ -1,4 +1,4 @@
--- `spread_one`: a target covered already, a clause that is the partner itself, a condition that does not hold, or a flag more.
+-- `spread_one`: a target covered already, a clause that can't be a target, a condition that does not hold, or a flag more.
 use Prim.Native.Nat.{_+_}
 use mathlib.Core.Path.{sym, subst, _∙_}
 use native.Mathlib.Omega.{arith}
@@ -7,7 +7,6 @@ use Rattle.semantics.proofs.Tests.{not-so}
 use Rattle.table.proofs.Encoding.{passed-limits}
 use Rattle.search.specs.Flags.{Covered, Raising}
 use Rattle.search.proofs.Flags.{raising-none}
-use Rattle.search.proofs.Spreads.{itself-not}
 use Rattle.rewriting.proofs.Sound.{applies-ask}
 use borrow.Author.Needs.{needs}
 use Rattle.search.proofs.spread_one.Statement.{statement}
@@ -21,8 +20,11 @@ covered-requires c κs =
 returns : tie.Need-returns
 returns c = (raising-none _ _ _, λ _. subst (λ r. Covered (c .before .before .before .before .before .before .before .before .before .before .args .may .now) r (c .before .before .before .before .before .before .before .before .before .before .args .t) (c .before .before .before .before .before .before .before .before .before .before .args .p)) (c .before .before .before .wide .ensures .0) (c .before .covered .ensures (c .if1 .taken)))
 
+may-target-requires : tie.Need-may-target-requires
+may-target-requires c κs = (c .before .before .before .before .before .before .before .before .before .before .pre .0, c .before .before .before .before .before .before .before .before .before .before .pre .1 .0)
+
 returns-2 : tie.Need-returns-2
-returns-2 c = (raising-none _ _ _, λ h. absurd (itself-not _ _ _ _ _ _ (c .before .is-itself .ensures (c .if2 .taken)) h))
+returns-2 c = (raising-none _ _ _, λ h. absurd (c .before .may-target .ensures (not-true _ (c .if2 .taken)) _ h))
 
 holds-requires : tie.Need-holds-requires
 holds-requires c κs = let p = c .before .before .before .before .before .before .before .before .before .before .before .before .pre in (p .0, ((p .1 .0, p .1 .1 .0), (p .1 .1 .1 .0, p .1 .1 .1 .1 .0)))
@@ -43,4 +45,4 @@ returns-4 c =
 pub spread-one-spec : {M : Type 1} → statement M
 spread-one-spec =
     tie.close
-    (tie.spec (λ c κs. search needs) covered-requires (λ c. search needs) returns (λ c κs. search needs) (λ c. search needs) returns-2 holds-requires (λ c. search needs) returns-3 cover-requires (λ c. search needs) returns-4)
+    (tie.spec (λ c κs. search needs) covered-requires (λ c. search needs) returns may-target-requires (λ c. search needs) returns-2 holds-requires (λ c. search needs) returns-3 cover-requires (λ c. search needs) returns-4)
