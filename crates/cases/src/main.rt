@@ -11,6 +11,7 @@
 //   parse L:TEXT             the table of a text, with room for L words, each 7
 //
 // In a text a slash stands for a line feed, a tilde for a carriage return, a caret for NUL and an underscore for a tab.
+// At most 128 numbers before and after the colon, and 128 bytes of a text, are read.
 ghost use Prim.Native.Nat.{_≤_, _<_};
 use libc::STDIN_FILENO;
 use libc::STDOUT_FILENO;
@@ -163,6 +164,7 @@ fn room(rest: &[u16], i: usize) -> usize
     0
 }
 
+// The byte that a sign of a text stands for, and a slash for a line feed.
 fn exchanged(b: u8) -> u8 {
     if b == b'/' {
         return 10;
@@ -182,11 +184,18 @@ fn exchanged(b: u8) -> u8 {
     b
 }
 
-// Signs of a line for the bytes that they stand for, and a slash for a line feed.
-fn exchange(text: &mut [u8]) {
-    for i in 0..text.len() {
-        text[i] = exchanged(text[i]);
+fn set(out: &mut [u8], i: usize, b: u8) {
+    if i < out.len() {
+        out[i] = b;
     }
+}
+
+// The bytes that the signs of a text stand for, as far as there is room; how many there are.
+fn exchange(text: &[u8], out: &mut [u8]) -> usize {
+    for i in 0..text.len() {
+        set(out, i, exchanged(text[i]));
+    }
+    text.len()
 }
 
 // ---- the calls
@@ -225,18 +234,14 @@ fn run_reduce(words: &[u16], rest: &[u16]) {
     print_words(&list, l + 2);
 }
 
-fn set_mark(marks: &mut [u8], i: usize, w: u16) {
-    if i < marks.len() {
-        if w < 256 {
-            marks[i] = w as u8;
-        }
-    }
+fn mark(w: u16) -> u8 {
+    if w < 256 { w as u8 } else { 0 }
 }
 
-// The numbers as marks, and how many.
+// The numbers as marks, as far as there is room; how many there are.
 fn to_marks(rest: &[u16], marks: &mut [u8]) -> usize {
     for i in 0..rest.len() {
-        set_mark(marks, i, rest[i]);
+        set(marks, i, mark(rest[i]));
     }
     rest.len()
 }
@@ -310,14 +315,20 @@ fn run_numbers(name: u8, before: &[u8], after: &[u8]) {
 }
 
 // The second part is a text.
-fn run_text(before: &[u8], text: &[u8]) {
+fn run_text(before: &[u8], after: &[u8]) {
     let mut room = [0u16; 1];
+    let mut text = [0u8; SIZE];
     numbers(before, &mut room);
-    run_parse(text, table::wide(room[0]));
+    let n = least(exchange(after, &mut text), SIZE);
+    run_parse(&text[0..n], table::wide(room[0]));
 }
 
-fn run_parts(line: &[u8]) {
+fn run_line(line: &[u8]) {
     if line.len() == 0 {
+        return;
+    }
+    if line[0] == b'#' {
+        print(line);
         return;
     }
     let mid = bytes::scan::find(line, 0, line.len(), b':');
@@ -329,23 +340,11 @@ fn run_parts(line: &[u8]) {
     }
 }
 
-fn run_line(line: &mut [u8]) {
-    if line.len() == 0 {
-        return;
-    }
-    if line[0] == b'#' {
-        print(line);
-        return;
-    }
-    exchange(line);
-    run_parts(line);
-}
-
-fn run_lines(text: &mut [u8]) {
+fn run_lines(text: &[u8]) {
     let mut at: usize = 0;
     while at < text.len() {
         let end = bytes::scan::find(text, at, text.len(), 10);
-        run_line(&mut text[at..end]);
+        run_line(&text[at..end]);
         print(b"\n");
         at = end + 1;
     }
@@ -354,5 +353,5 @@ fn run_lines(text: &mut [u8]) {
 fn main() {
     let mut text = io::large_buffer();
     let n = io::read_full(STDIN_FILENO, &mut text);
-    run_lines(&mut text[..n]);
+    run_lines(&text[..n]);
 }
