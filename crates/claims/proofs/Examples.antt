@@ -23,6 +23,7 @@ use Rattle.dependency.specs.Answer as cycles
 use Rattle.checker.specs.declared.CheckAnswer.{CheckAnswer}
 use Rattle.checker.specs.declared.CheckAnswer.the-variants as checked
 use Rattle.checker.specs.Lists as lists
+use Rattle.steps.specs.Verdicts as verdicts
 use Rattle.reducer.specs.Reductions.{wordsOf, bodyLiterals, room, stepsOf}
 
 -- a table's words, with what a call on them says
@@ -78,5 +79,5 @@ rows =
     ∷ []
 
 pub examples : AllSay rows
-unfolding satisfies reduct models sublists stableTest left fire reachFrom reach inNoHead condition conditionHolds applies effect least firstAtom firstPartner firstTarget firstStep reduce questions.ask questions.andThen questions.onTo questions.atomsFrom questions.partsFrom questions.clauseFrom questions.clausesFrom questions.askTable questions.allUsed questions.tableOf startFrom clausesOf programOf part entryAt entriesFrom view find clears marksAfter sets.setOf sets.onSet sets.onTable sets.testOf ahead onward leads anyBelow cyclic cycles.onTable cycles.cycleOf lists.ask lists.shapeQuestions lists.stepQuestions lists.onward lists.stepsFrom lists.askCall lists.checkOn lists.checkList wordsOf bodyLiterals room stepsOf
+unfolding satisfies reduct models sublists stableTest left fire reachFrom reach inNoHead condition conditionHolds applies effect least firstAtom firstPartner firstTarget firstStep reduce questions.ask questions.andThen questions.onTo questions.atomsFrom questions.partsFrom questions.clauseFrom questions.clausesFrom questions.askTable questions.allUsed questions.tableOf startFrom clausesOf programOf part entryAt entriesFrom view find clears marksAfter sets.setOf sets.onSet sets.onTable sets.testOf ahead onward leads anyBelow cyclic cycles.onTable cycles.cycleOf verdicts.ask verdicts.shapeQuestions verdicts.stepQuestions lists.onward lists.stepsFrom lists.askCall lists.checkOn lists.checkList wordsOf bodyLiterals room stepsOf
 examples = (refl, (refl, (refl, (refl, (refl, (refl, (refl, (refl, (refl, (refl, (refl, (refl, (refl, (refl, (refl, (refl, tt))))))))))))))))

@@ -32,11 +32,13 @@ use Rattle.table.proofs.View.{view-after, length-after, clears-lt}
 use Rattle.table.proofs.Parts.{left-allKept, length-allKept}
 use Rattle.conditions.specs.Known.{stepOf}
 use Rattle.checker.specs.declared.CheckAnswer.the-variants.{Accepted, Refused}
-use Rattle.checker.specs.declared.Verdict.{Verdict}
-use Rattle.compaction.specs.Reduced.{leftProgram}
-use Rattle.checker.specs.declared.Verdict.the-variants.{Fine, No}
-use Rattle.checker.specs.Lists.{stepAt, stepQuestions, Outcome, refused, onward, stepsFrom, listFits, askCall, checkOn, checkList}
-use Rattle.checker.proofs.Laws.{fine-applies, check-made}
+use Rattle.steps.specs.declared.Verdict.{Verdict}
+use Rattle.copying.specs.Leaves.{leftProgram}
+use Rattle.steps.specs.declared.Verdict.the-variants.{Fine, No}
+use Rattle.checker.specs.Lists.{stepAt, Outcome, refused, onward, stepsFrom, listFits, askCall, checkOn, checkList}
+use Rattle.steps.specs.Verdicts.{stepQuestions}
+use Rattle.steps.proofs.Laws.{fine-applies}
+use Rattle.checker.proofs.Walks.{check-made}
 
 -- ---- the steps
 

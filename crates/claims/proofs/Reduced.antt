@@ -26,7 +26,9 @@ use Rattle.table.specs.Places.{programOf}
 use Rattle.table.proofs.Encoding.{program-encode, valid-passed}
 use Rattle.compaction.specs.declared.CompactAnswer.{CompactAnswer}
 use Rattle.compaction.specs.declared.CompactAnswer.the-variants.{Accepted, Refused}
-use Rattle.compaction.specs.Reduced.{allowed, marksFrom, leftProgram, reduced, askCall, onMarks, onTable, roomAnswer, markedAnswer, reducedAnswer, written, reducedOut}
+use Rattle.compaction.specs.Reduced.{askCall, onMarks, onTable, roomAnswer, markedAnswer, reducedAnswer, written, reducedOut}
+use Rattle.copying.specs.Leaves.{leftProgram, reduced}
+use Rattle.marks.specs.Allowed.{allowed, marksFrom}
 use Rattle.compaction.proofs.Answers.{answer-few, answer-mark, answer-table, answer-valid, answer-room, answer-accepted}
 use Rattle.table.proofs.Refused.{table-refused}
 

@@ -31,10 +31,12 @@ use Rattle.reducer.specs.declared.ReduceAnswer.the-variants as answer
 use Rattle.reducer.specs.Reductions.{wordsOf, stepsOf, reduction}
 use Rattle.reducer.proofs.Taken.{taken, whole-tidy, steps-greedy, steps-accepted, steps-room, zeros-allKept, length-words}
 use Rattle.checker.specs.declared.CheckAnswer.the-variants.{Accepted, Refused}
-use Rattle.checker.specs.declared.Verdict.{Verdict}
-use Rattle.checker.specs.declared.Verdict.the-variants.{Fine, No}
-use Rattle.checker.specs.Lists.{stepAt, ask, shapeQuestions, stepQuestions, onward, stepsFrom, listFits, checkList}
-use Rattle.checker.proofs.Laws.{known-kind, fine-applies, check-made}
+use Rattle.steps.specs.declared.Verdict.{Verdict}
+use Rattle.steps.specs.declared.Verdict.the-variants.{Fine, No}
+use Rattle.checker.specs.Lists.{stepAt, onward, stepsFrom, listFits, checkList}
+use Rattle.steps.specs.Verdicts.{ask, shapeQuestions, stepQuestions}
+use Rattle.steps.proofs.Laws.{known-kind, fine-applies}
+use Rattle.checker.proofs.Walks.{check-made}
 use Rattle.text.proofs.Slices.{sets-written, take-written}
 use Rattle.claims.proofs.Lists.{marks-past-table}
 use Rattle.claims.proofs.Reductions.{reducer-refused}

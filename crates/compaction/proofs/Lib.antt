@@ -1,5 +1,1 @@
-pub mod Marks
-pub mod Words
-pub mod Tables
 pub mod Answers
-pub mod Limits

@@ -23,7 +23,7 @@ pub enum Move {
 pub fn has_cycle(words: &[u16]) -> CycleAnswer
     ensures { λ r. ⌜ r ≡ cycleOf (now (words .entry)) ⌝ }
 {
-    let checked = table::check_table(words);
+    let checked = questions::check_table(words);
     let Checked::Valid(_) = checked else {
         let Checked::Refused(r) = checked else {
             return CycleAnswer::Accepted(false);

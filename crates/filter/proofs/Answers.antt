@@ -8,8 +8,8 @@ use Rattle.table.specs.declared.Refusal.{Refusal}
 use Rattle.table.specs.Questions.{Passed}
 use Rattle.table.specs.Places.{programOf}
 use Rattle.table.proofs.Encoding.{passed-limits}
-use Rattle.compaction.specs.Reduced.{leftProgram}
-use Rattle.compaction.specs.Parts.{Ready}
+use Rattle.copying.specs.Leaves.{leftProgram}
+use Rattle.marks.specs.Spans.{Ready}
 use Rattle.reducer.specs.declared.ReduceAnswer.{ReduceAnswer}
 use Rattle.reducer.specs.declared.ReduceAnswer.the-variants as answer
 use Rattle.reducer.specs.Reductions.{stepsOf, reduction, Answered}

@@ -12,8 +12,8 @@ use Rattle.rewriting.specs.Reducer.{reduce}
 use Rattle.table.specs.Questions.{Passed}
 use Rattle.table.specs.Places.{programOf}
 use Rattle.table.proofs.Encoding.{passed-within, passed-limits}
-use Rattle.compaction.specs.Reduced.{leftProgram}
-use Rattle.compaction.proofs.Limits.{left-within}
+use Rattle.copying.specs.Leaves.{leftProgram}
+use Rattle.copying.proofs.Limits.{left-within}
 use Rattle.reducer.specs.declared.ReduceAnswer.the-variants as answer
 use Rattle.reducer.specs.Reductions as reductions
 use Rattle.reducer.proofs.Room.{room-measure, room-few}

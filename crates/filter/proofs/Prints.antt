@@ -19,7 +19,7 @@ use Rattle.text.specs.Writer.{Puts}
 use Rattle.text.proofs.Slices.{sets-written, take-written}
 use Rattle.text.proofs.Texts.{read-render}
 use Rattle.text.proofs.Calls.{accepted-reads}
-use Rattle.compaction.specs.Reduced.{leftProgram}
+use Rattle.copying.specs.Leaves.{leftProgram}
 use Rattle.text.specs.Render.{render}
 use Rattle.reducer.specs.Reductions as reductions
 use Rattle.filter.specs.Output.{reducedText, refusedText, printed, outputOf, Prints}

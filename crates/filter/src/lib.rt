@@ -6,8 +6,8 @@ ghost use Rattle.table.specs.Places.{cut, programOf};
 ghost use Rattle.text.specs.Digits.{commas};
 ghost use Rattle.text.specs.Writer.{Puts};
 ghost use Rattle.text.specs.Render.{lineText, render};
-ghost use Rattle.compaction.specs.Reduced.{leftProgram};
-ghost use Rattle.compaction.specs.Parts.{Ready};
+ghost use Rattle.copying.specs.Leaves.{leftProgram};
+ghost use Rattle.marks.specs.Spans.{Ready};
 ghost use Rattle.table.specs.Questions.{Passed};
 ghost use Rattle.filter.specs.Output.{stepKey, refusedText, reducedText, Prints};
 ghost use Rattle.filter.specs.Lines.{stepLines, listLines};
@@ -77,8 +77,8 @@ fn put_left(out: &mut [u8], words: &[u16], marks: &[u8]) -> usize
     ensures { λ r. ⌜ Puts (now (out .entry)) (now (out .exit)) 0 r (render (leftProgram (now (words .entry)) (now (marks .entry)))) ⌝ }
 {
     let mut reduced = [0u16; 8192];
-    let k = compaction::left_size(words, marks);
-    compaction::write_reduced(words, marks, &mut reduced);
+    let k = copying::left_size(words, marks);
+    copying::write_reduced(words, marks, &mut reduced);
     put_text(out, &reduced[0..k])
 }
 
@@ -107,8 +107,8 @@ pub fn filter_text(text: &[u8], out: &mut [u8]) -> usize
     match answer {
         ReadAnswer::Accepted(n) => put_reduced(out, &words[0..n]),
         ReadAnswer::Refused(r) => {
-            let number = table::refusal_number(r);
-            put_refused(out, number as usize, table::refusal_place(r))
+            let number = refusals::refusal_number(r);
+            put_refused(out, number as usize, refusals::refusal_place(r))
         }
     }
 }

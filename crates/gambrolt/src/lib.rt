@@ -1,9 +1,6 @@
 // The library as C calls it: numbers and slices in, one number out.
 ghost use mathlib.Core.Path.{_≡_};
-ghost use Prim.Native.Nat.{_+_, _*_, _≤_};
 ghost use lib.ListN.{length};
-ghost use Rattle.semantics.specs.Lists.{bit};
-ghost use Rattle.table.specs.Refusals.{refusalPlace};
 ghost use Rattle.table.specs.Questions.{tableOf};
 ghost use Rattle.checker.specs.Lists.{checkList};
 ghost use Rattle.reducer.specs.Reductions.{reduction};
@@ -12,42 +9,26 @@ ghost use Rattle.dependency.specs.Answer.{cycleOf};
 ghost use Rattle.stability.specs.Answer.{testOf};
 ghost use Rattle.text.specs.Reader.{readAnswer, tableAfter};
 ghost use Rattle.text.specs.Writer.{writeAnswer, outAfter};
-ghost use Rattle.gambrolt.specs.Codes.{refusalCode, tableCode, checkCode, reduceCode, reducedCode, testCode, cycleCode, readCode, writeCode};
+ghost use Rattle.codes.specs.Codes.{tableCode, checkCode, reduceCode, reducedCode, testCode, cycleCode, readCode, writeCode};
 use checker::CheckAnswer;
 use compaction::CompactAnswer;
 use dependency::CycleAnswer;
 use reducer::ReduceAnswer;
 use stability::TestAnswer;
 use table::Checked;
-use table::Refusal;
 use text::ReadAnswer;
 use text::WriteAnswer;
-
-// Number times 2^48 plus place. Every call's places are at most 65,536.
-fn refusal_code(r: Refusal) -> u64
-    requires { ⌜ refusalPlace r ≤ 65536 ⌝ }
-    ensures { λ n. ⌜ n ≡ refusalCode r ⌝ }
-{
-    table::refusal_number(r) * 281474976710656 + table::refusal_place(r) as u64
-}
-
-// 1 for yes and 0 for no.
-fn one_if(yes: bool) -> u64
-    ensures { λ n. ⌜ n ≡ bit yes ⌝ }
-{
-    if yes { 1 } else { 0 }
-}
 
 // Questions 1 to 8.
 #[no_mangle]
 pub extern "C" fn gambrolt_check_table(words: &[u16]) -> u64
     ensures { λ r. ⌜ r ≡ tableCode (tableOf (now (words .entry))) ⌝ }
 {
-    let checked = table::check_table(words);
+    let checked = questions::check_table(words);
     let Checked::Refused(r) = checked else {
         return 0;
     };
-    refusal_code(r)
+    codes::refusal_code(r)
 }
 
 // Questions 1 to 9 and 11 to 16, and the marks of the steps that are taken.
@@ -57,7 +38,7 @@ pub extern "C" fn gambrolt_check(words: &[u16], marks: &mut [u8], list: &[u16]) 
 {
     match checker::check_list(words, marks, list) {
         CheckAnswer::Accepted(k) => k as u64,
-        CheckAnswer::Refused(r) => refusal_code(r),
+        CheckAnswer::Refused(r) => codes::refusal_code(r),
     }
 }
 
@@ -68,7 +49,7 @@ pub extern "C" fn gambrolt_reduce(words: &[u16], marks: &mut [u8], list: &mut [u
 {
     match reducer::reduce_table(words, marks, list) {
         ReduceAnswer::Accepted(k) => k as u64,
-        ReduceAnswer::Refused(r) => refusal_code(r),
+        ReduceAnswer::Refused(r) => codes::refusal_code(r),
     }
 }
 
@@ -79,7 +60,7 @@ pub extern "C" fn gambrolt_reduced_table(words: &[u16], marks: &[u8], out: &mut 
 {
     match compaction::reduced_table(words, marks, out) {
         CompactAnswer::Accepted(n) => n as u64,
-        CompactAnswer::Refused(r) => refusal_code(r),
+        CompactAnswer::Refused(r) => codes::refusal_code(r),
     }
 }
 
@@ -89,8 +70,8 @@ pub extern "C" fn gambrolt_test(words: &[u16], set: &[u16]) -> u64
     ensures { λ r. ⌜ r ≡ testCode (testOf (now (words .entry)) (now (set .entry))) ⌝ }
 {
     match stability::test_set(words, set) {
-        TestAnswer::Accepted(yes) => one_if(yes),
-        TestAnswer::Refused(r) => refusal_code(r),
+        TestAnswer::Accepted(yes) => codes::one_if(yes),
+        TestAnswer::Refused(r) => codes::refusal_code(r),
     }
 }
 
@@ -100,8 +81,8 @@ pub extern "C" fn gambrolt_cycle(words: &[u16]) -> u64
     ensures { λ r. ⌜ r ≡ cycleCode (cycleOf (now (words .entry))) ⌝ }
 {
     match dependency::has_cycle(words) {
-        CycleAnswer::Accepted(yes) => one_if(yes),
-        CycleAnswer::Refused(r) => refusal_code(r),
+        CycleAnswer::Accepted(yes) => codes::one_if(yes),
+        CycleAnswer::Refused(r) => codes::refusal_code(r),
     }
 }
 
@@ -112,7 +93,7 @@ pub extern "C" fn gambrolt_read_text(text: &[u8], words: &mut [u16]) -> u64
 {
     match reader::read_text(text, words) {
         ReadAnswer::Accepted(n) => n as u64,
-        ReadAnswer::Refused(r) => refusal_code(r),
+        ReadAnswer::Refused(r) => codes::refusal_code(r),
     }
 }
 
@@ -123,6 +104,6 @@ pub extern "C" fn gambrolt_write_text(words: &[u16], out: &mut [u8]) -> u64
 {
     match writer::write_text(words, out) {
         WriteAnswer::Accepted(n) => n as u64,
-        WriteAnswer::Refused(r) => refusal_code(r),
+        WriteAnswer::Refused(r) => codes::refusal_code(r),
     }
 }

@@ -19,6 +19,7 @@ use Rattle.table.specs.View.{part, entryAt, view, kept-of}
 use Rattle.table.proofs.Places.{Rises, Good, passed-good, start-suc}
 use Rattle.table.proofs.View.{entry-view}
 use Rattle.table.proofs.Parts.{part-slice, scan-step, scan-end}
+use Rattle.table.specs.Questions.{Passed}
 use Rattle.parts.specs.declared.Part.{Part}
 use Rattle.parts.specs.declared.Part.the-variants.{Head, Pos, Neg}
 use Rattle.parts.specs.declared.Bounds.{Bounds}
@@ -198,3 +199,15 @@ module _ (part marks : List ℕ) (i : ℕ) (f : FirstKept part marks 0 i) where
 
   pub single-one : (j : ℕ) → i < length part → FirstKept part marks (i + 1) j → length part ≤ j → One (getD part i 0) ≡ singleOf (kept-of part marks)
   single-one j h g k = sym (ap singleOf (f .some h ∙ ap (λ l. getD part i 0 ∷ l) (g .none (omega (arith, g .within)))))
+
+span-within : (ws : List ℕ) (at : ℕ) (x : Part) → (headAt at ≤ spanOf ws at x .from) × (spanOf ws at x .end ≤ nextAt ws at)
+span-within ws at Head = (omega arith, omega arith)
+span-within ws at Pos = (omega arith, omega arith)
+span-within ws at Neg = (omega arith, omega arith)
+
+-- the words of a part
+pub words-below : (ws : List ℕ) → Passed ws → (t : ℕ) → t < getD ws 1 0 → (x : Part) (s : Bounds) → Spanned ws t x s → (i : ℕ) → s .from ≤ i → i < s .end → getD ws i 0 < getD ws 0 0
+words-below ws p t h x s q i a b =
+    let w = span-within ws (startOf ws t) x in
+    let e = q .is in
+    passed-good ws p t h .below i (omega (arith, w .0, ap (λ y. y .from) e)) (omega (arith, w .1, ap (λ y. y .end) e))

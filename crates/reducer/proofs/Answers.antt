@@ -18,7 +18,7 @@ use Rattle.table.proofs.Encoding.{valid-inv}
 use Rattle.table.proofs.Parts.{view-allKept}
 use Rattle.reducer.specs.declared.ReduceAnswer.the-variants.{Accepted, Refused}
 use Rattle.reducer.specs.Reductions.{room, stepsOf, wordsOf, Reduction, refused, onTable, reduction, Answered}
-use Rattle.reducer.specs.Opened.{Begun, Reduced}
+use Rattle.reducer.specs.Runs.{Begun, Reduced}
 use Rattle.reducer.proofs.Taken.{zeros-allKept}
 
 -- ---- the start

@@ -12,10 +12,10 @@ use Rattle.rewriting.proofs.Quiet.{Quiet, key, quiet-all}
 use Rattle.table.specs.View.{view}
 use Rattle.parts.specs.Parts.{Ready}
 use Rattle.conditions.specs.Known.{Heads}
-use Rattle.search.specs.Flags.{flags, Rows, Grown, Raising, AllFlagged}
-use Rattle.search.specs.State.{State}
-use Rattle.search.proofs.States.{target-lt, key-lt}
-use Rattle.reducer.specs.Opened.{AllOpen}
+use Rattle.flags.specs.Flags.{flags, Rows, Grown, Raising, AllFlagged}
+use Rattle.keys.specs.State.{State}
+use Rattle.spreads.proofs.Limits.{target-lt, key-lt}
+use Rattle.reducer.specs.Runs.{AllOpen}
 
 -- ---- no flag
 

@@ -20,11 +20,12 @@ use Rattle.table.proofs.View.{view-after, zeros-after, length-after}
 use Rattle.table.proofs.Parts.{view-tidy}
 use Rattle.conditions.specs.declared.Step as row
 use Rattle.conditions.specs.Known.{stepOf}
-use Rattle.search.specs.declared.Found.the-variants.{One}
-use Rattle.search.specs.State.{foundOf}
-use Rattle.search.proofs.Fits.{kind-number}
+use Rattle.targets.specs.declared.Found.the-variants.{One}
+use Rattle.targets.specs.Searches.{foundOf}
+use Rattle.kinds.proofs.Numbers.{kind-number}
 use Rattle.reducer.specs.Reductions.{room, stepsOf, wordsOf}
-use Rattle.reducer.specs.Opened.{Taken, Begun, Reduced}
+use Rattle.openings.specs.Opened.{Taken}
+use Rattle.reducer.specs.Runs.{Begun, Reduced}
 use Rattle.reducer.proofs.Room.{room-measure}
 
 -- what is left to do after s steps

@@ -1,9 +1,1 @@
-pub mod Stamps
-pub mod Flags
-pub mod Fits
-pub mod Walks
-pub mod States
-pub mod Spreads
-pub mod Clues
-pub mod Subsumers
-pub mod Gaps
+pub mod Searches

@@ -43,7 +43,7 @@ pub fn check_set(set: &[u16], atoms: u16) -> Walk
 pub fn test_set(words: &[u16], set: &[u16]) -> TestAnswer
     ensures { λ r. ⌜ r ≡ testOf (now (words .entry)) (now (set .entry)) ⌝ }
 {
-    let checked = table::check_table(words);
+    let checked = questions::check_table(words);
     let Checked::Valid(t) = checked else {
         let Checked::Refused(r) = checked else {
             return TestAnswer::Accepted(false);

@@ -1,43 +1,19 @@
--- Questions 1 to 8, one step at a time in the code's own terms; and what a walk says that is not refused.
-use Prim.Native.Nat.{ℕ, suc, _≤_, _<_, _-_, _+_}
-use mathlib.Core.Path.{_≡_, refl, ap}
-use mathlib.Core.List.{List}
+-- A walk that is not refused had every question answered yes.
+use Prim.Native.Nat.{ℕ, suc, _<_, _-_, _+_}
+use mathlib.Core.Path.{_≡_, refl}
 use mathlib.Core.Bool.{Bool, true, false}
-use borrow.Author.Tests.{le-ltb, lt-ltb, le-leb, lt-leb}
 use native.Mathlib.Omega.{arith}
-use lib.ListN.{length, getD}
 use Rattle.table.specs.declared.Refusal.{Refusal}
 use Rattle.table.specs.declared.Walk.{Walk}
 use Rattle.table.specs.declared.Walk.the-variants.{To, Stop}
 use Rattle.table.specs.declared.Table.{Table}
 use Rattle.table.specs.declared.Checked.{Checked}
 use Rattle.table.specs.declared.Checked.the-variants.{Valid}
-use Rattle.table.specs.Questions.{atomsFrom, ask, andThen, onTo, askTable, clauseFrom, clausesFrom, allUsed, tableOf}
+use Rattle.table.specs.Questions.{ask, andThen, onTo, askTable}
 
 -- one more than what is left after a step
 pub one-left : (i e : ℕ) → i < e → e - i ≡ suc (e - (i + 1))
 one-left i e h = omega arith
-
--- ---- questions 6 and 7, and 20 and 21
-
-module _ (below above : ℕ → Refusal) (ws : List ℕ) (n low i e : ℕ) where
-  pub atoms-on : i < e → getD ws i 0 < n → low ≤ getD ws i 0 → atomsFrom below above ws n low i (e - i) ≡ atomsFrom below above ws n (getD ws i 0 + 1) (i + 1) (e - (i + 1))
-  unfolding atomsFrom ask
-  atoms-on h a b = rw (one-left i e h) (simp (lt-ltb _ _ a, le-leb _ _ b))
-
-  pub atoms-below : i < e → n ≤ getD ws i 0 → atomsFrom below above ws n low i (e - i) ≡ Stop (below i)
-  unfolding atomsFrom ask
-  atoms-below h a = rw (one-left i e h) (simp (le-ltb _ _ a))
-
-  pub atoms-above : i < e → getD ws i 0 < n → getD ws i 0 < low → atomsFrom below above ws n low i (e - i) ≡ Stop (above i)
-  unfolding atomsFrom ask
-  atoms-above h a b = rw (one-left i e h) (simp (lt-ltb _ _ a, lt-leb _ _ b))
-
-  pub atoms-end : e ≤ i → i ≤ e → atomsFrom below above ws n low i (e - i) ≡ To e
-  unfolding atomsFrom
-  atoms-end h h′ = let z : e - i ≡ 0 = omega arith in let q : i ≡ e = omega arith in rw z (ap To q)
-
--- ---- a walk that is not refused had every question answered yes
 
 pub ask-inv : (t : Bool) (r : Refusal) (w : Walk) (e : ℕ) → ask t r w ≡ To e → (t ≡ true) × (w ≡ To e)
 unfolding ask
@@ -58,25 +34,3 @@ pub on-inv : (w : Walk) (f : ℕ → Walk) (e : ℕ) → onTo w f ≡ To e → (
 unfolding onTo
 on-inv (To d) f e h = (d, refl, h)
 on-inv (Stop r) f e h = let z : _≡_ {A = ℕ} 0 1 = cc in absurd (omega arith)
-
--- ---- clause by clause, and the whole
-
--- one clause more
-module _ (ws : List ℕ) (n k m at : ℕ) (h : k < m) where
-  pub clauses-on : (e : ℕ) → clauseFrom ws n at ≡ To e → clausesFrom ws n (m - k) at ≡ clausesFrom ws n (m - (k + 1)) e
-  unfolding clausesFrom onTo
-  clauses-on e q = rw (one-left k m h, q)
-
-  pub clauses-bad : (r : Refusal) → clauseFrom ws n at ≡ Stop r → clausesFrom ws n (m - k) at ≡ Stop r
-  unfolding clausesFrom onTo
-  clauses-bad r q = rw (one-left k m h, q)
-
-pub clauses-end : (ws : List ℕ) (n k m at : ℕ) → m ≤ k → clausesFrom ws n (m - k) at ≡ To at
-unfolding clausesFrom onTo
-clauses-end ws n k m at h = let z : m - k ≡ 0 = omega arith in rw z
-
--- past the first three questions, the answer is the walk's
-pub table-on : (ws : List ℕ) (w : Walk) → 2 ≤ length ws → length ws ≤ 8192 → getD ws 0 0 ≤ 1024 → getD ws 1 0 ≤ 2048
-    → clausesFrom ws (getD ws 0 0) (getD ws 1 0) 2 ≡ w → tableOf ws ≡ allUsed ws w
-unfolding tableOf askTable
-table-on ws w a b c d h = rw (le-leb _ _ a, le-leb _ _ b, le-leb _ _ c, le-leb _ _ d, h)

@@ -206,7 +206,7 @@ fn copy_bytes(out: &mut [u8], from: &[u8], n: usize)
 pub fn write_text(words: &[u16], out: &mut [u8]) -> WriteAnswer
     ensures { λ r. ⌜ (r ≡ writeAnswer (now (words .entry)) (length (now (out .entry)))) × (now (out .exit) ≡ outAfter (now (words .entry)) (now (out .entry))) ⌝ }
 {
-    let checked = table::check_table(words);
+    let checked = questions::check_table(words);
     let Checked::Valid(_) = checked else {
         let Checked::Refused(r) = checked else {
             return WriteAnswer::Accepted(0);

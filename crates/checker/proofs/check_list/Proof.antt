@@ -3,7 +3,7 @@ use mathlib.Core.Path.{sym, _∙_}
 use native.Mathlib.Omega.{arith}
 use borrow.Author.Tests.{not-true, not-false}
 use Rattle.table.proofs.Encoding.{valid-passed}
-use Rattle.checker.proofs.Laws.{check-refused, check-9, check-11, leaves-made}
+use Rattle.checker.proofs.Walks.{check-refused, check-9, check-11, leaves-made}
 use borrow.Author.Needs.{needs}
 use Rattle.checker.proofs.check_list.Statement.{statement}
 use Rattle.checker.proofs.check_list.Tie as tie

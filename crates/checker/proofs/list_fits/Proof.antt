@@ -1,5 +1,5 @@
 -- `checker::list_fits` meets its contract.
-use Rattle.checker.proofs.Laws.{list-odd, list-even}
+use Rattle.checker.proofs.Walks.{list-odd, list-even}
 use Rattle.checker.proofs.list_fits.Statement.{statement}
 use Rattle.checker.proofs.list_fits.Tie as tie
 

@@ -3,7 +3,7 @@ use Prim.Native.Nat.{_≤_, _-_}
 use mathlib.Core.Path.{_≡_, refl, _∙_}
 use native.Mathlib.Omega.{arith}
 use lib.ListN.{length}
-use Rattle.checker.proofs.Laws.{Stepping, stepping-start, stepping-on, stepping-no, stepping-end, ready-after}
+use Rattle.checker.proofs.Walks.{Stepping, stepping-start, stepping-on, stepping-no, stepping-end, ready-after}
 use borrow.Author.Needs.{needs}
 use Rattle.checker.proofs.take_steps.Statement.{statement}
 use Rattle.checker.proofs.take_steps.Tie as tie

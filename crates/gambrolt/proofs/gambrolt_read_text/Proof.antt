@@ -1,7 +1,7 @@
 -- The answer is the call's definition as one number; a refusal's place leaves room for the number.
 use borrow.Author.Needs.{needs}
 use lib.ListN.{length}
-use Rattle.gambrolt.proofs.TextPlaces.{read-place}
+use Rattle.codes.proofs.TextPlaces.{read-place}
 use Rattle.gambrolt.proofs.gambrolt_read_text.Statement.{statement}
 use Rattle.gambrolt.proofs.gambrolt_read_text.Tie as tie
 

@@ -1,6 +1,6 @@
 -- The answer is the call's definition as one number; a refusal's place leaves room for the number.
 use borrow.Author.Needs.{needs}
-use Rattle.gambrolt.proofs.CallPlaces.{test-place}
+use Rattle.codes.proofs.CallPlaces.{test-place}
 use Rattle.gambrolt.proofs.gambrolt_test.Statement.{statement}
 use Rattle.gambrolt.proofs.gambrolt_test.Tie as tie
 

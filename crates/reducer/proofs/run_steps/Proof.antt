@@ -3,8 +3,8 @@ use Prim.Native.Nat.{_-_}
 use mathlib.Core.Path.{_≡_, refl, sym, _∙_}
 use native.Mathlib.Omega.{arith}
 use lib.ListN.{length}
-use Rattle.search.specs.State.{State}
-use Rattle.search.proofs.States.{found-nothing}
+use Rattle.keys.specs.State.{State}
+use Rattle.search.proofs.Searches.{found-nothing}
 use Rattle.reducer.specs.Reductions.{room}
 use Rattle.reducer.proofs.Room.{room-few}
 use Rattle.reducer.proofs.Runs.{Running, running-none, running-end, running-room, running-step, taken}

@@ -2,8 +2,8 @@
 use Prim.Native.Nat.{_≤_}
 use mathlib.Core.Path.{ap, subst, _∙_}
 use native.Mathlib.Omega.{arith}
-use Rattle.search.specs.Flags.{lowest, highest, Fenced}
-use Rattle.search.proofs.States.{prepared-arrays, prepared-calm, prepared-swept}
+use Rattle.flags.specs.Flags.{lowest, highest, Fenced}
+use Rattle.keys.proofs.States.{prepared-arrays, prepared-calm, prepared-swept}
 use borrow.Author.Needs.{needs}
 use Rattle.search.proofs.first_of_kind.Statement.{statement}
 use Rattle.search.proofs.first_of_kind.Tie as tie

@@ -7,8 +7,8 @@ use lib.ListN.{length, getD}
 use Rattle.rewriting.specs.Steps.{kindOf}
 use Rattle.rewriting.specs.Reducer.{firstTarget}
 use Rattle.table.specs.View.{view}
-use Rattle.search.specs.State.{State}
-use Rattle.search.proofs.States.{kinds-found, kinds-none, kinds-more, found-one}
+use Rattle.keys.specs.State.{State}
+use Rattle.search.proofs.Searches.{kinds-found, kinds-none, kinds-more, found-one}
 use borrow.Author.Needs.{needs}
 use Rattle.search.proofs.first_step.Statement.{statement}
 use Rattle.search.proofs.first_step.Tie as tie

@@ -1,6 +1,6 @@
 -- `search_row`: by partner or by atom.
 use mathlib.Core.Path.{sym, _∙_}
-use Rattle.search.proofs.States.{partner-kind, atom-kind}
+use Rattle.kinds.proofs.Numbers.{partner-kind, atom-kind}
 use borrow.Author.Needs.{needs}
 use Rattle.search.proofs.search_row.Statement.{statement}
 use Rattle.search.proofs.search_row.Tie as tie

@@ -1,7 +1,7 @@
 -- `stopped_at`: by the two cases.
 use mathlib.Core.Path.{sym, ap, _∙_}
-use Rattle.search.specs.State.{stoppedAt}
-use Rattle.search.proofs.Walks.{stopped-one}
+use Rattle.targets.specs.Searches.{stoppedAt}
+use Rattle.targets.proofs.Walks.{stopped-one}
 use borrow.Author.Needs.{needs}
 use Rattle.search.proofs.stopped_at.Statement.{statement}
 use Rattle.search.proofs.stopped_at.Tie as tie

@@ -6,7 +6,7 @@ use lib.ListN.{length}
 use borrow.Author.Tests.{lt-leb}
 use borrow.Author.Needs.{needs}
 use Rattle.table.specs.Questions.{ask}
-use Rattle.table.proofs.Laws.{atoms-on, atoms-below, atoms-above, atoms-end}
+use Rattle.questions.proofs.Asked.{atoms-on, atoms-below, atoms-above, atoms-end}
 use Rattle.stability.proofs.Entries.{set-on}
 use Rattle.stability.specs.Answer.{entriesFrom, setOf}
 use Rattle.stability.proofs.check_set.Statement.{statement}

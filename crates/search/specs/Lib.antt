@@ -1,4 +1,0 @@
-pub mod Stamps
-pub mod Flags
-pub mod Kinds
-pub mod State

@@ -1,0 +1,4 @@
+pub mod Known
+pub mod Limits
+pub mod Spreads
+pub mod Clues

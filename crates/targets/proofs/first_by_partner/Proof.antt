@@ -1,0 +1,186 @@
+-- `first_by_partner`: targets passed have no step; in the walk, the partners passed make none, and the flags stay.
+use Prim.Native.Nat.{ℕ, _-_, _<_, _+_, _*_}
+use mathlib.Core.Path.{_≡_, refl, sym, ap, _∙_}
+use mathlib.Core.Bool.{false}
+use mathlib.Core.Logic.{_≢_, ⊎-elim}
+use native.Mathlib.Omega.{arith}
+use lib.ListN.{length, getD, set, length-set}
+use borrow.Author.Count.{below-more}
+use Rattle.rewriting.specs.Marked.{entry}
+use Rattle.rewriting.specs.Steps.{kindOf, step, applies}
+use Rattle.table.specs.View.{view}
+use Rattle.table.proofs.Encoding.{passed-limits}
+use Rattle.targets.specs.declared.Found.the-variants.{One, Nothing}
+use Rattle.partners.specs.Stamps.{Stamps}
+use Rattle.keys.specs.State.{Swept}
+use Rattle.targets.specs.Searches.{Partners}
+use Rattle.flags.specs.Flags.{flags, Inside}
+use Rattle.flags.proofs.Flags.{inside-past, inside-clear, inside-set}
+use Rattle.targets.proofs.Walks.{partners-none, partners-hit, swept-none, swept-clear, swept-all, swept-before, swept-later, calm-from, targets-end, targets-hit, stopped-there, stopped-end}
+use Rattle.targets.proofs.Gaps.{swept-then}
+use borrow.Author.Needs.{needs}
+use Rattle.targets.proofs.first_by_partner.Statement.{statement}
+use Rattle.targets.proofs.first_by_partner.Tie as tie
+
+abbrev Inv-loop : tie.InvT-loop
+Inv-loop words marks start may₀ kind low end base found₀ t stamps e from p₀ may found p = (found ≡ Nothing) × (Partners words marks kind t e × (Stamps (entry (view words marks) t .clause) stamps × ((length stamps ≡ 3072) × ((may ≡ may₀) × ((q : ℕ) → q < p → applies (getD words 0 0) (view words marks) (step (kindOf kind) t q 0) ≡ false)))))
+
+abbrev μ-loop : tie.MeasureT-loop
+μ-loop words marks start may₀ kind low end base found₀ t stamps e from p₀ may found p = e - p
+
+abbrev Inv-search : tie.InvT-search
+Inv-search words marks start may₀ kind low end base found₀ t₀ may found t = (found ≡ Nothing) × ((base ≡ kind * 2048) × (Swept words marks may₀ may kind × Inside may kind t end))
+
+abbrev μ-search : tie.MeasureT-search
+μ-search words marks start may₀ kind low end base found₀ t₀ may found t = end - t
+
+-- there are few clauses, and the target is one of them
+few : (c : tie.In-search Inv-loop μ-loop Inv-search μ-search) → (c .before .search .t < 2048) × (c .before .search .t < getD (c .before .before .before .before .before .before .before .args .words .now) 1 0)
+few c = (omega (arith, c .search-test .taken, c .before .before .before .before .before .before .before .pre .1 .0, passed-limits _ (c .before .before .before .before .before .before .before .pre .0 .placed .passed) .fewClauses), omega (arith, c .search-test .taken, c .before .before .before .before .before .before .before .pre .1 .0))
+
+mul-base : tie.Need-mul-base Inv-loop μ-loop Inv-search μ-search
+mul-base c = omega (arith, c .wide .ensures, c .before .before .before .before .before .pre .1 .1 .0 .high)
+
+search-holds : tie.Need-search-holds Inv-loop μ-loop Inv-search μ-search
+search-holds c = (refl, (ap (λ x. x * 2048) (c .wide .ensures .0), (swept-none _ _ _ _ (c .before .before .before .before .before .pre .1 .1 .1 .0), c .before .before .before .before .before .pre .1 .1 .1 .1)))
+
+add-if1 : tie.Need-add-if1 Inv-loop μ-loop Inv-search μ-search
+add-if1 c = omega (arith, c .before .search .inv .1 .0, few c, c .before .before .before .before .before .before .before .pre .1 .1 .0 .high)
+
+mul-if1 : tie.Need-mul-if1 Inv-loop μ-loop Inv-search μ-search
+mul-if1 c = omega (arith, c .before .search .inv .1 .0, few c, c .before .before .before .before .before .before .before .pre .1 .1 .0 .high)
+
+slice-read-if1 : tie.Need-slice-read-if1 Inv-loop μ-loop Inv-search μ-search
+slice-read-if1 c = omega (arith, c .before .before .search .inv .1 .0, c .before .before .search .inv .1 .1 .0 .calm .rows .long, few (c .before), c .before .before .before .before .before .before .before .before .pre .1 .1 .0 .high)
+
+lift-requires : tie.Need-lift-requires Inv-loop μ-loop Inv-search μ-search
+lift-requires c κs =
+    let inv = c .before .before .before .before .search .inv in
+    let f : flags (c .before .before .before .before .search .may) (c .before .before .before .before .before .before .before .before .before .before .args .kind) (c .before .before .before .before .search .t) ≢ 0 = rw (inv .1 .0) at (c .before .if1 .taken) in
+    (c .before .before .before .before .before .before .before .before .before .before .pre .0, (few (c .before .before .before) .1, (c .before .before .before .before .before .before .before .before .before .before .pre .1 .1 .0, (f, inv .1 .1 .0 .calm))))
+
+stamp-clause-requires : tie.Need-stamp-clause-requires Inv-loop μ-loop Inv-search μ-search
+stamp-clause-requires c κs = (c .before .before .before .before .before .before .before .before .before .before .before .before .before .before .pre .0, (few (c .before .before .before .before .before .before .before) .1, refl))
+
+partners-requires : tie.Need-partners-requires Inv-loop μ-loop Inv-search μ-search
+partners-requires c κs = (c .before .before .before .before .before .before .before .before .before .before .before .before .before .before .before .before .before .pre .0, (few (c .before .before .before .before .before .before .before .before .before .before) .1, (c .before .before .before .before .before .before .before .before .before .before .before .before .before .before .before .before .before .pre .1 .1 .0, c .before .before .before .before .before .before .lift .ensures .swept .calm)))
+
+add-wide : tie.Need-add-wide Inv-loop μ-loop Inv-search μ-search
+add-wide c = omega (arith, c .before .before .before .before .before .before .before .before .before .before .before .before .search .inv .1 .0, few (c .before .before .before .before .before .before .before .before .before .before .before), c .before .before .before .before .before .before .before .before .before .before .before .before .before .before .before .before .before .before .pre .1 .1 .0 .high)
+
+mul-wide : tie.Need-mul-wide Inv-loop μ-loop Inv-search μ-search
+mul-wide c = omega (arith, c .before .before .before .before .before .before .before .before .before .before .before .before .search .inv .1 .0, few (c .before .before .before .before .before .before .before .before .before .before .before), c .before .before .before .before .before .before .before .before .before .before .before .before .before .before .before .before .before .before .pre .1 .1 .0 .high)
+
+slice-read-wide : tie.Need-slice-read-wide Inv-loop μ-loop Inv-search μ-search
+slice-read-wide c = omega (arith, c .before .before .before .before .before .before .before .before .before .before .before .before .before .search .inv .1 .0, c .before .before .before .before .before .before .before .before .lift .ensures .swept .calm .rows .long, few (c .before .before .before .before .before .before .before .before .before .before .before .before), c .before .before .before .before .before .before .before .before .before .before .before .before .before .before .before .before .before .before .before .pre .1 .1 .0 .high)
+
+sub-from : tie.Need-sub-from Inv-loop μ-loop Inv-search μ-search
+sub-from c =
+    let e : c .wide2 .result ≡ flags (c .before .before .before .before .before .before .before .before .before .lift .last .1 .1 .1 .0) (c .before .before .before .before .before .before .before .before .before .before .before .before .before .before .before .before .before .before .before .before .args .kind) (c .before .before .before .before .before .before .before .before .before .before .before .before .before .before .search .t) = c .wide2 .ensures .0 ∙ ap (λ b. getD (c .before .before .before .before .before .before .before .before .before .lift .last .1 .1 .1 .0) (b + c .before .before .before .before .before .before .before .before .before .before .before .before .before .before .search .t) 0) (c .before .before .before .before .before .before .before .before .before .before .before .before .before .before .search .inv .1 .0) in
+    let z = c .before .before .before .before .before .before .before .before .before .lift .ensures .flagged in omega (arith, e)
+
+loop-holds : tie.Need-loop-holds Inv-loop μ-loop Inv-search μ-search
+loop-holds c =
+    let inv = c .before .before .before .before .before .before .before .before .before .before .before .before .before .before .search .inv in
+    let k = c .before .before .before .before .before .before .before .before .before .before .before .before .before .before .before .before .before .before .before .before .pre .1 .1 .0 in
+    let e : c .wide2 .result ≡ flags (c .before .before .before .before .before .before .before .before .before .lift .last .1 .1 .1 .0) (c .before .before .before .before .before .before .before .before .before .before .before .before .before .before .before .before .before .before .before .before .args .kind) (c .before .before .before .before .before .before .before .before .before .before .before .before .before .before .search .t) = c .wide2 .ensures .0 ∙ ap (λ b. getD (c .before .before .before .before .before .before .before .before .before .lift .last .1 .1 .1 .0) (b + c .before .before .before .before .before .before .before .before .before .before .before .before .before .before .search .t) 0) (inv .1 .0) in (
+      inv .0,
+      (
+        c .before .before .partners .ensures,
+        (
+          c .before .before .before .before .before .stamp-clause .ensures .0,
+          (
+            c .before .before .before .before .before .stamp-clause .ensures .1,
+            (refl, λ q l. calm-from _ _ _ _ (c .before .before .before .before .before .before .before .before .before .lift .ensures .swept .calm) k (c .before .before .before .before .before .before .before .before .before .before .before .before .before .before .search .t) q (omega (arith, e))),
+          ),
+        ),
+      ),
+    )
+
+partner-applies-requires : tie.Need-partner-applies-requires Inv-loop μ-loop Inv-search μ-search
+partner-applies-requires c κs =
+    let i = c .before .before .loop .inv in
+    (c .before .before .before .before .before .before .before .before .before .before .before .before .before .before .before .before .before .before .before .before .before .before .before .pre .0, (omega (arith, c .before .loop-test .taken, i .1 .0 .most), (i .1 .1 .1 .0, (i .1 .1 .0, (c .before .before .before .before .before .before .before .before .before .before .before .before .before .before .before .before .before .before .before .before .before .before .before .pre .1 .1 .0, i .1 .0 .kept (omega (arith, c .before .loop-test .taken)))))))
+
+add-narrow : tie.Need-add-narrow Inv-loop μ-loop Inv-search μ-search
+add-narrow c = omega (arith, c .before .before .before .loop-test .taken, c .before .before .before .before .loop .inv .1 .0 .most, passed-limits _ (c .before .before .before .before .before .before .before .before .before .before .before .before .before .before .before .before .before .before .before .before .before .before .before .before .before .pre .0 .placed .passed) .fewClauses)
+
+narrow-requires : tie.Need-narrow-requires Inv-loop μ-loop Inv-search μ-search
+narrow-requires c κs = omega (arith, c .before .before .before .loop-test .taken, c .before .before .before .before .loop .inv .1 .0 .most, passed-limits _ (c .before .before .before .before .before .before .before .before .before .before .before .before .before .before .before .before .before .before .before .before .before .before .before .before .before .pre .0 .placed .passed) .fewClauses)
+
+add-may : tie.Need-add-may Inv-loop μ-loop Inv-search μ-search
+add-may c = omega (arith, c .before .before .before .before .before .before .before .before .before .before .before .before .before .before .before .before .before .before .before .before .search .inv .1 .0, few (c .before .before .before .before .before .before .before .before .before .before .before .before .before .before .before .before .before .before .before), c .before .before .before .before .before .before .before .before .before .before .before .before .before .before .before .before .before .before .before .before .before .before .before .before .before .before .pre .1 .1 .0 .high)
+
+mul-may : tie.Need-mul-may Inv-loop μ-loop Inv-search μ-search
+mul-may c = omega (arith, c .before .before .before .before .before .before .before .before .before .before .before .before .before .before .before .before .before .before .before .before .search .inv .1 .0, few (c .before .before .before .before .before .before .before .before .before .before .before .before .before .before .before .before .before .before .before), c .before .before .before .before .before .before .before .before .before .before .before .before .before .before .before .before .before .before .before .before .before .before .before .before .before .before .pre .1 .1 .0 .high)
+
+slice-write-may : tie.Need-slice-write-may Inv-loop μ-loop Inv-search μ-search
+slice-write-may c = omega (arith, ap length (c .before .before .before .before .before .loop .inv .1 .1 .1 .1 .0), c .before .before .before .before .before .before .before .before .before .before .before .before .before .before .before .before .before .before .before .before .search .inv .1 .0, c .before .before .before .before .before .before .before .before .before .before .before .before .before .before .before .lift .ensures .swept .calm .rows .long, few (c .before .before .before .before .before .before .before .before .before .before .before .before .before .before .before .before .before .before .before), c .before .before .before .before .before .before .before .before .before .before .before .before .before .before .before .before .before .before .before .before .before .before .before .before .before .before .pre .1 .1 .0 .high)
+
+narrow-requires-2 : tie.Need-narrow-requires-2 Inv-loop μ-loop Inv-search μ-search
+narrow-requires-2 c κs = omega (arith, few (c .before .before .before .before .before .before .before .before .before .before .before .before .before .before .before .before .before .before .before))
+
+narrow-requires-3 : tie.Need-narrow-requires-3 Inv-loop μ-loop Inv-search μ-search
+narrow-requires-3 c κs = omega (arith, c .before .before .before .before .before .loop-test .taken, c .before .before .before .before .before .before .loop .inv .1 .0 .most, passed-limits _ (c .before .before .before .before .before .before .before .before .before .before .before .before .before .before .before .before .before .before .before .before .before .before .before .before .before .before .before .pre .0 .placed .passed) .fewClauses)
+
+loop-less : tie.Need-loop-less Inv-loop μ-loop Inv-search μ-search
+loop-less c = omega (arith, c .before .before .before .loop-test .taken)
+
+loop-again : tie.Need-loop-again Inv-loop μ-loop Inv-search μ-search
+loop-again c =
+    let i = c .before .before .before .before .loop .inv in
+    (i .0, (i .1 .0, (i .1 .1 .0, (i .1 .1 .1 .0, (i .1 .1 .1 .1 .0, below-more _ _ (i .1 .1 .1 .1 .1) (sym (c .before .partner-applies .ensures) ∙ c .if2 .left))))))
+
+add-may-2 : tie.Need-add-may-2 Inv-loop μ-loop Inv-search μ-search
+add-may-2 c = omega (arith, c .before .before .before .before .before .before .before .before .before .before .before .before .before .before .before .before .search .inv .1 .0, few (c .before .before .before .before .before .before .before .before .before .before .before .before .before .before .before), c .before .before .before .before .before .before .before .before .before .before .before .before .before .before .before .before .before .before .before .before .before .before .pre .1 .1 .0 .high)
+
+mul-may-2 : tie.Need-mul-may-2 Inv-loop μ-loop Inv-search μ-search
+mul-may-2 c = omega (arith, c .before .before .before .before .before .before .before .before .before .before .before .before .before .before .before .before .search .inv .1 .0, few (c .before .before .before .before .before .before .before .before .before .before .before .before .before .before .before), c .before .before .before .before .before .before .before .before .before .before .before .before .before .before .before .before .before .before .before .before .before .before .pre .1 .1 .0 .high)
+
+slice-write-may-2 : tie.Need-slice-write-may-2 Inv-loop μ-loop Inv-search μ-search
+slice-write-may-2 c = omega (arith, ap length (c .before .loop .inv .1 .1 .1 .1 .0), c .before .before .before .before .before .before .before .before .before .before .before .before .before .before .before .before .search .inv .1 .0, c .before .before .before .before .before .before .before .before .before .before .before .lift .ensures .swept .calm .rows .long, few (c .before .before .before .before .before .before .before .before .before .before .before .before .before .before .before), c .before .before .before .before .before .before .before .before .before .before .before .before .before .before .before .before .before .before .before .before .before .before .pre .1 .1 .0 .high)
+
+search-again : tie.Need-search-again Inv-loop μ-loop Inv-search μ-search
+search-again c =
+    let inv = c .before .before .before .search .inv in
+    let l = few (c .before .before) .0 in
+    let s = inv .1 .1 .0 in
+    let k = c .before .before .before .before .before .before .before .before .before .pre .1 .1 .0 .high in
+    ⊎-elim
+    (λ w.
+    let i = w .12 .inv in
+    let z = w .2 .ensures in
+    let e = partners-none (c .before .before .before .before .before .before .before .before .before .args .words .now) (c .before .before .before .before .before .before .before .before .before .args .marks .now) (c .before .before .before .before .before .before .before .before .before .args .kind) _ _ (i .1 .0) (c .before .before .before .before .before .before .before .before .before .pre .1 .1 .0) (λ q k. i .1 .1 .1 .1 .1 q (omega (arith, w .13 .left))) in
+    (w .15 ∙ i .0, (inv .1 .0, rw (w .14, i .1 .1 .1 .1 .0, inv .1 .0) (swept-clear _ _ _ _ _ (swept-then _ _ _ _ _ _ s (z .swept)) (omega arith) _ l e, inside-clear (w .2 .last .1 .1 .1 .0) (c .before .before .before .before .before .before .before .before .before .args .kind) (c .before .before .before .search .t) _ (z .inside _ _ (inv .1 .1 .1)) (omega (arith, l, z .swept .calm .rows .long, k))))))
+    (λ w. (w .2 ∙ inv .0, (inv .1 .0, rw (w .1) (s, inside-past (c .before .before .before .search .may) (c .before .before .before .before .before .before .before .before .before .args .kind) (c .before .before .before .search .t) _ (inv .1 .1 .1) (rw (inv .1 .0) at (w .0 .left))))))
+    (c .if1 .came)
+
+same-length : tie.Need-same-length Inv-loop μ-loop Inv-search μ-search
+same-length c = c .before .search .inv .1 .1 .0 .calm .rows .long ∙ sym (c .before .before .before .before .before .before .before .pre .1 .1 .1 .0 .rows .long)
+
+returns : tie.Need-returns Inv-loop μ-loop Inv-search μ-search
+returns c =
+    let inv = c .before .search .inv in
+    let l = passed-limits _ (c .before .before .before .before .before .before .before .pre .0 .placed .passed) .fewClauses in
+    (inv .0 ∙ targets-end (c .before .before .before .before .before .before .before .args .words .now) (c .before .before .before .before .before .before .before .args .marks .now) (c .before .before .before .before .before .before .before .args .kind) (swept-all _ _ _ _ _ (inv .1 .1 .0) _ _ (inv .1 .1 .1) l (c .search-test .left)), (inv .1 .1 .0, stopped-end (c .before .search .may) (c .before .before .before .before .before .before .before .args .kind) _ _ (inv .1 .1 .1) _ (inv .0) (c .search-test .left)))
+
+same-length-2 : tie.Need-same-length-2 Inv-loop μ-loop Inv-search μ-search
+same-length-2 c = simp length-set (ap length (c .before .before .before .before .before .before .before .before .loop .inv .1 .1 .1 .1 .0) ∙ c .before .before .before .before .before .before .before .before .before .before .before .before .before .before .before .before .before .before .lift .ensures .swept .calm .rows .long ∙ sym (c .before .before .before .before .before .before .before .before .before .before .before .before .before .before .before .before .before .before .before .before .before .before .before .before .before .before .before .before .before .pre .1 .1 .1 .0 .rows .long))
+
+returns-2 : tie.Need-returns-2 Inv-loop μ-loop Inv-search μ-search
+returns-2 c =
+    let k = c .before .before .before .before .before .before .before .before .before .before .before .before .before .before .before .before .before .before .before .before .before .before .before .before .before .before .before .before .before .pre .1 .1 .0 in
+    let i = c .before .before .before .before .before .before .before .before .loop .inv in
+    let inv = c .before .before .before .before .before .before .before .before .before .before .before .before .before .before .before .before .before .before .before .before .before .before .before .search .inv in
+    let l = passed-limits _ (c .before .before .before .before .before .before .before .before .before .before .before .before .before .before .before .before .before .before .before .before .before .before .before .before .before .before .before .before .before .pre .0 .placed .passed) .fewClauses in
+    let f = c .before .before .before .before .before .before .before .before .before .before .before .before .before .before .before .before .before .before .lift .ensures .flagged in
+    let b = swept-before _ _ _ _ _ (inv .1 .1 .0) (c .before .before .before .before .before .before .before .before .before .before .before .before .before .before .before .before .before .before .before .before .before .before .before .search .t) _ (inv .1 .1 .1) l (omega (arith, c .before .before .before .before .before .before .before .before .before .before .before .before .before .before .before .before .before .before .before .before .before .before .search-test .taken, c .before .before .before .before .before .before .before .before .before .before .before .before .before .before .before .before .before .before .before .before .before .before .before .before .before .before .before .before .before .pre .1 .0)) in (
+      ap One (c .new .ensures) ∙ rw (c .before .before .narrow2 .ensures, c .before .narrow3 .ensures) (targets-hit (c .before .before .before .before .before .before .before .before .before .before .before .before .before .before .before .before .before .before .before .before .before .before .before .before .before .before .before .before .before .args .words .now) (c .before .before .before .before .before .before .before .before .before .before .before .before .before .before .before .before .before .before .before .before .before .before .before .before .before .before .before .before .before .args .marks .now) (c .before .before .before .before .before .before .before .before .before .before .before .before .before .before .before .before .before .before .before .before .before .before .before .before .before .before .before .before .before .args .kind) (k .low) (k .high) (c .before .before .before .before .before .before .before .before .before .before .before .before .before .before .before .before .before .before .before .before .before .before .before .search .t) _ _ (omega (arith, c .before .before .before .before .before .before .before .before .before .before .before .before .before .before .before .before .before .before .before .before .before .before .search-test .taken, c .before .before .before .before .before .before .before .before .before .before .before .before .before .before .before .before .before .before .before .before .before .before .before .before .before .before .before .before .before .pre .1 .0)) b
+          (partners-hit _ _ _ _ _ (i .1 .0) k _ (c .before .before .before .before .before .before .before .loop-test .taken) (i .1 .1 .1 .1 .1) (sym (c .before .before .before .before .before .partner-applies .ensures) ∙ c .before .before .before .before .if2 .taken))),
+      rw (c .before .before .before .narrow .ensures, inv .1 .0, i .1 .1 .1 .1 .0) (swept-later _ _ _ _ _ (swept-then _ _ _ _ _ _ (inv .1 .1 .0) (c .before .before .before .before .before .before .before .before .before .before .before .before .before .before .before .before .before .before .lift .ensures .swept)) k (c .before .before .before .before .before .before .before .before .before .before .before .before .before .before .before .before .before .before .before .before .before .before .before .search .t) (c .before .before .before .before .before .before .before .before .loop .p) (few (c .before .before .before .before .before .before .before .before .before .before .before .before .before .before .before .before .before .before .before .before .before .before) .0) f (i .1 .1 .1 .1 .1), stopped-there (set (c .before .before .before .before .before .before .before .before .before .before .before .before .before .before .before .before .before .before .lift .last .1 .1 .1 .0) (c .before .before .before .before .before .before .before .before .before .before .before .before .before .before .before .before .before .before .before .before .before .before .before .before .before .before .before .before .before .args .kind * 2048 + c .before .before .before .before .before .before .before .before .before .before .before .before .before .before .before .before .before .before .before .before .before .before .before .search .t) (c .before .before .before .before .before .before .before .before .loop .p + 1)) (c .before .before .before .before .before .before .before .before .before .before .before .before .before .before .before .before .before .before .before .before .before .before .before .before .before .before .before .before .before .args .kind) (c .before .before .before .before .before .before .before .before .before .before .before .before .before .before .before .before .before .before .before .before .before .before .before .search .t) _ (inside-set (c .before .before .before .before .before .before .before .before .before .before .before .before .before .before .before .before .before .before .lift .last .1 .1 .1 .0) (c .before .before .before .before .before .before .before .before .before .before .before .before .before .before .before .before .before .before .before .before .before .before .before .before .before .before .before .before .before .args .kind) (c .before .before .before .before .before .before .before .before .before .before .before .before .before .before .before .before .before .before .before .before .before .before .before .search .t) (c .before .before .before .before .before .before .before .before .loop .p + 1) (omega (arith, k .high)) (few (c .before .before .before .before .before .before .before .before .before .before .before .before .before .before .before .before .before .before .before .before .before .before) .0) (λ e. absurd (f e)) _ _ (c .before .before .before .before .before .before .before .before .before .before .before .before .before .before .before .before .before .before .lift .ensures .inside _ _ (inv .1 .1 .1))) _ _ refl (ap (λ x. x .target) (c .new .ensures) ∙ c .before .before .narrow2 .ensures)),
+    )
+
+pub first-by-partner-spec : {M : Type 1} → statement M
+first-by-partner-spec =
+    tie.close
+    (tie.spec Inv-loop μ-loop Inv-search μ-search (λ c κs. search needs) mul-base search-holds add-if1 mul-if1 slice-read-if1 lift-requires (λ c. search needs) stamp-clause-requires partners-requires add-wide mul-wide slice-read-wide (λ c κs. search needs) sub-from loop-holds (λ c. search needs) partner-applies-requires add-narrow narrow-requires add-may mul-may slice-write-may narrow-requires-2 narrow-requires-3 (λ c κs. search needs) (λ c. search needs) loop-less loop-again add-may-2 mul-may-2 slice-write-may-2 (λ c. search needs) (λ c. search needs) search-again same-length returns same-length-2 returns-2)
