@@ -21,11 +21,11 @@ use Rattle.table.proofs.View.{at-step, view-after, length-after}
 use Rattle.table.proofs.Parts.{allKept-one, length-allKept, view-allKept}
 use Rattle.compaction.specs.declared.CompactAnswer.the-variants as compacted
 use Rattle.compaction.specs.Reduced.{reducedAnswer}
-use Rattle.copying.specs.Leaves.{reduced}
+use Rattle.sizes.specs.Leaves.{reduced}
 use Rattle.marks.specs.Allowed.{clearableIn, clearableFrom, allowed}
-use Rattle.reducer.specs.declared.ReduceAnswer.the-variants as answer
-use Rattle.reducer.specs.Reductions.{stepsOf, reduction}
-use Rattle.reducer.proofs.Taken.{taken, steps-accepted, lengths-kept}
+use Rattle.reductions.specs.declared.ReduceAnswer.the-variants as answer
+use Rattle.reductions.specs.Reductions.{stepsOf, reduction}
+use Rattle.reductions.proofs.Taken.{taken, steps-accepted, lengths-kept}
 use Rattle.claims.proofs.Reduced.{reduced-fits}
 
 -- ---- the places that a step clears

@@ -24,7 +24,7 @@ use Rattle.checker.specs.declared.CheckAnswer.{CheckAnswer}
 use Rattle.checker.specs.declared.CheckAnswer.the-variants as checked
 use Rattle.checker.specs.Lists as lists
 use Rattle.steps.specs.Verdicts as verdicts
-use Rattle.reducer.specs.Reductions.{wordsOf, bodyLiterals, room, stepsOf}
+use Rattle.reductions.specs.Reductions.{wordsOf, bodyLiterals, room, stepsOf}
 
 -- a table's words, with what a call on them says
 pub data Example : Type 0 where

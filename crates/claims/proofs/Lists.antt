@@ -33,7 +33,7 @@ use Rattle.table.proofs.Parts.{left-allKept, length-allKept}
 use Rattle.conditions.specs.Known.{stepOf}
 use Rattle.checker.specs.declared.CheckAnswer.the-variants.{Accepted, Refused}
 use Rattle.steps.specs.declared.Verdict.{Verdict}
-use Rattle.copying.specs.Leaves.{leftProgram}
+use Rattle.sizes.specs.Leaves.{leftProgram}
 use Rattle.steps.specs.declared.Verdict.the-variants.{Fine, No}
 use Rattle.checker.specs.Lists.{stepAt, Outcome, refused, onward, stepsFrom, listFits, askCall, checkOn, checkList}
 use Rattle.steps.specs.Verdicts.{stepQuestions}

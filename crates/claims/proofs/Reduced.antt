@@ -27,7 +27,7 @@ use Rattle.table.proofs.Encoding.{program-encode, valid-passed}
 use Rattle.compaction.specs.declared.CompactAnswer.{CompactAnswer}
 use Rattle.compaction.specs.declared.CompactAnswer.the-variants.{Accepted, Refused}
 use Rattle.compaction.specs.Reduced.{askCall, onMarks, onTable, roomAnswer, markedAnswer, reducedAnswer, written, reducedOut}
-use Rattle.copying.specs.Leaves.{leftProgram, reduced}
+use Rattle.sizes.specs.Leaves.{leftProgram, reduced}
 use Rattle.marks.specs.Allowed.{allowed, marksFrom}
 use Rattle.compaction.proofs.Answers.{answer-few, answer-mark, answer-table, answer-valid, answer-room, answer-accepted}
 use Rattle.table.proofs.Refused.{table-refused}

@@ -21,9 +21,9 @@ use Rattle.table.specs.declared.Checked.the-variants.{Valid, Refused as NoTable
 use Rattle.table.specs.Questions.{tableOf}
 use Rattle.table.specs.Places.{programOf}
 use Rattle.table.specs.View.{view, allKept, marksAfterAll, zeros}
-use Rattle.reducer.specs.declared.ReduceAnswer.the-variants as answer
-use Rattle.reducer.specs.Reductions.{wordsOf, room, stepsOf, Reduction, refused, onTable, reduction}
-use Rattle.reducer.proofs.Taken.{taken, marks-after}
+use Rattle.reductions.specs.declared.ReduceAnswer.the-variants as answer
+use Rattle.reductions.specs.Reductions.{wordsOf, room, stepsOf, Reduction, refused, onTable, reduction}
+use Rattle.reductions.proofs.Taken.{taken, marks-after}
 
 -- "The steps that the reducer reports number exactly the clauses deleted plus the body literals dropped": the marks at 0.
 pub reducer-counts : (ws ms ls : List ℕ) (s : ℕ) → reduction ws ms ls .answer ≡ answer.Accepted s → s ≡ zeros ws (reduction ws ms ls .marks)

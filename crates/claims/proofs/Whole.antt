@@ -26,10 +26,10 @@ use Rattle.table.proofs.View.{view-after, view-afterAll, length-after}
 use Rattle.table.proofs.Parts.{allKept-one, view-allKept, length-allKept}
 use Rattle.conditions.specs.declared.Step as words
 use Rattle.conditions.specs.Known.{stepOf}
-use Rattle.reducer.specs.declared.ReduceAnswer.{ReduceAnswer}
-use Rattle.reducer.specs.declared.ReduceAnswer.the-variants as answer
-use Rattle.reducer.specs.Reductions.{wordsOf, stepsOf, reduction}
-use Rattle.reducer.proofs.Taken.{taken, whole-tidy, steps-greedy, steps-accepted, steps-room, zeros-allKept, length-words}
+use Rattle.reductions.specs.declared.ReduceAnswer.{ReduceAnswer}
+use Rattle.reductions.specs.declared.ReduceAnswer.the-variants as answer
+use Rattle.reductions.specs.Reductions.{wordsOf, stepsOf, reduction}
+use Rattle.reductions.proofs.Taken.{taken, whole-tidy, steps-greedy, steps-accepted, steps-room, zeros-allKept, length-words}
 use Rattle.checker.specs.declared.CheckAnswer.the-variants.{Accepted, Refused}
 use Rattle.steps.specs.declared.Verdict.{Verdict}
 use Rattle.steps.specs.declared.Verdict.the-variants.{Fine, No}

@@ -21,9 +21,9 @@ use Rattle.table.proofs.Encoding.{valid-passed, passed-limits}
 use Rattle.compaction.specs.declared.CompactAnswer.{CompactAnswer}
 use Rattle.compaction.specs.declared.CompactAnswer.the-variants as compacted
 use Rattle.compaction.specs.Reduced.{askCall, onMarks, onTable as onCompact, roomAnswer, markedAnswer, reducedAnswer}
-use Rattle.copying.specs.Leaves.{reduced}
+use Rattle.sizes.specs.Leaves.{reduced}
 use Rattle.marks.specs.Allowed.{allowed, marksFrom}
-use Rattle.copying.proofs.Limits.{left-within}
+use Rattle.sizes.proofs.Limits.{left-within}
 use Rattle.stability.specs.Answer.{setOf, onSet, onTable, testOf}
 use Rattle.stability.specs.declared.TestAnswer.{TestAnswer}
 use Rattle.stability.specs.declared.TestAnswer.the-variants as tested

@@ -26,11 +26,11 @@ use Rattle.steps.specs.declared.Verdict.{Verdict}
 use Rattle.steps.specs.declared.Verdict.the-variants.{Fine, No}
 use Rattle.checker.specs.Lists.{Outcome, stepAt, onward, stepsFrom, listFits, askCall, checkOn, checkList}
 use Rattle.steps.specs.Verdicts.{stepQuestions}
-use Rattle.reducer.specs.declared.ReduceAnswer.{ReduceAnswer}
-use Rattle.reducer.specs.declared.ReduceAnswer.the-variants as made
-use Rattle.reducer.specs.Reductions.{room, stepsOf, wordsOf, Reduction, refused, onTable, reduction}
-use Rattle.reducer.proofs.Room.{room-few}
-use Rattle.reducer.proofs.Taken.{steps-room}
+use Rattle.reductions.specs.declared.ReduceAnswer.{ReduceAnswer}
+use Rattle.reductions.specs.declared.ReduceAnswer.the-variants as made
+use Rattle.reductions.specs.Reductions.{room, stepsOf, wordsOf, Reduction, refused, onTable, reduction}
+use Rattle.reductions.proofs.Room.{room-few}
+use Rattle.reductions.proofs.Taken.{steps-room}
 use Rattle.codes.proofs.Places.{Checks, table-checks}
 
 -- a list is taken or refused with a number of at most 65,536

@@ -5,8 +5,8 @@ use Rattle.table.specs.declared.Checked.{Checked}
 use Rattle.table.specs.declared.Checked.the-variants as checked
 use Rattle.checker.specs.declared.CheckAnswer.{CheckAnswer}
 use Rattle.checker.specs.declared.CheckAnswer.the-variants as listed
-use Rattle.reducer.specs.declared.ReduceAnswer.{ReduceAnswer}
-use Rattle.reducer.specs.declared.ReduceAnswer.the-variants as made
+use Rattle.reductions.specs.declared.ReduceAnswer.{ReduceAnswer}
+use Rattle.reductions.specs.declared.ReduceAnswer.the-variants as made
 use Rattle.compaction.specs.declared.CompactAnswer.{CompactAnswer}
 use Rattle.compaction.specs.declared.CompactAnswer.the-variants as compacted
 use Rattle.dependency.specs.declared.CycleAnswer.{CycleAnswer}

@@ -13,7 +13,7 @@ use Rattle.table.specs.Questions.{tableOf}
 use Rattle.table.specs.declared.Walk.the-variants.{To, Stop}
 use Rattle.compaction.specs.declared.CompactAnswer.the-variants.{Accepted, Refused}
 use Rattle.compaction.specs.Reduced.{askCall, onMarks, onTable, roomAnswer, markedAnswer, reducedAnswer}
-use Rattle.copying.specs.Leaves.{reduced}
+use Rattle.sizes.specs.Leaves.{reduced}
 use Rattle.marks.specs.Allowed.{allowed, marksFrom}
 
 module _ (ws ms out : List ℕ) where

@@ -16,7 +16,7 @@ use Rattle.table.specs.Questions.{tableOf}
 use Rattle.compaction.specs.declared.CompactAnswer.{CompactAnswer}
 use Rattle.compaction.specs.declared.CompactAnswer.the-variants.{Accepted, Refused}
 use Rattle.marks.specs.Allowed.{allowed, marksFrom}
-use Rattle.copying.specs.Leaves.{reduced}
+use Rattle.sizes.specs.Leaves.{reduced}
 
 -- a question answered yes goes on; answered no, it is the refusal
 unfoldable pub askCall : Bool → Refusal → CompactAnswer → CompactAnswer

@@ -2,7 +2,7 @@
 ghost use mathlib.Core.Path.{_≡_};
 ghost use Rattle.table.specs.Questions.{Passed};
 ghost use Rattle.compaction.specs.Reduced.{markedAnswer, reducedAnswer, written, reducedOut};
-ghost use Rattle.copying.specs.Leaves.{reduced};
+ghost use Rattle.sizes.specs.Leaves.{reduced};
 use table::CallQuestion;
 use table::Checked;
 use table::Refusal;
@@ -29,7 +29,7 @@ fn compact(words: &[u16], marks: &[u8], out: &mut [u16]) -> CompactAnswer
         };
         return CompactAnswer::Refused(r);
     };
-    let size = copying::left_size(words, marks);
+    let size = sizes::left_size(words, marks);
     if out.len() < size {
         return CompactAnswer::Refused(Refusal::Call(CallQuestion::TableRoom));
     }

@@ -1,4 +1,4 @@
-// What the marks leave of a table's program, as a table of its own: its size, and its words.
+// What the marks leave of a table's program, copied as a table of its own.
 ghost use mathlib.Core.Path.{_≡_};
 ghost use mathlib.Core.List.{[], _∷_};
 ghost use Prim.Native.Nat.{_+_, _-_, _≤_, _<_};
@@ -7,65 +7,9 @@ ghost use lib.Seq.{sets};
 ghost use Rattle.rewriting.specs.Marked.{left};
 ghost use Rattle.table.specs.Encoding.{clauseWords, clausesWords};
 ghost use Rattle.table.specs.View.{part, entryAt, view};
-ghost use Rattle.copying.specs.Leaves.{reduced};
-ghost use Rattle.copying.specs.Parts.{keptFrom, entryWords, Room, Fits};
-ghost use Rattle.marks.specs.Spans.{Inside, Ready};
-
-// How many marks from `at` up to `end` are 1.
-fn kept_in(marks: &[u8], at: usize, end: usize) -> u16
-    requires { ⌜ (at ≤ end) × ((end ≤ length (now marks)) × (end - at < 65536)) ⌝ }
-    ensures { λ r. ⌜ r ≡ keptFrom (now (marks .entry)) at (end - at) ⌝ }
-{
-    let mut n: u16 = 0;
-    for i in at..end {
-        if marks[i] != 1 {
-            continue;
-        }
-        n += 1;
-    }
-    n
-}
-
-// The number of words of a clause as left.
-fn entry_size(words: &[u16], marks: &[u8], at: usize) -> usize
-    requires { ⌜ Inside (now words) (now marks) at ⌝ }
-    ensures { λ r. ⌜ r ≡ length (entryWords (entryAt (now (words .entry)) (now (marks .entry)) at)) ⌝ }
-{
-    if marks[at] != 1 {
-        return 0;
-    }
-    3 + table::wide(kept_in(marks, at + 3, table::next_clause(words, at)))
-}
-
-// The number of words of the reduced table.
-pub fn left_size(words: &[u16], marks: &[u8]) -> usize
-    requires { ⌜ Ready (now words) (now marks) ⌝ }
-    ensures { λ r. ⌜ r ≡ length (reduced (now (words .entry)) (now (marks .entry))) ⌝ }
-{
-    let clauses = words[1];
-    let mut at: usize = 2;
-    let mut size: usize = 2;
-    for k in 0..clauses {
-        size += entry_size(words, marks, at);
-        at = table::next_clause(words, at);
-    }
-    size
-}
-
-// The number of clauses kept.
-fn left_count(words: &[u16], marks: &[u8]) -> u16
-    requires { ⌜ Ready (now words) (now marks) ⌝ }
-    ensures { λ r. ⌜ r ≡ length (left (view (now (words .entry)) (now (marks .entry)))) ⌝ }
-{
-    let clauses = words[1];
-    let mut at: usize = 2;
-    let mut n: u16 = 0;
-    for k in 0..clauses {
-        n += kept_in(marks, at, at + 1);
-        at = table::next_clause(words, at);
-    }
-    n
-}
+ghost use Rattle.sizes.specs.Leaves.{reduced};
+ghost use Rattle.sizes.specs.Parts.{keptFrom, entryWords, Room, Fits};
+ghost use Rattle.marks.specs.Spans.{Inside};
 
 // The words from `at` up to `end` whose mark is 1, written from `to` on; the place past them.
 fn copy_part(
@@ -96,9 +40,9 @@ fn write_counts(marks: &[u8], a: usize, b: usize, c: usize, d: usize, out: &mut 
     requires { ⌜ (a ≤ b) × ((b ≤ c) × ((c ≤ d) × ((d ≤ length (now marks)) × ((d - a < 65536) × (to + 3 ≤ length (now out)))))) ⌝ }
     ensures { λ _. ⌜ now (out .exit) ≡ sets (now (out .entry)) to (keptFrom (now (marks .entry)) a (b - a) ∷ keptFrom (now (marks .entry)) b (c - b) ∷ keptFrom (now (marks .entry)) c (d - c) ∷ []) ⌝ }
 {
-    out[to] = kept_in(marks, a, b);
-    out[to + 1] = kept_in(marks, b, c);
-    out[to + 2] = kept_in(marks, c, d);
+    out[to] = sizes::kept_in(marks, a, b);
+    out[to + 1] = sizes::kept_in(marks, b, c);
+    out[to + 2] = sizes::kept_in(marks, c, d);
 }
 
 // The words of a clause that is kept, written from `to` on; the place past them.
@@ -146,6 +90,6 @@ pub fn write_reduced(words: &[u16], marks: &[u8], out: &mut [u16])
     ensures { λ _. ⌜ now (out .exit) ≡ sets (now (out .entry)) 0 (reduced (now (words .entry)) (now (marks .entry))) ⌝ }
 {
     out[0] = words[0];
-    out[1] = left_count(words, marks);
+    out[1] = sizes::left_count(words, marks);
     copy_clauses(words, marks, out);
 }

@@ -8,12 +8,12 @@ use Rattle.table.specs.declared.Refusal.{Refusal}
 use Rattle.table.specs.Questions.{Passed}
 use Rattle.table.specs.Places.{programOf}
 use Rattle.table.proofs.Encoding.{passed-limits}
-use Rattle.copying.specs.Leaves.{leftProgram}
+use Rattle.sizes.specs.Leaves.{leftProgram}
 use Rattle.marks.specs.Spans.{Ready}
-use Rattle.reducer.specs.declared.ReduceAnswer.{ReduceAnswer}
-use Rattle.reducer.specs.declared.ReduceAnswer.the-variants as answer
-use Rattle.reducer.specs.Reductions.{stepsOf, reduction, Answered}
-use Rattle.reducer.proofs.Taken.{taken, lengths-kept}
+use Rattle.reductions.specs.declared.ReduceAnswer.{ReduceAnswer}
+use Rattle.reductions.specs.declared.ReduceAnswer.the-variants as answer
+use Rattle.reductions.specs.Reductions.{stepsOf, reduction, Answered}
+use Rattle.reductions.proofs.Taken.{taken, lengths-kept}
 use Rattle.text.specs.Render.{render}
 use Rattle.text.specs.Writer.{Puts}
 use Rattle.writer.proofs.Laws.{puts-then}

@@ -7,9 +7,9 @@ use native.Mathlib.Nat.{sub-zero}
 use lib.ListN.{length, take, replicate, length-replicate}
 use lib.Seq.{sets, length-sets}
 use Rattle.table.specs.Questions.{Passed}
-use Rattle.copying.specs.Leaves.{leftProgram, reduced}
+use Rattle.sizes.specs.Leaves.{leftProgram, reduced}
 use Rattle.marks.specs.Spans.{Ready}
-use Rattle.copying.proofs.Limits.{left-within, reduced-passes}
+use Rattle.sizes.proofs.Limits.{left-within, reduced-passes}
 use Rattle.text.specs.Render.{render}
 use Rattle.text.specs.Writer.{textOf, Puts}
 use Rattle.text.proofs.Slices.{sets-written, take-written}

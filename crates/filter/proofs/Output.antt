@@ -12,12 +12,12 @@ use Rattle.rewriting.specs.Reducer.{reduce}
 use Rattle.table.specs.Questions.{Passed}
 use Rattle.table.specs.Places.{programOf}
 use Rattle.table.proofs.Encoding.{passed-within, passed-limits}
-use Rattle.copying.specs.Leaves.{leftProgram}
-use Rattle.copying.proofs.Limits.{left-within}
-use Rattle.reducer.specs.declared.ReduceAnswer.the-variants as answer
-use Rattle.reducer.specs.Reductions as reductions
-use Rattle.reducer.proofs.Room.{room-measure, room-few}
-use Rattle.reducer.proofs.Taken.{taken, marks-after, steps-room, length-words}
+use Rattle.sizes.specs.Leaves.{leftProgram}
+use Rattle.sizes.proofs.Limits.{left-within}
+use Rattle.reductions.specs.declared.ReduceAnswer.the-variants as answer
+use Rattle.reductions.specs.Reductions as reductions
+use Rattle.reductions.proofs.Room.{room-measure, room-few}
+use Rattle.reductions.proofs.Taken.{taken, marks-after, steps-room, length-words}
 use Rattle.text.specs.Digits.{digits, commas}
 use Rattle.text.specs.Render.{lineText, render}
 use Rattle.text.proofs.Numbers.{digits-length, width-five}

@@ -19,9 +19,9 @@ use Rattle.text.specs.Writer.{Puts}
 use Rattle.text.proofs.Slices.{sets-written, take-written}
 use Rattle.text.proofs.Texts.{read-render}
 use Rattle.text.proofs.Calls.{accepted-reads}
-use Rattle.copying.specs.Leaves.{leftProgram}
+use Rattle.sizes.specs.Leaves.{leftProgram}
 use Rattle.text.specs.Render.{render}
-use Rattle.reducer.specs.Reductions as reductions
+use Rattle.reductions.specs.Reductions as reductions
 use Rattle.filter.specs.Output.{reducedText, refusedText, printed, outputOf, Prints}
 use Rattle.filter.specs.Lines.{listLines}
 use Rattle.filter.proofs.Output.{always-taken, reduced-text, list-short, left-short}

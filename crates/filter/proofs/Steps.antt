@@ -9,7 +9,7 @@ use Rattle.table.proofs.Stands.{past}
 use Rattle.text.specs.Digits.{digits}
 use Rattle.text.specs.Render.{lineText}
 use Rattle.text.proofs.Slices.{sets-written}
-use Rattle.reducer.specs.Reductions.{wordsOf}
+use Rattle.reductions.specs.Reductions.{wordsOf}
 use Rattle.filter.specs.Output.{stepsKey, stepText, stepsText}
 use Rattle.filter.specs.Lines.{stepLines, listLines}
 

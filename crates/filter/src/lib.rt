@@ -6,12 +6,12 @@ ghost use Rattle.table.specs.Places.{cut, programOf};
 ghost use Rattle.text.specs.Digits.{commas};
 ghost use Rattle.text.specs.Writer.{Puts};
 ghost use Rattle.text.specs.Render.{lineText, render};
-ghost use Rattle.copying.specs.Leaves.{leftProgram};
+ghost use Rattle.sizes.specs.Leaves.{leftProgram};
 ghost use Rattle.marks.specs.Spans.{Ready};
 ghost use Rattle.table.specs.Questions.{Passed};
 ghost use Rattle.filter.specs.Output.{stepKey, refusedText, reducedText, Prints};
 ghost use Rattle.filter.specs.Lines.{stepLines, listLines};
-use reducer::ReduceAnswer;
+use reductions::ReduceAnswer;
 use text::ReadAnswer;
 use writer::put_bytes;
 use writer::put_line;
@@ -77,7 +77,7 @@ fn put_left(out: &mut [u8], words: &[u16], marks: &[u8]) -> usize
     ensures { λ r. ⌜ Puts (now (out .entry)) (now (out .exit)) 0 r (render (leftProgram (now (words .entry)) (now (marks .entry)))) ⌝ }
 {
     let mut reduced = [0u16; 8192];
-    let k = copying::left_size(words, marks);
+    let k = sizes::left_size(words, marks);
     copying::write_reduced(words, marks, &mut reduced);
     put_text(out, &reduced[0..k])
 }

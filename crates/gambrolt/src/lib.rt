@@ -3,7 +3,7 @@ ghost use mathlib.Core.Path.{_≡_};
 ghost use lib.ListN.{length};
 ghost use Rattle.table.specs.Questions.{tableOf};
 ghost use Rattle.checker.specs.Lists.{checkList};
-ghost use Rattle.reducer.specs.Reductions.{reduction};
+ghost use Rattle.reductions.specs.Reductions.{reduction};
 ghost use Rattle.compaction.specs.Reduced.{reducedAnswer, reducedOut};
 ghost use Rattle.dependency.specs.Answer.{cycleOf};
 ghost use Rattle.stability.specs.Answer.{testOf};
@@ -13,7 +13,7 @@ ghost use Rattle.codes.specs.Codes.{tableCode, checkCode, reduceCode, reducedCo
 use checker::CheckAnswer;
 use compaction::CompactAnswer;
 use dependency::CycleAnswer;
-use reducer::ReduceAnswer;
+use reductions::ReduceAnswer;
 use stability::TestAnswer;
 use table::Checked;
 use text::ReadAnswer;

@@ -2,9 +2,8 @@
 ghost use mathlib.Core.Path.{_≡_};
 ghost use Prim.Native.Nat.{_≤_};
 ghost use Rattle.rewriting.specs.Steps.{usesPartner, kindOf, usesAtom};
-ghost use mathlib.Core.Bool.{true};
-ghost use Rattle.kinds.specs.Kinds.{HeadsKind, walkedPart, targetPart};
-ghost use Rattle.rewriting.specs.Kinds.{asksReach, drops};
+ghost use Rattle.kinds.specs.Kinds.{walkedPart, targetPart};
+ghost use Rattle.rewriting.specs.Kinds.{asksHeads, asksReach, drops};
 use parts::Part;
 
 // Whether a kind has a partner.
@@ -21,14 +20,16 @@ pub fn uses_partner(kind: u16) -> bool
     kind == 8
 }
 
-// Whether a kind asks for atoms in no kept head.
+// Whether the kind asks for the kept heads.
 pub fn asks_heads(kind: u16) -> bool
-    ensures { λ r. ⌜ (r ≡ true → HeadsKind kind) × (HeadsKind kind → r ≡ true) ⌝ }
+    requires { ⌜ (1 ≤ kind) × (kind ≤ 8) ⌝ }
+    ensures { λ r. ⌜ r ≡ asksHeads (kindOf kind) ⌝ }
 {
-    if kind == 4 {
-        return true;
+    match kind {
+        4 => true,
+        6 => true,
+        _ => false,
     }
-    kind == 6
 }
 
 // The part that the search of a kind walks.

@@ -1,18 +1,16 @@
 -- The kinds with a partner: what a test by stamps says.
 use mathlib.Core.Path.{_≡_, refl, sym, ap, _∙_}
-use mathlib.Core.Logic.{_≢_, by-cases}
-use mathlib.Core.Bool.{Bool, true, false, _&&_, So}
+use mathlib.Core.Bool.{Bool, true, false, _&&_}
 use mathlib.Core.List.{List, [], _∷_, List·Memᴰ·head}
 use Prim.Native.Nat.{ℕ, _+_, _-_, _<_}
 use native.Mathlib.Omega.{arith}
-use native.Mathlib.Decide.{ℕ-discrete}
 use lib.Dec.{eqb}
 use lib.ListN.{getD, drop, replicate, length-take, length-drop}
 use lib.Seq.{getD-take, getD-drop}
-use Rattle.semantics.specs.Lists.{_∈_, all, mem, within}
+use Rattle.semantics.specs.Lists.{_∈_, all, mem}
 use Rattle.semantics.specs.Programs.{Clause}
 use Rattle.rewriting.specs.Marked.{entry, left}
-use Rattle.rewriting.specs.Steps.{Kind, success, blocked, subsumed, kindOf, fact, single, condition}
+use Rattle.rewriting.specs.Steps.{Kind, success, blocked, subsumed, fact, single, condition}
 use Rattle.table.specs.Questions.{Passed}
 use Rattle.table.specs.View.{view}
 use Rattle.table.proofs.Encoding.{passed-limits}
@@ -23,9 +21,7 @@ use Rattle.parts.specs.declared.Single.the-variants.{One, Other}
 use Rattle.parts.specs.Parts.{singleOf, Spanned}
 use Rattle.parts.proofs.Laws.{partWords}
 use Rattle.partners.specs.Stamps.{stamped, isStamped, allStamped, Stamps, Below}
-use Rattle.kinds.specs.Kinds.{PartnerKind}
 use Rattle.partners.proofs.Stamps.{all-same, stamps-of}
-use Rattle.kinds.proofs.Numbers.{is-five}
 use Rattle.parts.proofs.Laws.{words-below}
 
 -- ---- atoms are below 1,024
@@ -66,13 +62,13 @@ module _ (ws ms : List ℕ) (ok : Passed ws) (t p : ℕ) (st : List ℕ) (s : St
   abbrev Cond : Kind → Bool
   Cond k = condition k (left (view ws ms)) target partner 0
 
-  pub fit-success : So (fact partner) → single (isStamped st 1024) (partner .head) ≡ Cond success
+  pub fit-success : (fact partner && single (isStamped st 1024) (partner .head)) ≡ Cond success
   unfolding condition
-  fit-success f = single-same (isStamped st 1024) (λ b. mem b (target .pos)) (partner .head) (λ a m. s .pos a (head-below ws ms ok p a m)) ∙ ap (λ b. b && single (λ b. mem b (target .pos)) (partner .head)) (sym f)
+  fit-success = ap (λ b. fact partner && b) (single-same (isStamped st 1024) (λ b. mem b (target .pos)) (partner .head) (λ a m. s .pos a (head-below ws ms ok p a m)))
 
-  pub fit-blocked : So (fact partner) → all (isStamped st 2048) (partner .head) ≡ Cond blocked
+  pub fit-blocked : (fact partner && all (isStamped st 2048) (partner .head)) ≡ Cond blocked
   unfolding condition
-  fit-blocked f = all-same (isStamped st 2048) (λ b. mem b (target .neg)) (partner .head) (λ a m. s .neg a (head-below ws ms ok p a m)) ∙ ap (λ b. b && within (partner .head) (target .neg)) (sym f)
+  fit-blocked = ap (λ b. fact partner && b) (all-same (isStamped st 2048) (λ b. mem b (target .neg)) (partner .head) (λ a m. s .neg a (head-below ws ms ok p a m)))
 
   pub fit-subsumed : allStamped st partner ≡ Cond subsumed
   unfolding condition
@@ -82,10 +78,14 @@ module _ (ws ms : List ℕ) (ok : Passed ws) (t p : ℕ) (st : List ℕ) (s : St
     all-same (isStamped st 2048) (λ b. mem b (target .neg)) (partner .neg) (λ a m. s .neg a (neg-below ws ms ok p a m)),
   )
 
--- kinds 3 and 5 ask for a fact
-pub not-fact : (kind : ℕ) (cs : List Clause) (c d : Clause) → PartnerKind kind → kind ≢ 8 → fact d ≡ false → false ≡ condition (kindOf kind) cs c d 0
-unfolding condition
-not-fact kind cs c d k n f = by-cases (ℕ-discrete kind 3) (λ e. rw (e, f)) (λ e. rw (is-five kind k e n, f))
+-- kinds 3 and 5 ask for a fact, and of its head for r
+pub fits-not : (f r c : Bool) → (f && r) ≡ c → r ≡ false → false ≡ c
+fits-not true r c e d = sym d ∙ e
+fits-not false r c e d = e
+
+pub fits-fact : (f r c : Bool) → (f && r) ≡ c → r ≡ true → f ≡ c
+fits-fact true r c e d = sym d ∙ e
+fits-fact false r c e d = e
 
 -- ---- the only atom of a head
 

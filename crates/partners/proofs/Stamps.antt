@@ -10,6 +10,7 @@ use lib.Dec.{eqb}
 use lib.ListN.{length, getD, set, drop, replicate, length-set, getD-replicate, length-replicate}
 use lib.Seq.{getD-set-same, getD-set-other}
 use borrow.Author.Tests.{eq-eqb, ne-eqb}
+use Rattle.semantics.proofs.Tests.{or-false}
 use Rattle.semantics.specs.Lists.{_∈_, any, all, mem}
 use Rattle.semantics.specs.Programs.{Clause}
 use Rattle.table.proofs.Parts.{scan-end}
@@ -70,17 +71,13 @@ pub stamps-of : (c : Clause) → ((a : ℕ) → a ∈ c .head → a < 1024) → 
     → Stamps c (stamped (stamped (stamped (replicate 3072 0) 0 (c .head)) 1024 (c .pos)) 2048 (c .neg))
 stamps-of c hb pb nb = record {
   head = λ a l. stamped-other two 2048 (c .neg) (0 + a) fits3 (λ b m e. omega (arith, nb b m)) ∙ stamped-other one 1024 (c .pos) (0 + a) fits2 (λ b m e. omega (arith, pb b m))
-      ∙ stamped-own none 0 (c .head) a fits1 ∙ ap (λ t. mem a (c .head) || eqb t 1) (getD-replicate 3072 (0 + a) 0 0 (omega arith)) ∙ or-none (mem a (c .head));
+      ∙ stamped-own none 0 (c .head) a fits1 ∙ ap (λ t. mem a (c .head) || eqb t 1) (getD-replicate 3072 (0 + a) 0 0 (omega arith)) ∙ or-false (mem a (c .head));
   pos = λ a l. stamped-other two 2048 (c .neg) (1024 + a) fits3 (λ b m e. omega (arith, nb b m)) ∙ stamped-own one 1024 (c .pos) a fits2
-      ∙ ap (λ t. mem a (c .pos) || t) (stamped-other none 0 (c .head) (1024 + a) fits1 (λ b m e. omega (arith, hb b m)) ∙ ap (λ t. eqb t 1) (getD-replicate 3072 (1024 + a) 0 0 (omega arith))) ∙ or-none (mem a (c .pos));
+      ∙ ap (λ t. mem a (c .pos) || t) (stamped-other none 0 (c .head) (1024 + a) fits1 (λ b m e. omega (arith, hb b m)) ∙ ap (λ t. eqb t 1) (getD-replicate 3072 (1024 + a) 0 0 (omega arith))) ∙ or-false (mem a (c .pos));
   neg = λ a l. stamped-own two 2048 (c .neg) a fits3
-      ∙ ap (λ t. mem a (c .neg) || t) (stamped-other one 1024 (c .pos) (2048 + a) fits2 (λ b m e. omega (arith, pb b m)) ∙ stamped-other none 0 (c .head) (2048 + a) fits1 (λ b m e. omega (arith, hb b m)) ∙ ap (λ t. eqb t 1) (getD-replicate 3072 (2048 + a) 0 0 (omega arith))) ∙ or-none (mem a (c .neg));
+      ∙ ap (λ t. mem a (c .neg) || t) (stamped-other one 1024 (c .pos) (2048 + a) fits2 (λ b m e. omega (arith, pb b m)) ∙ stamped-other none 0 (c .head) (2048 + a) fits1 (λ b m e. omega (arith, hb b m)) ∙ ap (λ t. eqb t 1) (getD-replicate 3072 (2048 + a) 0 0 (omega arith))) ∙ or-false (mem a (c .neg));
 }
   where
-    or-none : (b : Bool) → (b || false) ≡ b
-    or-none true = refl
-    or-none false = refl
-
     none : List ℕ
     none = replicate 3072 0
 

@@ -1,6 +1,6 @@
 // One clause's atoms stamped in an array, and whether a partner of kind 3, 5 or 8 fits the clause that is stamped.
 ghost use mathlib.Core.Path.{_≡_};
-ghost use mathlib.Core.Bool.{So};
+ghost use mathlib.Core.Bool.{So, _&&_};
 ghost use Prim.Native.Nat.{_≤_, _<_};
 ghost use lib.ListN.{length, getD, replicate};
 ghost use Rattle.semantics.specs.Lists.{all};
@@ -121,7 +121,7 @@ fn single_stamped(words: &[u16], marks: &[u8], start: &[u16], p: usize, stamps: 
     stamps[at] == 1
 }
 
-// Whether the fact p serves kind 3 or 5 at the target that is stamped.
+// Whether clause p, if it is a fact, serves kind 3 or 5 at the target that is stamped.
 fn fact_fits(
     words: &[u16],
     marks: &[u8],
@@ -131,8 +131,8 @@ fn fact_fits(
     t: usize,
     p: usize,
 ) -> bool
-    requires { ⌜ (Ready (now words) (now marks) (now start)) × ((p < getD (now words) 1 0) × ((length (now stamps) ≡ 3072) × ((Stamps (entry (view (now words) (now marks)) t .clause) (now stamps)) × ((PartnerKind kind) × ((kind ≡ 8 → ⊥) × So (fact (entry (view (now words) (now marks)) p .clause))))))) ⌝ }
-    ensures { λ r. ⌜ r ≡ condition (kindOf kind) (left (view (now (words .entry)) (now (marks .entry)))) (entry (view (now (words .entry)) (now (marks .entry))) t .clause) (entry (view (now (words .entry)) (now (marks .entry))) p .clause) 0 ⌝ }
+    requires { ⌜ (Ready (now words) (now marks) (now start)) × ((p < getD (now words) 1 0) × ((length (now stamps) ≡ 3072) × ((Stamps (entry (view (now words) (now marks)) t .clause) (now stamps)) × ((PartnerKind kind) × (kind ≡ 8 → ⊥))))) ⌝ }
+    ensures { λ r. ⌜ (fact (entry (view (now (words .entry)) (now (marks .entry))) p .clause) && r) ≡ condition (kindOf kind) (left (view (now (words .entry)) (now (marks .entry)))) (entry (view (now (words .entry)) (now (marks .entry))) t .clause) (entry (view (now (words .entry)) (now (marks .entry))) p .clause) 0 ⌝ }
 {
     if kind == 3 {
         single_stamped(words, marks, start, p, stamps)
@@ -157,10 +157,10 @@ fn partner_fits(
     if kind == 8 {
         return clause_stamped(words, marks, start, p, stamps);
     }
-    if !conditions::is_fact(words, marks, start, p) {
+    if !fact_fits(words, marks, start, stamps, kind, t, p) {
         return false;
     }
-    fact_fits(words, marks, start, stamps, kind, t, p)
+    conditions::is_fact(words, marks, start, p)
 }
 
 // Whether the step of kind 3, 5 or 8 with the kept target that is stamped and the partner p applies.

@@ -16,10 +16,10 @@ use Rattle.table.specs.Questions.{tableOf, Passed}
 use Rattle.table.specs.View.{allKept, marksAfterAll}
 use Rattle.table.proofs.Encoding.{valid-inv}
 use Rattle.table.proofs.Parts.{view-allKept}
-use Rattle.reducer.specs.declared.ReduceAnswer.the-variants.{Accepted, Refused}
-use Rattle.reducer.specs.Reductions.{room, stepsOf, wordsOf, Reduction, refused, onTable, reduction, Answered}
+use Rattle.reductions.specs.declared.ReduceAnswer.the-variants.{Accepted, Refused}
+use Rattle.reductions.specs.Reductions.{room, stepsOf, wordsOf, Reduction, refused, onTable, reduction, Answered}
 use Rattle.reducer.specs.Runs.{Begun, Reduced}
-use Rattle.reducer.proofs.Taken.{zeros-allKept}
+use Rattle.reductions.proofs.Taken.{zeros-allKept}
 
 -- ---- the start
 

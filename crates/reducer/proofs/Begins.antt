@@ -1,16 +1,16 @@
 -- The state in which the reducer begins: every step is open.
 use mathlib.Core.Path.{_≡_, refl, ap, _∙_}
-use mathlib.Core.Logic.{_≢_, by-cases}
+use mathlib.Core.Logic.{_≢_}
 use mathlib.Core.Bool.{So, false≢true}
 use mathlib.Core.List.{List}
 use Prim.Native.Nat.{ℕ, _+_, _*_, _≤_, _<_}
 use native.Mathlib.Omega.{arith}
-use native.Mathlib.Decide.{decLt}
-use lib.ListN.{length, getD, replicate, length-replicate, getD-replicate, List·getD-eq-default}
+use lib.ListN.{length, getD, replicate, length-replicate}
 use Rattle.rewriting.specs.Steps.{Kind, tautology, contradiction, success, noHead, blocked, failure, loop, subsumed, number, usesPartner}
 use Rattle.rewriting.proofs.Quiet.{Quiet, key, quiet-all}
 use Rattle.table.specs.View.{view}
 use Rattle.parts.specs.Parts.{Ready}
+use Rattle.reach.proofs.Laws.{zero-at}
 use Rattle.conditions.specs.Known.{Heads}
 use Rattle.flags.specs.Flags.{flags, Rows, Grown, Raising, AllFlagged}
 use Rattle.keys.specs.State.{State}
@@ -18,9 +18,6 @@ use Rattle.spreads.proofs.Limits.{target-lt, key-lt}
 use Rattle.reducer.specs.Runs.{AllOpen}
 
 -- ---- no flag
-
-all-zero : (k i : ℕ) → _≡_ {A = ℕ} (getD (replicate k 0) i 0) 0
-all-zero k i = by-cases (decLt i k) (λ l. getD-replicate {A = ℕ} k i 0 0 l) (λ l. List·getD-eq-default (replicate k 0) 0 (omega (arith, length-replicate {A = ℕ} k 0)))
 
 rows-none : (m : ℕ) (may : List ℕ) → may ≡ replicate 38946 0 → Rows m may
 rows-none m may e = record {
@@ -31,7 +28,7 @@ rows-none m may e = record {
 }
   where
     none : (i : ℕ) → getD may i 0 ≡ 0
-    none i = ap (λ l. getD l i 0) e ∙ all-zero 38946 i
+    none i = ap (λ l. getD l i 0) e ∙ zero-at 38946 i
 
 -- ---- row after row
 
@@ -84,7 +81,7 @@ module _ (m : ℕ) (l0 l1 l2 l3 l4 l5 l6 l7 l8 : List ℕ) (z : l0 ≡ replicate
       noHead = kept l5 l8 12 2048 (omega arith) (omega arith) after5 (r5 .1) a l;
       failure = kept l7 l8 14 2048 (omega arith) (omega arith) (r8 .0 .grown) (r7 .1) a l;
     };
-    none = λ i l. r8 .0 .rest i l ∙ r7 .0 .rest i l ∙ r6 .0 .rest i l ∙ r5 .0 .rest i l ∙ r4 .0 .rest i l ∙ r3 .0 .rest i l ∙ r2 .0 .rest i l ∙ r1 .0 .rest i l ∙ ap (λ x. getD x (36898 + i) 0) z ∙ all-zero 38946 (36898 + i);
+    none = λ i l. r8 .0 .rest i l ∙ r7 .0 .rest i l ∙ r6 .0 .rest i l ∙ r5 .0 .rest i l ∙ r4 .0 .rest i l ∙ r3 .0 .rest i l ∙ r2 .0 .rest i l ∙ r1 .0 .rest i l ∙ ap (λ x. getD x (36898 + i) 0) z ∙ zero-at 38946 (36898 + i);
   }
 
 -- ---- the state

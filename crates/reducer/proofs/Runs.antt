@@ -23,10 +23,10 @@ use Rattle.conditions.specs.Known.{stepOf}
 use Rattle.targets.specs.declared.Found.the-variants.{One}
 use Rattle.targets.specs.Searches.{foundOf}
 use Rattle.kinds.proofs.Numbers.{kind-number}
-use Rattle.reducer.specs.Reductions.{room, stepsOf, wordsOf}
+use Rattle.reductions.specs.Reductions.{room, stepsOf, wordsOf}
 use Rattle.openings.specs.Opened.{Taken}
 use Rattle.reducer.specs.Runs.{Begun, Reduced}
-use Rattle.reducer.proofs.Room.{room-measure}
+use Rattle.reductions.proofs.Room.{room-measure}
 
 -- what is left to do after s steps
 unfoldable pub rest : List ℕ → List ℕ → ℕ → List Step

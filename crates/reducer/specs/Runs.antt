@@ -10,7 +10,7 @@ use Rattle.rewriting.specs.Marked.{whole}
 use Rattle.table.specs.Places.{programOf}
 use Rattle.table.specs.View.{view, marksAfterAll, zeros}
 use Rattle.flags.specs.Flags.{flags, next, Rows, AllFlagged}
-use Rattle.reducer.specs.Reductions.{room, stepsOf, wordsOf}
+use Rattle.reductions.specs.Reductions.{room, stepsOf, wordsOf}
 use Rattle.openings.specs.Opened.{AtomFresh, PartnerFresh}
 
 -- Every target of kinds 1 and 2 is flagged, every key of the others is fresh, the reach is not known, and no clause is known to be gone.

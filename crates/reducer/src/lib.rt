@@ -6,19 +6,14 @@ ghost use lib.Seq.{sets};
 ghost use mathlib.Core.List.{_∷_, []};
 ghost use Rattle.table.specs.Questions.{Passed};
 ghost use Rattle.keys.specs.State.{State};
-ghost use Rattle.reducer.specs.Reductions.{room, Answered};
+ghost use Rattle.reductions.specs.Reductions.{room, Answered};
 ghost use Rattle.reducer.specs.Runs.{AllOpen, Begun, Reduced};
 use conditions::Step;
+use reductions::ReduceAnswer;
 use table::CallQuestion;
 use table::Checked;
 use table::Refusal;
 use targets::Found;
-
-// The answer of a reduction: the number of steps made.
-pub enum ReduceAnswer {
-    Accepted(usize),
-    Refused(Refusal),
-}
 
 // How many steps a reduction can have: the clauses plus all body literals.
 fn most_steps(words: &[u16]) -> usize

@@ -1,16 +1,14 @@
 -- The numbers that the reducer keeps: the kept clauses with an atom in their head; and "is a fact" by the literals left.
 use mathlib.Core.Path.{_≡_, refl}
-use mathlib.Core.Logic.{_↔_}
-use mathlib.Core.Bool.{Bool, not, _&&_, _||_, So, true, false, cond}
+use mathlib.Core.Bool.{Bool, not, _&&_, So, true, false, cond}
 use mathlib.Core.List.{List, [], _∷_}
 use Prim.Native.Nat.{ℕ, zero, suc, _+_, _<_}
 use native.Mathlib.Omega.{arith}
 use lib.ListN.{length, set}
-use Rattle.semantics.specs.Lists.{any, mem, count, bit}
+use Rattle.semantics.specs.Lists.{mem, count, bit}
 use Rattle.semantics.specs.Programs.{Clause}
-use Rattle.semantics.proofs.Tests.{bit-true, bit-false, or-iff, not-iff}
 use Rattle.rewriting.specs.Marked.{Entry, Marked, entry, left}
-use Rattle.rewriting.specs.Steps.{Step, Kind, tautology, contradiction, success, noHead, blocked, failure, loop, subsumed, inNoHead, applies, rewritten, effect}
+use Rattle.rewriting.specs.Steps.{Step, Kind, tautology, contradiction, success, noHead, blocked, failure, loop, subsumed, applies, rewritten, effect}
 use Rattle.rewriting.proofs.Left.{kept-lt}
 use Rattle.rewriting.specs.Kinds.{drops}
 use Rattle.rewriting.proofs.Effect.{target-kept}
@@ -19,22 +17,6 @@ use Rattle.rewriting.proofs.Effect.{target-kept}
 
 unfoldable pub heads : Marked → ℕ → ℕ
 heads P a = count (λ c. mem a (c .head)) (left P)
-
--- "in the head of no kept clause" by the count
-pub heads-none : (P : Marked) (a : ℕ) → So (inNoHead (left P) a) ↔ (heads P a ≡ 0)
-unfolding heads inNoHead
-heads-none P a = (λ h. to (left P) h, λ e. from (left P) e)
-  where
-    f : Clause → Bool
-    f c = mem a (c .head)
-
-    to : (cs : List Clause) → So (not (any f cs)) → count f cs ≡ 0
-    to [] h = refl
-    to (c ∷ cs) h = omega (arith, bit-false (f c) (λ y. not-iff _ .0 h (or-iff (f c) (any f cs) .1 (λ z. absurd (z y)))), to cs (not-iff (any f cs) .1 (λ y. not-iff _ .0 h (or-iff (f c) (any f cs) .1 (λ z. y)))))
-
-    from : (cs : List Clause) → count f cs ≡ 0 → So (not (any f cs))
-    from [] e = refl
-    from (c ∷ cs) e = not-iff (f c || any f cs) .1 (λ y. not-iff _ .0 (from cs (omega arith)) (or-iff (f c) (any f cs) .0 y (λ z. let b = bit-true (f c) z in omega arith)))
 
 -- one clause put for another
 count-left : (f : Clause → Bool) (P : Marked) (t : ℕ) (e : Entry) → t < length P

@@ -8,7 +8,7 @@ ghost use Rattle.rewriting.specs.Marked.{entry};
 ghost use Rattle.table.specs.View.{view};
 ghost use Rattle.parts.specs.Parts.{Ready};
 ghost use Rattle.conditions.specs.Known.{stepOf, Known};
-ghost use Rattle.rewriting.specs.Kinds.{asksHeads, drops};
+ghost use Rattle.rewriting.specs.Kinds.{drops};
 ghost use Rattle.steps.specs.Verdicts.{shapeQuestions, Shaped, Holding, Ready-for, Step-taken};
 ghost use Rattle.steps.specs.declared.Verdict.the-variants.{Fine};
 use conditions::Step;
@@ -96,18 +96,6 @@ fn shape(words: &[u16], marks: &[u8], start: &[u16], s: Step) -> Verdict
 
 // ---- what is known from step to step
 
-// Whether the kind asks for the kept heads.
-fn asks_heads(kind: u16) -> bool
-    requires { ⌜ (1 ≤ kind) × (kind ≤ 8) ⌝ }
-    ensures { λ r. ⌜ r ≡ asksHeads (kindOf kind) ⌝ }
-{
-    match kind {
-        4 => true,
-        6 => true,
-        _ => false,
-    }
-}
-
 // What the kind asks for is found anew, unless it is known.
 fn refresh(
     words: &[u16],
@@ -121,7 +109,7 @@ fn refresh(
     requires { ⌜ (Ready (now words) (now marks) (now start)) × (((getD (now words) 0 0 ≤ length (now heads)) × (getD (now words) 0 0 ≤ length (now reached))) × (((1 ≤ kind) × (kind ≤ 8)) × (Holding (now words) (now marks) (now heads) (now reached) memo))) ⌝ }
     ensures { λ r. ⌜ Ready-for kind (now (words .entry)) (now (marks .entry)) (now (heads .exit)) (now (reached .exit)) r ⌝ }
 {
-    if asks_heads(kind) {
+    if kinds::asks_heads(kind) {
         if memo.heads {
             return memo;
         }

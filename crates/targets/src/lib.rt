@@ -1,19 +1,18 @@
 // The search of one kind: its flagged targets in order, each with its atoms or partners, left at the first applicable step.
 ghost use mathlib.Core.Path.{_≡_};
-ghost use mathlib.Core.Bool.{So, _&&_};
-ghost use Prim.Native.Nat.{ℕ, _≤_, _<_};
+ghost use mathlib.Core.Bool.{_&&_};
+ghost use Prim.Native.Nat.{_≤_, _<_};
 ghost use lib.Dec.{eqb};
 ghost use lib.ListN.{length, getD};
 ghost use Rattle.rewriting.specs.Marked.{entry, left};
 ghost use Rattle.rewriting.specs.Steps.{kindOf};
 ghost use Rattle.table.specs.View.{view};
 ghost use Rattle.parts.specs.Parts.{Ready};
-ghost use mathlib.Core.Logic.{_≢_};
-ghost use Rattle.flags.specs.Flags.{flags, Inside};
+ghost use Rattle.flags.specs.Flags.{Inside};
 ghost use Rattle.rewriting.specs.Reducer.{firstTarget};
 ghost use Rattle.rewriting.proofs.Order.{asked};
 ghost use Rattle.kinds.specs.Kinds.{PartnerKind, AtomKind};
-ghost use Rattle.keys.specs.State.{Arrays, Gaps, Calm, Swept, Skipped, Lifted};
+ghost use Rattle.keys.specs.State.{Arrays, Calm, Swept};
 ghost use Rattle.targets.specs.Searches.{Walk, Partners, foundOf, stoppedAt};
 use conditions::Step;
 use parts::Bounds;
@@ -134,55 +133,6 @@ fn partners(words: &[u16], marks: &[u8], start: &[u16], may: &[u16], kind: u16, 
     flags::lesser(m, table::wide(may[flags::MOST + t]))
 }
 
-// The first clause from a number on that is kept, or the end.
-fn kept_from(words: &[u16], marks: &[u8], start: &[u16], from: usize, e: usize) -> usize
-    requires { ⌜ (Ready (now words) (now marks) (now start)) × (e ≤ getD (now words) 1 0) ⌝ }
-    ensures { λ r. ⌜ (r ≤ e) × ((j : ℕ) → from ≤ j → j < r → ¬ So (entry (view (now (words .entry)) (now (marks .entry))) j .kept)) ⌝ }
-{
-    for i in from..e {
-        if parts::kept(words, marks, start, i) {
-            return i;
-        }
-    }
-    e
-}
-
-// The same from clause q on, where the clauses that were passed before are not passed again.
-fn first_kept(
-    words: &[u16],
-    marks: &[u8],
-    start: &[u16],
-    may: &mut [u16],
-    q: usize,
-    e: usize,
-) -> usize
-    requires { ⌜ (Ready (now words) (now marks) (now start)) × ((e ≤ getD (now words) 1 0) × ((q < 2048) × ((length (now may) ≡ 38946) × Gaps (now words) (now marks) (now may)))) ⌝ }
-    ensures { λ r. ⌜ Skipped (now (words .entry)) (now (marks .entry)) (now (may .entry)) (now (may .exit)) q e r ⌝ }
-{
-    let from = flags::greater(q, table::wide(may[flags::NEXT + q]));
-    let r = kept_from(words, marks, start, from, e);
-    if r <= from {
-        return r;
-    }
-    may[flags::NEXT + q] = flags::narrow(r);
-    r
-}
-
-// The flag of a target goes up past clauses that are gone.
-fn lift(words: &[u16], marks: &[u8], start: &[u16], may: &mut [u16], kind: u16, t: usize)
-    requires { ⌜ (Ready (now words) (now marks) (now start)) × ((t < getD (now words) 1 0) × ((PartnerKind kind) × ((flags (now may) kind t ≢ 0) × Calm (now words) (now marks) (now may) kind))) ⌝ }
-    ensures { λ _. ⌜ Lifted (now (words .entry)) (now (marks .entry)) (now (may .entry)) (now (may .exit)) kind t ⌝ }
-{
-    let m = table::wide(words[1]);
-    let row = table::wide(kind);
-    let q = flags::flag_of(may, row, t) - 1;
-    if m <= q {
-        return;
-    }
-    let r = first_kept(words, marks, start, may, q, m);
-    may[row * 2048 + t] = flags::narrow(r + 1);
-}
-
 // The smallest step of a kind with a partner, in the same way; the target's atoms are stamped for the tests.
 // The flag of the target found goes up to the partner found: none before it makes a step.
 pub fn first_by_partner(
@@ -201,11 +151,15 @@ pub fn first_by_partner(
     let mut found = Found::Nothing;
     'search: for t in low..end {
         if may[base + t] != 0 {
-            lift(words, marks, start, may, kind, t);
-            let mut stamps = [0u8; 3072];
-            partners::stamp_clause(words, marks, start, t, &mut stamps);
+            gaps::lift(words, marks, start, may, kind, t);
             let e = partners(words, marks, start, may, kind, t);
             let from = table::wide(may[base + t]) - 1;
+            if e <= from {
+                may[base + t] = 0;
+                continue;
+            }
+            let mut stamps = [0u8; 3072];
+            partners::stamp_clause(words, marks, start, t, &mut stamps);
             for p in from..e {
                 if partners::partner_applies(words, marks, start, &stamps, kind, t, p) {
                     may[base + t] = flags::narrow(p + 1);

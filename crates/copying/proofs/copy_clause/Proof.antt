@@ -1,5 +1,5 @@
 -- The counts, then the words of all three parts, which stand side by side.
-use Rattle.copying.proofs.Words.{clause-room, clause-past, clause-stored}
+use Rattle.sizes.proofs.Words.{clause-room, clause-past, clause-stored}
 use Prim.Native.Nat.{_-_, _+_}
 use mathlib.Core.Path.{refl}
 use native.Mathlib.Omega.{arith}

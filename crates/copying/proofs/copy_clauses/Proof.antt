@@ -1,8 +1,8 @@
 -- Clause by clause. The invariant: the words to come, written from here on, give what all of them give from the start.
 use lib.Seq.{length-sets, sets}
 use Rattle.table.specs.View.{entryAt, entriesFrom, view}
-use Rattle.copying.specs.Parts.{entryWords}
-use Rattle.copying.proofs.Words.{copy-on, copy-end, size-on}
+use Rattle.sizes.specs.Parts.{entryWords}
+use Rattle.sizes.proofs.Words.{copy-on, copy-end, size-on}
 use Prim.Native.Nat.{_≤_, _-_, _+_}
 use mathlib.Core.Path.{_≡_, refl, sym, ap, _∙_}
 use native.Mathlib.Omega.{arith}
@@ -11,8 +11,8 @@ use Rattle.rewriting.specs.Marked.{left}
 use Rattle.table.specs.Encoding.{clausesWords}
 use Rattle.table.specs.Places.{startFrom, startOf}
 use Rattle.table.proofs.Encoding.{passed-limits}
-use Rattle.copying.specs.Leaves.{reduced}
-use Rattle.copying.proofs.Tables.{reduced-length, view-start}
+use Rattle.sizes.specs.Leaves.{reduced}
+use Rattle.sizes.proofs.Tables.{reduced-length, view-start}
 use Rattle.marks.proofs.Spans.{inside, start-next}
 use borrow.Author.Needs.{needs}
 use Rattle.copying.proofs.copy_clauses.Statement.{statement}

@@ -3,7 +3,7 @@ use Prim.Native.Nat.{_-_}
 use mathlib.Core.Path.{refl, ap}
 use native.Mathlib.Omega.{arith}
 use lib.ListN.{length}
-use Rattle.copying.proofs.Words.{entry-gone, entry-kept}
+use Rattle.sizes.proofs.Words.{entry-gone, entry-kept}
 use borrow.Author.Needs.{needs}
 use Rattle.copying.proofs.copy_entry.Statement.{statement}
 use Rattle.copying.proofs.copy_entry.Tie as tie

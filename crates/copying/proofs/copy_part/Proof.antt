@@ -7,7 +7,7 @@ use native.Mathlib.Nat.{add-zero}
 use lib.ListN.{length, length-set}
 use lib.Seq.{sets}
 use Rattle.table.specs.View.{part}
-use Rattle.copying.proofs.Words.{part-yes, part-no, part-end}
+use Rattle.sizes.proofs.Words.{part-yes, part-no, part-end}
 use borrow.Author.Needs.{needs}
 use Rattle.copying.proofs.copy_part.Statement.{statement}
 use Rattle.copying.proofs.copy_part.Tie as tie

@@ -6,7 +6,7 @@ use native.Mathlib.Omega.{arith}
 use lib.ListN.{length, length-set}
 use Rattle.table.specs.Encoding.{encode}
 use Rattle.table.proofs.Encoding.{passed-limits}
-use Rattle.copying.proofs.Tables.{reduced-length}
+use Rattle.sizes.proofs.Tables.{reduced-length}
 use borrow.Author.Needs.{needs}
 use Rattle.copying.proofs.write_reduced.Statement.{statement}
 use Rattle.copying.proofs.write_reduced.Tie as tie

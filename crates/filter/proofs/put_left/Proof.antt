@@ -1,6 +1,6 @@
 -- `filter::put_left` meets its contract. Assumes nothing.
 use native.Mathlib.Omega.{arith}
-use Rattle.copying.proofs.Limits.{left-within}
+use Rattle.sizes.proofs.Limits.{left-within}
 use Rattle.filter.proofs.Left.{left-inside, left-passed, left-short, left-puts}
 use borrow.Author.Needs.{needs}
 use Rattle.filter.proofs.put_left.Statement.{statement}

@@ -1,6 +1,4 @@
 -- `covered`: the flag, and for kind 3 one word more.
-use Prim.Native.Nat.{_+_}
-use mathlib.Core.Path.{_∙_}
 use mathlib.Core.Bool.{false≢true}
 use native.Mathlib.Omega.{arith}
 use borrow.Author.Tests.{not-false, ltb-true}

@@ -1,6 +1,5 @@
 -- `raise_most`: one word, no less than before.
 use Prim.Native.Nat.{_+_, _≤_}
-use mathlib.Core.Path.{_∙_}
 use mathlib.Core.Logic.{⊎-elim}
 use native.Mathlib.Omega.{arith}
 use Rattle.flags.specs.Flags.{most}

@@ -6,7 +6,6 @@ use borrow.Author.Tests.{not-false}
 use Rattle.rewriting.specs.Steps.{subsumed}
 use Rattle.keys.proofs.States.{few-clauses}
 use Rattle.spreads.proofs.Known.{partner-known}
-use borrow.Author.Needs.{needs}
 use Rattle.keys.proofs.is_subsumed.Statement.{statement}
 use Rattle.keys.proofs.is_subsumed.Tie as tie
 

@@ -1,15 +1,20 @@
--- `asks_heads`: kinds 4 and 6.
-use mathlib.Core.Path.{refl}
-use mathlib.Core.Logic.{inl, inr, ⊎-elim}
-use borrow.Author.Tests.{eq-eqb, eqb-true}
+-- `kinds::asks_heads` meets its contract, kind by kind.
+use mathlib.Core.Path.{_≡_, refl}
+use mathlib.Core.Bool.{false}
+use Rattle.rewriting.specs.Steps.{kindOf}
+use Rattle.rewriting.specs.Kinds.{asksHeads}
+use Rattle.kinds.proofs.Numbers.{by-number}
 use Rattle.kinds.proofs.asks_heads.Statement.{statement}
 use Rattle.kinds.proofs.asks_heads.Tie as tie
 
 returns : tie.Need-returns
-returns c = ((λ _. inl (c .if1 .taken)), λ _. refl)
+returns c = rw (c .match .keys1)
 
 returns-2 : tie.Need-returns-2
-returns-2 c = ((λ e. inr (eqb-true _ _ e)), λ k. ⊎-elim (λ e. absurd (c .if1 .left e)) (λ e. eq-eqb _ _ e) k)
+returns-2 c = rw (c .match .keys2)
+
+returns-3 : tie.Need-returns-3
+returns-3 c = by-number (λ k. false ≡ asksHeads (kindOf k)) (c .before .args .kind) (c .before .pre .0) (c .before .pre .1) (λ _. refl) (λ _. refl) (λ _. refl) (λ e. absurd (c .match .rest .0 .1 e)) (λ _. refl) (λ e. absurd (c .match .rest .1 e)) (λ _. refl) (λ _. refl)
 
 pub asks-heads-spec : {M : Type 1} → statement M
-asks-heads-spec = tie.close (tie.spec returns returns-2)
+asks-heads-spec = tie.close (tie.spec returns returns-2 returns-3)

@@ -1,7 +1,7 @@
 -- `has_twin`: kind 8, and the target's head within the partner's.
 use Prim.Native.Nat.{_-_}
 use mathlib.Core.Path.{sym, ap, _∙_}
-use mathlib.Core.Bool.{true, false≢true}
+use mathlib.Core.Bool.{false≢true}
 use native.Mathlib.Omega.{arith}
 use Rattle.rewriting.specs.Steps.{kindOf}
 use Rattle.semantics.specs.Lists.{within}

@@ -5,8 +5,8 @@ use native.Mathlib.Omega.{arith}
 use lib.ListN.{length}
 use Rattle.keys.specs.State.{State}
 use Rattle.search.proofs.Searches.{found-nothing}
-use Rattle.reducer.specs.Reductions.{room}
-use Rattle.reducer.proofs.Room.{room-few}
+use Rattle.reductions.specs.Reductions.{room}
+use Rattle.reductions.proofs.Room.{room-few}
 use Rattle.reducer.proofs.Runs.{Running, running-none, running-end, running-room, running-step, taken}
 use borrow.Author.Needs.{needs}
 use Rattle.reducer.proofs.run_steps.Statement.{statement}

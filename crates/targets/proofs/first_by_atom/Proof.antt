@@ -8,7 +8,8 @@ use Rattle.table.proofs.Encoding.{passed-limits}
 use Rattle.targets.specs.declared.Found.the-variants.{One, Nothing}
 use Rattle.keys.specs.State.{Swept}
 use Rattle.targets.specs.Searches.{Walk}
-use Rattle.targets.proofs.Walks.{walk-on, walk-hit, walk-end, swept-none, swept-clear, swept-all, swept-before, targets-end, targets-hit, stopped-there, stopped-end}
+use Rattle.targets.proofs.Walks.{walk-on, walk-hit, walk-end, targets-end, targets-hit, stopped-there, stopped-end}
+use Rattle.gaps.proofs.Sweeps.{swept-none, swept-clear, swept-all, swept-before}
 use Rattle.flags.specs.Flags.{Inside}
 use Rattle.flags.proofs.Flags.{inside-past, inside-clear}
 use borrow.Author.Needs.{needs}

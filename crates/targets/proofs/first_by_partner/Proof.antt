@@ -16,17 +16,18 @@ use Rattle.keys.specs.State.{Swept}
 use Rattle.targets.specs.Searches.{Partners}
 use Rattle.flags.specs.Flags.{flags, Inside}
 use Rattle.flags.proofs.Flags.{inside-past, inside-clear, inside-set}
-use Rattle.targets.proofs.Walks.{partners-none, partners-hit, swept-none, swept-clear, swept-all, swept-before, swept-later, calm-from, targets-end, targets-hit, stopped-there, stopped-end}
-use Rattle.targets.proofs.Gaps.{swept-then}
+use Rattle.targets.proofs.Walks.{partners-none, partners-hit, targets-end, targets-hit, stopped-there, stopped-end}
+use Rattle.gaps.proofs.Sweeps.{swept-none, swept-clear, swept-all, swept-before, swept-later, calm-from}
+use Rattle.gaps.proofs.Gaps.{swept-then}
 use borrow.Author.Needs.{needs}
 use Rattle.targets.proofs.first_by_partner.Statement.{statement}
 use Rattle.targets.proofs.first_by_partner.Tie as tie
 
 abbrev Inv-loop : tie.InvT-loop
-Inv-loop words marks start may₀ kind low end base found₀ t stamps e from p₀ may found p = (found ≡ Nothing) × (Partners words marks kind t e × (Stamps (entry (view words marks) t .clause) stamps × ((length stamps ≡ 3072) × ((may ≡ may₀) × ((q : ℕ) → q < p → applies (getD words 0 0) (view words marks) (step (kindOf kind) t q 0) ≡ false)))))
+Inv-loop words marks start may₀ kind low end base found₀ t e from stamps p₀ may found p = (found ≡ Nothing) × (Partners words marks kind t e × (Stamps (entry (view words marks) t .clause) stamps × ((length stamps ≡ 3072) × ((may ≡ may₀) × ((q : ℕ) → q < p → applies (getD words 0 0) (view words marks) (step (kindOf kind) t q 0) ≡ false)))))
 
 abbrev μ-loop : tie.MeasureT-loop
-μ-loop words marks start may₀ kind low end base found₀ t stamps e from p₀ may found p = e - p
+μ-loop words marks start may₀ kind low end base found₀ t e from stamps p₀ may found p = e - p
 
 abbrev Inv-search : tie.InvT-search
 Inv-search words marks start may₀ kind low end base found₀ t₀ may found t = (found ≡ Nothing) × ((base ≡ kind * 2048) × (Swept words marks may₀ may kind × Inside may kind t end))
@@ -60,38 +61,57 @@ lift-requires c κs =
     (c .before .before .before .before .before .before .before .before .before .before .pre .0, (few (c .before .before .before) .1, (c .before .before .before .before .before .before .before .before .before .before .pre .1 .1 .0, (f, inv .1 .1 .0 .calm))))
 
 stamp-clause-requires : tie.Need-stamp-clause-requires Inv-loop μ-loop Inv-search μ-search
-stamp-clause-requires c κs = (c .before .before .before .before .before .before .before .before .before .before .before .before .before .before .pre .0, (few (c .before .before .before .before .before .before .before) .1, refl))
+stamp-clause-requires c κs = (c .before .before .before .before .before .before .before .before .before .before .before .before .before .before .before .before .before .before .before .pre .0, (few (c .before .before .before .before .before .before .before .before .before .before .before .before) .1, refl))
 
 partners-requires : tie.Need-partners-requires Inv-loop μ-loop Inv-search μ-search
-partners-requires c κs = (c .before .before .before .before .before .before .before .before .before .before .before .before .before .before .before .before .before .pre .0, (few (c .before .before .before .before .before .before .before .before .before .before) .1, (c .before .before .before .before .before .before .before .before .before .before .before .before .before .before .before .before .before .pre .1 .1 .0, c .before .before .before .before .before .before .lift .ensures .swept .calm)))
+partners-requires c κs = (c .before .before .before .before .before .before .before .before .before .before .before .before .before .before .pre .0, (few (c .before .before .before .before .before .before .before) .1, (c .before .before .before .before .before .before .before .before .before .before .before .before .before .before .pre .1 .1 .0, c .before .before .before .lift .ensures .swept .calm)))
 
 add-wide : tie.Need-add-wide Inv-loop μ-loop Inv-search μ-search
-add-wide c = omega (arith, c .before .before .before .before .before .before .before .before .before .before .before .before .search .inv .1 .0, few (c .before .before .before .before .before .before .before .before .before .before .before), c .before .before .before .before .before .before .before .before .before .before .before .before .before .before .before .before .before .before .pre .1 .1 .0 .high)
+add-wide c = omega (arith, c .before .before .before .before .before .before .before .before .before .search .inv .1 .0, few (c .before .before .before .before .before .before .before .before), c .before .before .before .before .before .before .before .before .before .before .before .before .before .before .before .pre .1 .1 .0 .high)
 
 mul-wide : tie.Need-mul-wide Inv-loop μ-loop Inv-search μ-search
-mul-wide c = omega (arith, c .before .before .before .before .before .before .before .before .before .before .before .before .search .inv .1 .0, few (c .before .before .before .before .before .before .before .before .before .before .before), c .before .before .before .before .before .before .before .before .before .before .before .before .before .before .before .before .before .before .pre .1 .1 .0 .high)
+mul-wide c = omega (arith, c .before .before .before .before .before .before .before .before .before .search .inv .1 .0, few (c .before .before .before .before .before .before .before .before), c .before .before .before .before .before .before .before .before .before .before .before .before .before .before .before .pre .1 .1 .0 .high)
 
 slice-read-wide : tie.Need-slice-read-wide Inv-loop μ-loop Inv-search μ-search
-slice-read-wide c = omega (arith, c .before .before .before .before .before .before .before .before .before .before .before .before .before .search .inv .1 .0, c .before .before .before .before .before .before .before .before .lift .ensures .swept .calm .rows .long, few (c .before .before .before .before .before .before .before .before .before .before .before .before), c .before .before .before .before .before .before .before .before .before .before .before .before .before .before .before .before .before .before .before .pre .1 .1 .0 .high)
+slice-read-wide c = omega (arith, c .before .before .before .before .before .before .before .before .before .before .search .inv .1 .0, c .before .before .before .before .before .lift .ensures .swept .calm .rows .long, few (c .before .before .before .before .before .before .before .before .before), c .before .before .before .before .before .before .before .before .before .before .before .before .before .before .before .before .pre .1 .1 .0 .high)
 
 sub-from : tie.Need-sub-from Inv-loop μ-loop Inv-search μ-search
 sub-from c =
-    let e : c .wide2 .result ≡ flags (c .before .before .before .before .before .before .before .before .before .lift .last .1 .1 .1 .0) (c .before .before .before .before .before .before .before .before .before .before .before .before .before .before .before .before .before .before .before .before .args .kind) (c .before .before .before .before .before .before .before .before .before .before .before .before .before .before .search .t) = c .wide2 .ensures .0 ∙ ap (λ b. getD (c .before .before .before .before .before .before .before .before .before .lift .last .1 .1 .1 .0) (b + c .before .before .before .before .before .before .before .before .before .before .before .before .before .before .search .t) 0) (c .before .before .before .before .before .before .before .before .before .before .before .before .before .before .search .inv .1 .0) in
-    let z = c .before .before .before .before .before .before .before .before .before .lift .ensures .flagged in omega (arith, e)
+    let e : c .wide2 .result ≡ flags (c .before .before .before .before .before .before .lift .last .1 .1 .1 .0) (c .before .before .before .before .before .before .before .before .before .before .before .before .before .before .before .before .before .args .kind) (c .before .before .before .before .before .before .before .before .before .before .before .search .t) = c .wide2 .ensures .0 ∙ ap (λ b. getD (c .before .before .before .before .before .before .lift .last .1 .1 .1 .0) (b + c .before .before .before .before .before .before .before .before .before .before .before .search .t) 0) (c .before .before .before .before .before .before .before .before .before .before .before .search .inv .1 .0) in
+    let z = c .before .before .before .before .before .before .lift .ensures .flagged in omega (arith, e)
+
+add-may : tie.Need-add-may Inv-loop μ-loop Inv-search μ-search
+add-may c = omega (arith, c .before .before .before .before .before .before .before .before .before .before .before .before .search .inv .1 .0, few (c .before .before .before .before .before .before .before .before .before .before .before), c .before .before .before .before .before .before .before .before .before .before .before .before .before .before .before .before .before .before .pre .1 .1 .0 .high)
+
+mul-may : tie.Need-mul-may Inv-loop μ-loop Inv-search μ-search
+mul-may c = omega (arith, c .before .before .before .before .before .before .before .before .before .before .before .before .search .inv .1 .0, few (c .before .before .before .before .before .before .before .before .before .before .before), c .before .before .before .before .before .before .before .before .before .before .before .before .before .before .before .before .before .before .pre .1 .1 .0 .high)
+
+slice-write-may : tie.Need-slice-write-may Inv-loop μ-loop Inv-search μ-search
+slice-write-may c = omega (arith, c .before .before .before .before .before .before .before .before .before .before .before .before .search .inv .1 .0, c .before .before .before .before .before .before .before .lift .ensures .swept .calm .rows .long, few (c .before .before .before .before .before .before .before .before .before .before .before), c .before .before .before .before .before .before .before .before .before .before .before .before .before .before .before .before .before .before .pre .1 .1 .0 .high)
+
+search-again : tie.Need-search-again Inv-loop μ-loop Inv-search μ-search
+search-again c =
+    let inv = c .before .before .before .before .before .before .before .before .before .before .before .before .search .inv in
+    let k = c .before .before .before .before .before .before .before .before .before .before .before .before .before .before .before .before .before .before .pre .1 .1 .0 in
+    let l = few (c .before .before .before .before .before .before .before .before .before .before .before) .0 in
+    let z = c .before .before .before .before .before .before .before .lift .ensures in
+    let d : c .before .wide2 .result ≡ flags (c .before .before .before .before .before .before .before .lift .last .1 .1 .1 .0) (c .before .before .before .before .before .before .before .before .before .before .before .before .before .before .before .before .before .before .args .kind) (c .before .before .before .before .before .before .before .before .before .before .before .before .search .t) = c .before .wide2 .ensures .0 ∙ ap (λ b. getD (c .before .before .before .before .before .before .before .lift .last .1 .1 .1 .0) (b + c .before .before .before .before .before .before .before .before .before .before .before .before .search .t) 0) (inv .1 .0) in
+    let e = partners-none (c .before .before .before .before .before .before .before .before .before .before .before .before .before .before .before .before .before .before .args .words .now) (c .before .before .before .before .before .before .before .before .before .before .before .before .before .before .before .before .before .before .args .marks .now) (c .before .before .before .before .before .before .before .before .before .before .before .before .before .before .before .before .before .before .args .kind) _ _ (c .before .before .before .partners .ensures) k (λ q h. calm-from _ _ _ _ (z .swept .calm) k (c .before .before .before .before .before .before .before .before .before .before .before .before .search .t) q (omega (arith, d, c .if2 .taken))) in
+    (inv .0, (inv .1 .0, rw (inv .1 .0) (swept-clear _ _ _ _ _ (swept-then _ _ _ _ _ _ (inv .1 .1 .0) (z .swept)) (let h = k .high in omega arith) _ l e, inside-clear (c .before .before .before .before .before .before .before .lift .last .1 .1 .1 .0) (c .before .before .before .before .before .before .before .before .before .before .before .before .before .before .before .before .before .before .args .kind) (c .before .before .before .before .before .before .before .before .before .before .before .before .search .t) _ (z .inside _ _ (inv .1 .1 .1)) (omega (arith, l, z .swept .calm .rows .long, k .high)))))
 
 loop-holds : tie.Need-loop-holds Inv-loop μ-loop Inv-search μ-search
 loop-holds c =
-    let inv = c .before .before .before .before .before .before .before .before .before .before .before .before .before .before .search .inv in
-    let k = c .before .before .before .before .before .before .before .before .before .before .before .before .before .before .before .before .before .before .before .before .pre .1 .1 .0 in
-    let e : c .wide2 .result ≡ flags (c .before .before .before .before .before .before .before .before .before .lift .last .1 .1 .1 .0) (c .before .before .before .before .before .before .before .before .before .before .before .before .before .before .before .before .before .before .before .before .args .kind) (c .before .before .before .before .before .before .before .before .before .before .before .before .before .before .search .t) = c .wide2 .ensures .0 ∙ ap (λ b. getD (c .before .before .before .before .before .before .before .before .before .lift .last .1 .1 .1 .0) (b + c .before .before .before .before .before .before .before .before .before .before .before .before .before .before .search .t) 0) (inv .1 .0) in (
+    let inv = c .before .before .before .before .before .before .before .before .before .before .before .before .before .before .before .search .inv in
+    let k = c .before .before .before .before .before .before .before .before .before .before .before .before .before .before .before .before .before .before .before .before .before .pre .1 .1 .0 in
+    let e : c .before .before .before .before .wide2 .result ≡ flags (c .before .before .before .before .before .before .before .before .before .before .lift .last .1 .1 .1 .0) (c .before .before .before .before .before .before .before .before .before .before .before .before .before .before .before .before .before .before .before .before .before .args .kind) (c .before .before .before .before .before .before .before .before .before .before .before .before .before .before .before .search .t) = c .before .before .before .before .wide2 .ensures .0 ∙ ap (λ b. getD (c .before .before .before .before .before .before .before .before .before .before .lift .last .1 .1 .1 .0) (b + c .before .before .before .before .before .before .before .before .before .before .before .before .before .before .before .search .t) 0) (inv .1 .0) in (
       inv .0,
       (
-        c .before .before .partners .ensures,
+        c .before .before .before .before .before .before .partners .ensures,
         (
-          c .before .before .before .before .before .stamp-clause .ensures .0,
+          c .before .stamp-clause .ensures .0,
           (
-            c .before .before .before .before .before .stamp-clause .ensures .1,
-            (refl, λ q l. calm-from _ _ _ _ (c .before .before .before .before .before .before .before .before .before .lift .ensures .swept .calm) k (c .before .before .before .before .before .before .before .before .before .before .before .before .before .before .search .t) q (omega (arith, e))),
+            c .before .stamp-clause .ensures .1,
+            (refl, λ q l. calm-from _ _ _ _ (c .before .before .before .before .before .before .before .before .before .before .lift .ensures .swept .calm) k (c .before .before .before .before .before .before .before .before .before .before .before .before .before .before .before .search .t) q (omega (arith, e))),
           ),
         ),
       ),
@@ -100,28 +120,28 @@ loop-holds c =
 partner-applies-requires : tie.Need-partner-applies-requires Inv-loop μ-loop Inv-search μ-search
 partner-applies-requires c κs =
     let i = c .before .before .loop .inv in
-    (c .before .before .before .before .before .before .before .before .before .before .before .before .before .before .before .before .before .before .before .before .before .before .before .pre .0, (omega (arith, c .before .loop-test .taken, i .1 .0 .most), (i .1 .1 .1 .0, (i .1 .1 .0, (c .before .before .before .before .before .before .before .before .before .before .before .before .before .before .before .before .before .before .before .before .before .before .before .pre .1 .1 .0, i .1 .0 .kept (omega (arith, c .before .loop-test .taken)))))))
+    (c .before .before .before .before .before .before .before .before .before .before .before .before .before .before .before .before .before .before .before .before .before .before .before .before .pre .0, (omega (arith, c .before .loop-test .taken, i .1 .0 .most), (i .1 .1 .1 .0, (i .1 .1 .0, (c .before .before .before .before .before .before .before .before .before .before .before .before .before .before .before .before .before .before .before .before .before .before .before .before .pre .1 .1 .0, i .1 .0 .kept (omega (arith, c .before .loop-test .taken)))))))
 
 add-narrow : tie.Need-add-narrow Inv-loop μ-loop Inv-search μ-search
-add-narrow c = omega (arith, c .before .before .before .loop-test .taken, c .before .before .before .before .loop .inv .1 .0 .most, passed-limits _ (c .before .before .before .before .before .before .before .before .before .before .before .before .before .before .before .before .before .before .before .before .before .before .before .before .before .pre .0 .placed .passed) .fewClauses)
+add-narrow c = omega (arith, c .before .before .before .loop-test .taken, c .before .before .before .before .loop .inv .1 .0 .most, passed-limits _ (c .before .before .before .before .before .before .before .before .before .before .before .before .before .before .before .before .before .before .before .before .before .before .before .before .before .before .pre .0 .placed .passed) .fewClauses)
 
 narrow-requires : tie.Need-narrow-requires Inv-loop μ-loop Inv-search μ-search
-narrow-requires c κs = omega (arith, c .before .before .before .loop-test .taken, c .before .before .before .before .loop .inv .1 .0 .most, passed-limits _ (c .before .before .before .before .before .before .before .before .before .before .before .before .before .before .before .before .before .before .before .before .before .before .before .before .before .pre .0 .placed .passed) .fewClauses)
+narrow-requires c κs = omega (arith, c .before .before .before .loop-test .taken, c .before .before .before .before .loop .inv .1 .0 .most, passed-limits _ (c .before .before .before .before .before .before .before .before .before .before .before .before .before .before .before .before .before .before .before .before .before .before .before .before .before .before .pre .0 .placed .passed) .fewClauses)
 
-add-may : tie.Need-add-may Inv-loop μ-loop Inv-search μ-search
-add-may c = omega (arith, c .before .before .before .before .before .before .before .before .before .before .before .before .before .before .before .before .before .before .before .before .search .inv .1 .0, few (c .before .before .before .before .before .before .before .before .before .before .before .before .before .before .before .before .before .before .before), c .before .before .before .before .before .before .before .before .before .before .before .before .before .before .before .before .before .before .before .before .before .before .before .before .before .before .pre .1 .1 .0 .high)
+add-may-2 : tie.Need-add-may-2 Inv-loop μ-loop Inv-search μ-search
+add-may-2 c = omega (arith, c .before .before .before .before .before .before .before .before .before .before .before .before .before .before .before .before .before .before .before .before .before .search .inv .1 .0, few (c .before .before .before .before .before .before .before .before .before .before .before .before .before .before .before .before .before .before .before .before), c .before .before .before .before .before .before .before .before .before .before .before .before .before .before .before .before .before .before .before .before .before .before .before .before .before .before .before .pre .1 .1 .0 .high)
 
-mul-may : tie.Need-mul-may Inv-loop μ-loop Inv-search μ-search
-mul-may c = omega (arith, c .before .before .before .before .before .before .before .before .before .before .before .before .before .before .before .before .before .before .before .before .search .inv .1 .0, few (c .before .before .before .before .before .before .before .before .before .before .before .before .before .before .before .before .before .before .before), c .before .before .before .before .before .before .before .before .before .before .before .before .before .before .before .before .before .before .before .before .before .before .before .before .before .before .pre .1 .1 .0 .high)
+mul-may-2 : tie.Need-mul-may-2 Inv-loop μ-loop Inv-search μ-search
+mul-may-2 c = omega (arith, c .before .before .before .before .before .before .before .before .before .before .before .before .before .before .before .before .before .before .before .before .before .search .inv .1 .0, few (c .before .before .before .before .before .before .before .before .before .before .before .before .before .before .before .before .before .before .before .before), c .before .before .before .before .before .before .before .before .before .before .before .before .before .before .before .before .before .before .before .before .before .before .before .before .before .before .before .pre .1 .1 .0 .high)
 
-slice-write-may : tie.Need-slice-write-may Inv-loop μ-loop Inv-search μ-search
-slice-write-may c = omega (arith, ap length (c .before .before .before .before .before .loop .inv .1 .1 .1 .1 .0), c .before .before .before .before .before .before .before .before .before .before .before .before .before .before .before .before .before .before .before .before .search .inv .1 .0, c .before .before .before .before .before .before .before .before .before .before .before .before .before .before .before .lift .ensures .swept .calm .rows .long, few (c .before .before .before .before .before .before .before .before .before .before .before .before .before .before .before .before .before .before .before), c .before .before .before .before .before .before .before .before .before .before .before .before .before .before .before .before .before .before .before .before .before .before .before .before .before .before .pre .1 .1 .0 .high)
+slice-write-may-2 : tie.Need-slice-write-may-2 Inv-loop μ-loop Inv-search μ-search
+slice-write-may-2 c = omega (arith, ap length (c .before .before .before .before .before .loop .inv .1 .1 .1 .1 .0), c .before .before .before .before .before .before .before .before .before .before .before .before .before .before .before .before .before .before .before .before .before .search .inv .1 .0, c .before .before .before .before .before .before .before .before .before .before .before .before .before .before .before .before .lift .ensures .swept .calm .rows .long, few (c .before .before .before .before .before .before .before .before .before .before .before .before .before .before .before .before .before .before .before .before), c .before .before .before .before .before .before .before .before .before .before .before .before .before .before .before .before .before .before .before .before .before .before .before .before .before .before .before .pre .1 .1 .0 .high)
 
 narrow-requires-2 : tie.Need-narrow-requires-2 Inv-loop μ-loop Inv-search μ-search
-narrow-requires-2 c κs = omega (arith, few (c .before .before .before .before .before .before .before .before .before .before .before .before .before .before .before .before .before .before .before))
+narrow-requires-2 c κs = omega (arith, few (c .before .before .before .before .before .before .before .before .before .before .before .before .before .before .before .before .before .before .before .before))
 
 narrow-requires-3 : tie.Need-narrow-requires-3 Inv-loop μ-loop Inv-search μ-search
-narrow-requires-3 c κs = omega (arith, c .before .before .before .before .before .loop-test .taken, c .before .before .before .before .before .before .loop .inv .1 .0 .most, passed-limits _ (c .before .before .before .before .before .before .before .before .before .before .before .before .before .before .before .before .before .before .before .before .before .before .before .before .before .before .before .pre .0 .placed .passed) .fewClauses)
+narrow-requires-3 c κs = omega (arith, c .before .before .before .before .before .loop-test .taken, c .before .before .before .before .before .before .loop .inv .1 .0 .most, passed-limits _ (c .before .before .before .before .before .before .before .before .before .before .before .before .before .before .before .before .before .before .before .before .before .before .before .before .before .before .before .before .pre .0 .placed .passed) .fewClauses)
 
 loop-less : tie.Need-loop-less Inv-loop μ-loop Inv-search μ-search
 loop-less c = omega (arith, c .before .before .before .loop-test .taken)
@@ -129,29 +149,29 @@ loop-less c = omega (arith, c .before .before .before .loop-test .taken)
 loop-again : tie.Need-loop-again Inv-loop μ-loop Inv-search μ-search
 loop-again c =
     let i = c .before .before .before .before .loop .inv in
-    (i .0, (i .1 .0, (i .1 .1 .0, (i .1 .1 .1 .0, (i .1 .1 .1 .1 .0, below-more _ _ (i .1 .1 .1 .1 .1) (sym (c .before .partner-applies .ensures) ∙ c .if2 .left))))))
+    (i .0, (i .1 .0, (i .1 .1 .0, (i .1 .1 .1 .0, (i .1 .1 .1 .1 .0, below-more _ _ (i .1 .1 .1 .1 .1) (sym (c .before .partner-applies .ensures) ∙ c .if3 .left))))))
 
-add-may-2 : tie.Need-add-may-2 Inv-loop μ-loop Inv-search μ-search
-add-may-2 c = omega (arith, c .before .before .before .before .before .before .before .before .before .before .before .before .before .before .before .before .search .inv .1 .0, few (c .before .before .before .before .before .before .before .before .before .before .before .before .before .before .before), c .before .before .before .before .before .before .before .before .before .before .before .before .before .before .before .before .before .before .before .before .before .before .pre .1 .1 .0 .high)
+add-may-3 : tie.Need-add-may-3 Inv-loop μ-loop Inv-search μ-search
+add-may-3 c = omega (arith, c .before .before .before .before .before .before .before .before .before .before .before .before .before .before .before .before .before .search .inv .1 .0, few (c .before .before .before .before .before .before .before .before .before .before .before .before .before .before .before .before), c .before .before .before .before .before .before .before .before .before .before .before .before .before .before .before .before .before .before .before .before .before .before .before .pre .1 .1 .0 .high)
 
-mul-may-2 : tie.Need-mul-may-2 Inv-loop μ-loop Inv-search μ-search
-mul-may-2 c = omega (arith, c .before .before .before .before .before .before .before .before .before .before .before .before .before .before .before .before .search .inv .1 .0, few (c .before .before .before .before .before .before .before .before .before .before .before .before .before .before .before), c .before .before .before .before .before .before .before .before .before .before .before .before .before .before .before .before .before .before .before .before .before .before .pre .1 .1 .0 .high)
+mul-may-3 : tie.Need-mul-may-3 Inv-loop μ-loop Inv-search μ-search
+mul-may-3 c = omega (arith, c .before .before .before .before .before .before .before .before .before .before .before .before .before .before .before .before .before .search .inv .1 .0, few (c .before .before .before .before .before .before .before .before .before .before .before .before .before .before .before .before), c .before .before .before .before .before .before .before .before .before .before .before .before .before .before .before .before .before .before .before .before .before .before .before .pre .1 .1 .0 .high)
 
-slice-write-may-2 : tie.Need-slice-write-may-2 Inv-loop μ-loop Inv-search μ-search
-slice-write-may-2 c = omega (arith, ap length (c .before .loop .inv .1 .1 .1 .1 .0), c .before .before .before .before .before .before .before .before .before .before .before .before .before .before .before .before .search .inv .1 .0, c .before .before .before .before .before .before .before .before .before .before .before .lift .ensures .swept .calm .rows .long, few (c .before .before .before .before .before .before .before .before .before .before .before .before .before .before .before), c .before .before .before .before .before .before .before .before .before .before .before .before .before .before .before .before .before .before .before .before .before .before .pre .1 .1 .0 .high)
+slice-write-may-3 : tie.Need-slice-write-may-3 Inv-loop μ-loop Inv-search μ-search
+slice-write-may-3 c = omega (arith, ap length (c .before .loop .inv .1 .1 .1 .1 .0), c .before .before .before .before .before .before .before .before .before .before .before .before .before .before .before .before .before .search .inv .1 .0, c .before .before .before .before .before .before .before .before .before .before .before .before .lift .ensures .swept .calm .rows .long, few (c .before .before .before .before .before .before .before .before .before .before .before .before .before .before .before .before), c .before .before .before .before .before .before .before .before .before .before .before .before .before .before .before .before .before .before .before .before .before .before .before .pre .1 .1 .0 .high)
 
-search-again : tie.Need-search-again Inv-loop μ-loop Inv-search μ-search
-search-again c =
+search-again-2 : tie.Need-search-again-2 Inv-loop μ-loop Inv-search μ-search
+search-again-2 c =
     let inv = c .before .before .before .search .inv in
     let l = few (c .before .before) .0 in
     let s = inv .1 .1 .0 in
     let k = c .before .before .before .before .before .before .before .before .before .pre .1 .1 .0 .high in
     ⊎-elim
     (λ w.
-    let i = w .12 .inv in
+    let i = w .13 .inv in
     let z = w .2 .ensures in
-    let e = partners-none (c .before .before .before .before .before .before .before .before .before .args .words .now) (c .before .before .before .before .before .before .before .before .before .args .marks .now) (c .before .before .before .before .before .before .before .before .before .args .kind) _ _ (i .1 .0) (c .before .before .before .before .before .before .before .before .before .pre .1 .1 .0) (λ q k. i .1 .1 .1 .1 .1 q (omega (arith, w .13 .left))) in
-    (w .15 ∙ i .0, (inv .1 .0, rw (w .14, i .1 .1 .1 .1 .0, inv .1 .0) (swept-clear _ _ _ _ _ (swept-then _ _ _ _ _ _ s (z .swept)) (omega arith) _ l e, inside-clear (w .2 .last .1 .1 .1 .0) (c .before .before .before .before .before .before .before .before .before .args .kind) (c .before .before .before .search .t) _ (z .inside _ _ (inv .1 .1 .1)) (omega (arith, l, z .swept .calm .rows .long, k))))))
+    let e = partners-none (c .before .before .before .before .before .before .before .before .before .args .words .now) (c .before .before .before .before .before .before .before .before .before .args .marks .now) (c .before .before .before .before .before .before .before .before .before .args .kind) _ _ (i .1 .0) (c .before .before .before .before .before .before .before .before .before .pre .1 .1 .0) (λ q k. i .1 .1 .1 .1 .1 q (omega (arith, w .14 .left))) in
+    (w .16 ∙ i .0, (inv .1 .0, rw (w .15, i .1 .1 .1 .1 .0, inv .1 .0) (swept-clear _ _ _ _ _ (swept-then _ _ _ _ _ _ s (z .swept)) (omega arith) _ l e, inside-clear (w .2 .last .1 .1 .1 .0) (c .before .before .before .before .before .before .before .before .before .args .kind) (c .before .before .before .search .t) _ (z .inside _ _ (inv .1 .1 .1)) (omega (arith, l, z .swept .calm .rows .long, k))))))
     (λ w. (w .2 ∙ inv .0, (inv .1 .0, rw (w .1) (s, inside-past (c .before .before .before .search .may) (c .before .before .before .before .before .before .before .before .before .args .kind) (c .before .before .before .search .t) _ (inv .1 .1 .1) (rw (inv .1 .0) at (w .0 .left))))))
     (c .if1 .came)
 
@@ -165,22 +185,22 @@ returns c =
     (inv .0 ∙ targets-end (c .before .before .before .before .before .before .before .args .words .now) (c .before .before .before .before .before .before .before .args .marks .now) (c .before .before .before .before .before .before .before .args .kind) (swept-all _ _ _ _ _ (inv .1 .1 .0) _ _ (inv .1 .1 .1) l (c .search-test .left)), (inv .1 .1 .0, stopped-end (c .before .search .may) (c .before .before .before .before .before .before .before .args .kind) _ _ (inv .1 .1 .1) _ (inv .0) (c .search-test .left)))
 
 same-length-2 : tie.Need-same-length-2 Inv-loop μ-loop Inv-search μ-search
-same-length-2 c = simp length-set (ap length (c .before .before .before .before .before .before .before .before .loop .inv .1 .1 .1 .1 .0) ∙ c .before .before .before .before .before .before .before .before .before .before .before .before .before .before .before .before .before .before .lift .ensures .swept .calm .rows .long ∙ sym (c .before .before .before .before .before .before .before .before .before .before .before .before .before .before .before .before .before .before .before .before .before .before .before .before .before .before .before .before .before .pre .1 .1 .1 .0 .rows .long))
+same-length-2 c = simp length-set (ap length (c .before .before .before .before .before .before .before .before .loop .inv .1 .1 .1 .1 .0) ∙ c .before .before .before .before .before .before .before .before .before .before .before .before .before .before .before .before .before .before .before .lift .ensures .swept .calm .rows .long ∙ sym (c .before .before .before .before .before .before .before .before .before .before .before .before .before .before .before .before .before .before .before .before .before .before .before .before .before .before .before .before .before .before .pre .1 .1 .1 .0 .rows .long))
 
 returns-2 : tie.Need-returns-2 Inv-loop μ-loop Inv-search μ-search
 returns-2 c =
-    let k = c .before .before .before .before .before .before .before .before .before .before .before .before .before .before .before .before .before .before .before .before .before .before .before .before .before .before .before .before .before .pre .1 .1 .0 in
+    let k = c .before .before .before .before .before .before .before .before .before .before .before .before .before .before .before .before .before .before .before .before .before .before .before .before .before .before .before .before .before .before .pre .1 .1 .0 in
     let i = c .before .before .before .before .before .before .before .before .loop .inv in
-    let inv = c .before .before .before .before .before .before .before .before .before .before .before .before .before .before .before .before .before .before .before .before .before .before .before .search .inv in
-    let l = passed-limits _ (c .before .before .before .before .before .before .before .before .before .before .before .before .before .before .before .before .before .before .before .before .before .before .before .before .before .before .before .before .before .pre .0 .placed .passed) .fewClauses in
-    let f = c .before .before .before .before .before .before .before .before .before .before .before .before .before .before .before .before .before .before .lift .ensures .flagged in
-    let b = swept-before _ _ _ _ _ (inv .1 .1 .0) (c .before .before .before .before .before .before .before .before .before .before .before .before .before .before .before .before .before .before .before .before .before .before .before .search .t) _ (inv .1 .1 .1) l (omega (arith, c .before .before .before .before .before .before .before .before .before .before .before .before .before .before .before .before .before .before .before .before .before .before .search-test .taken, c .before .before .before .before .before .before .before .before .before .before .before .before .before .before .before .before .before .before .before .before .before .before .before .before .before .before .before .before .before .pre .1 .0)) in (
-      ap One (c .new .ensures) ∙ rw (c .before .before .narrow2 .ensures, c .before .narrow3 .ensures) (targets-hit (c .before .before .before .before .before .before .before .before .before .before .before .before .before .before .before .before .before .before .before .before .before .before .before .before .before .before .before .before .before .args .words .now) (c .before .before .before .before .before .before .before .before .before .before .before .before .before .before .before .before .before .before .before .before .before .before .before .before .before .before .before .before .before .args .marks .now) (c .before .before .before .before .before .before .before .before .before .before .before .before .before .before .before .before .before .before .before .before .before .before .before .before .before .before .before .before .before .args .kind) (k .low) (k .high) (c .before .before .before .before .before .before .before .before .before .before .before .before .before .before .before .before .before .before .before .before .before .before .before .search .t) _ _ (omega (arith, c .before .before .before .before .before .before .before .before .before .before .before .before .before .before .before .before .before .before .before .before .before .before .search-test .taken, c .before .before .before .before .before .before .before .before .before .before .before .before .before .before .before .before .before .before .before .before .before .before .before .before .before .before .before .before .before .pre .1 .0)) b
-          (partners-hit _ _ _ _ _ (i .1 .0) k _ (c .before .before .before .before .before .before .before .loop-test .taken) (i .1 .1 .1 .1 .1) (sym (c .before .before .before .before .before .partner-applies .ensures) ∙ c .before .before .before .before .if2 .taken))),
-      rw (c .before .before .before .narrow .ensures, inv .1 .0, i .1 .1 .1 .1 .0) (swept-later _ _ _ _ _ (swept-then _ _ _ _ _ _ (inv .1 .1 .0) (c .before .before .before .before .before .before .before .before .before .before .before .before .before .before .before .before .before .before .lift .ensures .swept)) k (c .before .before .before .before .before .before .before .before .before .before .before .before .before .before .before .before .before .before .before .before .before .before .before .search .t) (c .before .before .before .before .before .before .before .before .loop .p) (few (c .before .before .before .before .before .before .before .before .before .before .before .before .before .before .before .before .before .before .before .before .before .before) .0) f (i .1 .1 .1 .1 .1), stopped-there (set (c .before .before .before .before .before .before .before .before .before .before .before .before .before .before .before .before .before .before .lift .last .1 .1 .1 .0) (c .before .before .before .before .before .before .before .before .before .before .before .before .before .before .before .before .before .before .before .before .before .before .before .before .before .before .before .before .before .args .kind * 2048 + c .before .before .before .before .before .before .before .before .before .before .before .before .before .before .before .before .before .before .before .before .before .before .before .search .t) (c .before .before .before .before .before .before .before .before .loop .p + 1)) (c .before .before .before .before .before .before .before .before .before .before .before .before .before .before .before .before .before .before .before .before .before .before .before .before .before .before .before .before .before .args .kind) (c .before .before .before .before .before .before .before .before .before .before .before .before .before .before .before .before .before .before .before .before .before .before .before .search .t) _ (inside-set (c .before .before .before .before .before .before .before .before .before .before .before .before .before .before .before .before .before .before .lift .last .1 .1 .1 .0) (c .before .before .before .before .before .before .before .before .before .before .before .before .before .before .before .before .before .before .before .before .before .before .before .before .before .before .before .before .before .args .kind) (c .before .before .before .before .before .before .before .before .before .before .before .before .before .before .before .before .before .before .before .before .before .before .before .search .t) (c .before .before .before .before .before .before .before .before .loop .p + 1) (omega (arith, k .high)) (few (c .before .before .before .before .before .before .before .before .before .before .before .before .before .before .before .before .before .before .before .before .before .before) .0) (λ e. absurd (f e)) _ _ (c .before .before .before .before .before .before .before .before .before .before .before .before .before .before .before .before .before .before .lift .ensures .inside _ _ (inv .1 .1 .1))) _ _ refl (ap (λ x. x .target) (c .new .ensures) ∙ c .before .before .narrow2 .ensures)),
+    let inv = c .before .before .before .before .before .before .before .before .before .before .before .before .before .before .before .before .before .before .before .before .before .before .before .before .search .inv in
+    let l = passed-limits _ (c .before .before .before .before .before .before .before .before .before .before .before .before .before .before .before .before .before .before .before .before .before .before .before .before .before .before .before .before .before .before .pre .0 .placed .passed) .fewClauses in
+    let f = c .before .before .before .before .before .before .before .before .before .before .before .before .before .before .before .before .before .before .before .lift .ensures .flagged in
+    let b = swept-before _ _ _ _ _ (inv .1 .1 .0) (c .before .before .before .before .before .before .before .before .before .before .before .before .before .before .before .before .before .before .before .before .before .before .before .before .search .t) _ (inv .1 .1 .1) l (omega (arith, c .before .before .before .before .before .before .before .before .before .before .before .before .before .before .before .before .before .before .before .before .before .before .before .search-test .taken, c .before .before .before .before .before .before .before .before .before .before .before .before .before .before .before .before .before .before .before .before .before .before .before .before .before .before .before .before .before .before .pre .1 .0)) in (
+      ap One (c .new .ensures) ∙ rw (c .before .before .narrow2 .ensures, c .before .narrow3 .ensures) (targets-hit (c .before .before .before .before .before .before .before .before .before .before .before .before .before .before .before .before .before .before .before .before .before .before .before .before .before .before .before .before .before .before .args .words .now) (c .before .before .before .before .before .before .before .before .before .before .before .before .before .before .before .before .before .before .before .before .before .before .before .before .before .before .before .before .before .before .args .marks .now) (c .before .before .before .before .before .before .before .before .before .before .before .before .before .before .before .before .before .before .before .before .before .before .before .before .before .before .before .before .before .before .args .kind) (k .low) (k .high) (c .before .before .before .before .before .before .before .before .before .before .before .before .before .before .before .before .before .before .before .before .before .before .before .before .search .t) _ _ (omega (arith, c .before .before .before .before .before .before .before .before .before .before .before .before .before .before .before .before .before .before .before .before .before .before .before .search-test .taken, c .before .before .before .before .before .before .before .before .before .before .before .before .before .before .before .before .before .before .before .before .before .before .before .before .before .before .before .before .before .before .pre .1 .0)) b
+          (partners-hit _ _ _ _ _ (i .1 .0) k _ (c .before .before .before .before .before .before .before .loop-test .taken) (i .1 .1 .1 .1 .1) (sym (c .before .before .before .before .before .partner-applies .ensures) ∙ c .before .before .before .before .if3 .taken))),
+      rw (c .before .before .before .narrow .ensures, inv .1 .0, i .1 .1 .1 .1 .0) (swept-later _ _ _ _ _ (swept-then _ _ _ _ _ _ (inv .1 .1 .0) (c .before .before .before .before .before .before .before .before .before .before .before .before .before .before .before .before .before .before .before .lift .ensures .swept)) k (c .before .before .before .before .before .before .before .before .before .before .before .before .before .before .before .before .before .before .before .before .before .before .before .before .search .t) (c .before .before .before .before .before .before .before .before .loop .p) (few (c .before .before .before .before .before .before .before .before .before .before .before .before .before .before .before .before .before .before .before .before .before .before .before) .0) f (i .1 .1 .1 .1 .1), stopped-there (set (c .before .before .before .before .before .before .before .before .before .before .before .before .before .before .before .before .before .before .before .lift .last .1 .1 .1 .0) (c .before .before .before .before .before .before .before .before .before .before .before .before .before .before .before .before .before .before .before .before .before .before .before .before .before .before .before .before .before .before .args .kind * 2048 + c .before .before .before .before .before .before .before .before .before .before .before .before .before .before .before .before .before .before .before .before .before .before .before .before .search .t) (c .before .before .before .before .before .before .before .before .loop .p + 1)) (c .before .before .before .before .before .before .before .before .before .before .before .before .before .before .before .before .before .before .before .before .before .before .before .before .before .before .before .before .before .before .args .kind) (c .before .before .before .before .before .before .before .before .before .before .before .before .before .before .before .before .before .before .before .before .before .before .before .before .search .t) _ (inside-set (c .before .before .before .before .before .before .before .before .before .before .before .before .before .before .before .before .before .before .before .lift .last .1 .1 .1 .0) (c .before .before .before .before .before .before .before .before .before .before .before .before .before .before .before .before .before .before .before .before .before .before .before .before .before .before .before .before .before .before .args .kind) (c .before .before .before .before .before .before .before .before .before .before .before .before .before .before .before .before .before .before .before .before .before .before .before .before .search .t) (c .before .before .before .before .before .before .before .before .loop .p + 1) (omega (arith, k .high)) (few (c .before .before .before .before .before .before .before .before .before .before .before .before .before .before .before .before .before .before .before .before .before .before .before) .0) (λ e. absurd (f e)) _ _ (c .before .before .before .before .before .before .before .before .before .before .before .before .before .before .before .before .before .before .before .lift .ensures .inside _ _ (inv .1 .1 .1))) _ _ refl (ap (λ x. x .target) (c .new .ensures) ∙ c .before .before .narrow2 .ensures)),
     )
 
 pub first-by-partner-spec : {M : Type 1} → statement M
 first-by-partner-spec =
     tie.close
-    (tie.spec Inv-loop μ-loop Inv-search μ-search (λ c κs. search needs) mul-base search-holds add-if1 mul-if1 slice-read-if1 lift-requires (λ c. search needs) stamp-clause-requires partners-requires add-wide mul-wide slice-read-wide (λ c κs. search needs) sub-from loop-holds (λ c. search needs) partner-applies-requires add-narrow narrow-requires add-may mul-may slice-write-may narrow-requires-2 narrow-requires-3 (λ c κs. search needs) (λ c. search needs) loop-less loop-again add-may-2 mul-may-2 slice-write-may-2 (λ c. search needs) (λ c. search needs) search-again same-length returns same-length-2 returns-2)
+    (tie.spec Inv-loop μ-loop Inv-search μ-search (λ c κs. search needs) mul-base search-holds add-if1 mul-if1 slice-read-if1 lift-requires partners-requires add-wide mul-wide slice-read-wide (λ c κs. search needs) sub-from add-may mul-may slice-write-may (λ c. search needs) (λ c. search needs) search-again (λ c. search needs) stamp-clause-requires loop-holds (λ c. search needs) partner-applies-requires add-narrow narrow-requires add-may-2 mul-may-2 slice-write-may-2 narrow-requires-2 narrow-requires-3 (λ c κs. search needs) (λ c. search needs) loop-less loop-again add-may-3 mul-may-3 slice-write-may-3 (λ c. search needs) (λ c. search needs) search-again-2 same-length returns same-length-2 returns-2)
