@@ -66,7 +66,7 @@ pub record Subsumer (ws ms may : List ℕ) (x q : ℕ) : Type 0 where
   pub kept : entry (view ws ms) q .kept ≡ true
   pub holds : So (condition subsumed (left (view ws ms)) (entry (view ws ms) x .clause) (entry (view ws ms) q .clause) 0)
 
--- The same by the key: what a step names beside its target, the partner or the atom.
+-- Every target that has a step with the key is flagged; the key is what a step names beside its target, the partner or the atom.
 pub record KeySpread (ws ms may may' : List ℕ) (kind x : ℕ) : Type 0 where
   pub raising : Raising may may' kind (getD ws 1 0)
   pub flagged : (u : Step) → u .kind ≡ kindOf kind → key u ≡ x → So (applies (getD ws 0 0) (view ws ms) u) → (flags may' kind (u .target) ≢ 0) × (So (usesPartner (kindOf kind)) → Covered may' kind (u .target) x)

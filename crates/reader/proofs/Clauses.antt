@@ -16,7 +16,7 @@ use Rattle.text.specs.Reader.{Read, done, stop, then, listAt, clauseAt, clauses
 use Rattle.text.proofs.Lines.{list-inv}
 use Rattle.table.proofs.Slices.{sets-append, set-sets}
 use Rattle.text.proofs.Texts.{clause-inv}
-use Rattle.reader.proofs.Answers.{stores-done, Held}
+use Rattle.lines.proofs.Answers.{stores-done, Held}
 
 -- a clause's words, the counts stored last
 pub clause-stored : (w H P Q : List ℕ) (u h p q : ℕ) → length H ≡ h → length P ≡ p → length Q ≡ q

@@ -20,7 +20,7 @@ use Rattle.text.specs.declared.ReadAnswer.the-variants.{Accepted, Refused}
 use Rattle.text.specs.Reader.{done, stop, ask, then, numberAt, countAt, clausesAt, restAt, programAt, Stores, readText, readAnswer, tableAfter}
 use Rattle.text.proofs.Slices.{copied}
 use Rattle.text.proofs.Texts.{clauses-inv, read-inv}
-use Rattle.reader.proofs.Answers.{stores-done, Held}
+use Rattle.lines.proofs.Answers.{stores-done, Held}
 
 -- ---- a line with a limit
 

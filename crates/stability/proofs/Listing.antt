@@ -14,9 +14,9 @@ use Rattle.table.specs.Questions.{Passed}
 use Rattle.table.specs.Places.{nextAt, clauseOf, clausesOf, programOf}
 use Rattle.table.proofs.Encoding.{passed-limits}
 use Rattle.table.proofs.Walks.{Along, along-start, along-fits, along-next, clauses-more, clauses-none, clauses-all}
-use Rattle.stability.specs.Masks.{maskOf, allBelow, holds, modelled, enters, clauseHolds}
+use Rattle.masks.specs.Masks.{maskOf, allBelow, holds, modelled, enters, clauseHolds}
 use Rattle.stability.specs.Kept.{Room, Added, Ready, Filled}
-use Rattle.stability.proofs.Search.{allBelow-ext}
+use Rattle.masks.proofs.Search.{allBelow-ext}
 
 -- whether a clause enters, from what was asked of its parts
 module _ (s : List ℕ) (c : Clause) (l : List ℕ) (t : Bool) (e : l ≡ c .neg) (q : t ≡ any (among s) l) where

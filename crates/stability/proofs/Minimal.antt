@@ -15,10 +15,10 @@ use Rattle.semantics.proofs.Tests.{and-iff, not-iff, or-iff, all-iff, any-iff, 
 use Rattle.semantics.proofs.Models.{All, Any, Holds, Models, stable-iff}
 use Rattle.semantics.proofs.Decide.{test-iff}
 use Rattle.table.specs.Places.{programOf}
-use Rattle.stability.specs.Masks.{maskOf, inside, holds, modelled, minimal, enters, clauseHolds}
+use Rattle.masks.specs.Masks.{maskOf, inside, holds, modelled, minimal, enters, clauseHolds}
 use Rattle.stability.specs.Kept.{Filled, Testable}
-use Rattle.stability.proofs.Search.{allBelow-iff}
-use Rattle.stability.proofs.Bits.{mask-inj, mask-bound, mask-le, inside-iff, apart-iff, bitsIn, bitsIn-sub, mask-of-bits}
+use Rattle.masks.proofs.Search.{allBelow-iff}
+use Rattle.masks.proofs.Bits.{mask-inj, mask-bound, mask-le, inside-iff, apart-iff, bitsIn, bitsIn-sub, mask-of-bits}
 
 module _ (s : List ℕ) (Y : Atoms) (sub : Subset Y (among s)) where
   enters-iff : (c : Clause) → So (enters s c) ↔ ((¬ Any (among s) (c .neg)) × ((a : ℕ) → a ∈ c .pos → a ∈ s))

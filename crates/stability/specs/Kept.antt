@@ -9,7 +9,7 @@ use Rattle.semantics.specs.Programs.{Clause}
 use Rattle.table.specs.Questions.{Passed}
 use Rattle.table.specs.Encoding.{Ordered}
 use Rattle.table.specs.Places.{nextAt, programOf}
-use Rattle.stability.specs.Masks.{modelled, clauseHolds}
+use Rattle.masks.specs.Masks.{modelled, clauseHolds}
 
 -- a clause's words are there, and there is a place for its masks
 pub record Room (ws : List ℕ) (at : ℕ) (set bodies heads : List ℕ) (n : ℕ) : Type 0 where

@@ -4,7 +4,7 @@ ghost use Prim.Native.Nat.{_≤_};
 ghost use lib.ListN.{length};
 ghost use Rattle.semantics.specs.Decide.{stableTest};
 ghost use Rattle.table.specs.Places.{nextAt, clauseOf, programOf};
-ghost use Rattle.stability.specs.Masks.{enters};
+ghost use Rattle.masks.specs.Masks.{enters};
 ghost use Rattle.stability.specs.Kept.{Room, Added, Ready, Filled, Testable};
 
 // Whether the reduct by the set keeps the clause, and its positive body is within the set.
@@ -12,10 +12,10 @@ fn enters(words: &[u16], at: usize, set: &[u16]) -> bool
     requires { ⌜ nextAt (now words) at ≤ length (now words) ⌝ }
     ensures { λ r. ⌜ r ≡ enters (now (set .entry)) (clauseOf (now (words .entry)) at) ⌝ }
 {
-    if super::parts::meets(clauses::neg_of(words, at), set) {
+    if masks::parts::meets(clauses::neg_of(words, at), set) {
         return false;
     }
-    super::parts::inside(clauses::pos_of(words, at), set)
+    masks::parts::inside(clauses::pos_of(words, at), set)
 }
 
 // The masks of a clause that enters, behind the first n. How many there are then.
@@ -33,8 +33,8 @@ fn add_clause(
     if !enters(words, at, set) {
         return n;
     }
-    bodies[n] = super::masks::mask_of(set, clauses::pos_of(words, at));
-    heads[n] = super::masks::mask_of(set, clauses::head_of(words, at));
+    bodies[n] = masks::mask_of(set, clauses::pos_of(words, at));
+    heads[n] = masks::mask_of(set, clauses::head_of(words, at));
     n + 1
 }
 
@@ -61,6 +61,6 @@ pub fn is_stable(words: &[u16], set: &[u16]) -> bool
     let mut bodies = [0u16; 2048];
     let mut heads = [0u16; 2048];
     let n = fill(words, set, &mut bodies, &mut heads);
-    let m = super::masks::mask_of(set, set);
-    super::masks::stable(&bodies, &heads, n, m)
+    let m = masks::mask_of(set, set);
+    masks::stable(&bodies, &heads, n, m)
 }

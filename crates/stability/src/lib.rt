@@ -8,8 +8,6 @@ use table::Refusal;
 use table::Walk;
 
 mod kept;
-pub mod masks;
-pub mod parts;
 
 // Whether the set is a stable model, or the first question that is answered no.
 pub enum TestAnswer {

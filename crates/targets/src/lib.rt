@@ -119,7 +119,14 @@ pub fn first_by_atom(
 // ---- a kind with a partner
 
 // The partners that the search tries for the target t end here: none where it is gone, and for kind 3 up to the greatest.
-fn partners(words: &[u16], marks: &[u8], start: &[u16], may: &[u16], kind: u16, t: usize) -> usize
+fn partners_end(
+    words: &[u16],
+    marks: &[u8],
+    start: &[u16],
+    may: &[u16],
+    kind: u16,
+    t: usize,
+) -> usize
     requires { ⌜ (Ready (now words) (now marks) (now start)) × ((t < getD (now words) 1 0) × ((PartnerKind kind) × Calm (now words) (now marks) (now may) kind)) ⌝ }
     ensures { λ r. ⌜ Partners (now (words .entry)) (now (marks .entry)) kind t r ⌝ }
 {
@@ -152,7 +159,7 @@ pub fn first_by_partner(
     'search: for t in low..end {
         if may[base + t] != 0 {
             gaps::lift(words, marks, start, may, kind, t);
-            let e = partners(words, marks, start, may, kind, t);
+            let e = partners_end(words, marks, start, may, kind, t);
             let from = table::wide(may[base + t]) - 1;
             if e <= from {
                 may[base + t] = 0;

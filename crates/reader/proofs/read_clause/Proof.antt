@@ -5,7 +5,7 @@ use native.Mathlib.Omega.{arith}
 use Rattle.table.specs.Encoding.{clauseWords}
 use Rattle.text.specs.Render.{headKey, posKey, negKey}
 use Rattle.text.specs.Reader.{listWords, listAt}
-use Rattle.reader.proofs.Answers.{stores-stop, Held, held, stopped}
+use Rattle.lines.proofs.Answers.{stores-stop, Held, held, stopped}
 use Rattle.reader.proofs.Clauses.{part-room, part-next, head-stop, pos-stop, neg-stop, clause-read}
 use borrow.Author.Needs.{needs}
 use Rattle.reader.proofs.read_clause.Statement.{statement}

@@ -4,7 +4,7 @@ use mathlib.Core.Path.{_≡_, sym, _∙_}
 use native.Mathlib.Omega.{arith}
 use lib.ListN.{length}
 use Rattle.table.specs.Encoding.{clauseWords, clausesWords}
-use Rattle.reader.proofs.Answers.{stores-stop, held, stopped}
+use Rattle.lines.proofs.Answers.{stores-stop, held, stopped}
 use Rattle.reader.proofs.Clauses.{Going, going-start, going-on, going-stop, going-end}
 use borrow.Author.Needs.{needs}
 use Rattle.reader.proofs.read_clauses.Statement.{statement}

@@ -2,7 +2,7 @@
 use mathlib.Core.Path.{sym, ap, _∙_}
 use native.Mathlib.Omega.{arith}
 use Rattle.text.specs.Reader.{numberAnswer}
-use Rattle.reader.proofs.Answers.{number-got, number-not}
+use Rattle.lines.proofs.Answers.{number-got, number-not}
 use Rattle.reader.proofs.Programs.{count-stop, count-over, count-done}
 use borrow.Author.Needs.{needs}
 use Rattle.reader.proofs.read_count.Statement.{statement}

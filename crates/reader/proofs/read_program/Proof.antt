@@ -6,7 +6,7 @@ use Rattle.table.specs.declared.ByteQuestion.the-variants.{TextAtomLimit, TextC
 use Rattle.text.specs.Render.{atomsKey, clausesKey}
 use Rattle.text.specs.Reader.{done, countAt, numberAnswer}
 use Rattle.text.proofs.Lines.{count-inv}
-use Rattle.reader.proofs.Answers.{stores-stop, number-got, number-not}
+use Rattle.lines.proofs.Answers.{stores-stop, number-got, number-not}
 use Rattle.reader.proofs.Programs.{first-stop, second-stop, second-done}
 use borrow.Author.Needs.{needs}
 use Rattle.reader.proofs.read_program.Statement.{statement}

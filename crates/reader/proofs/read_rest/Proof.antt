@@ -4,7 +4,7 @@ use native.Mathlib.Omega.{arith}
 use Rattle.table.specs.Encoding.{clausesWords, encode}
 use Rattle.text.specs.Reader.{clausesAt}
 use Rattle.text.proofs.Texts.{clauses-inv}
-use Rattle.reader.proofs.Answers.{stores-stop, Held, held, stopped}
+use Rattle.lines.proofs.Answers.{stores-stop, Held, held, stopped}
 use Rattle.reader.proofs.Programs.{rest-stop, bytes-left, all-read}
 use borrow.Author.Needs.{needs}
 use Rattle.reader.proofs.read_rest.Statement.{statement}

@@ -2,7 +2,7 @@
 use mathlib.Core.Path.{_∙_}
 use native.Mathlib.Omega.{arith}
 use Rattle.table.specs.Encoding.{encode}
-use Rattle.reader.proofs.Answers.{held, stopped}
+use Rattle.lines.proofs.Answers.{held, stopped}
 use Rattle.reader.proofs.Programs.{long-text, short-table, on-text, call-stop, call-short, call-done}
 use borrow.Author.Needs.{needs}
 use Rattle.reader.proofs.read_text.Statement.{statement}

@@ -63,8 +63,8 @@ lift-requires c κs =
 stamp-clause-requires : tie.Need-stamp-clause-requires Inv-loop μ-loop Inv-search μ-search
 stamp-clause-requires c κs = (c .before .before .before .before .before .before .before .before .before .before .before .before .before .before .before .before .before .before .before .pre .0, (few (c .before .before .before .before .before .before .before .before .before .before .before .before) .1, refl))
 
-partners-requires : tie.Need-partners-requires Inv-loop μ-loop Inv-search μ-search
-partners-requires c κs = (c .before .before .before .before .before .before .before .before .before .before .before .before .before .before .pre .0, (few (c .before .before .before .before .before .before .before) .1, (c .before .before .before .before .before .before .before .before .before .before .before .before .before .before .pre .1 .1 .0, c .before .before .before .lift .ensures .swept .calm)))
+partners-end-requires : tie.Need-partners-end-requires Inv-loop μ-loop Inv-search μ-search
+partners-end-requires c κs = (c .before .before .before .before .before .before .before .before .before .before .before .before .before .before .pre .0, (few (c .before .before .before .before .before .before .before) .1, (c .before .before .before .before .before .before .before .before .before .before .before .before .before .before .pre .1 .1 .0, c .before .before .before .lift .ensures .swept .calm)))
 
 add-wide : tie.Need-add-wide Inv-loop μ-loop Inv-search μ-search
 add-wide c = omega (arith, c .before .before .before .before .before .before .before .before .before .search .inv .1 .0, few (c .before .before .before .before .before .before .before .before), c .before .before .before .before .before .before .before .before .before .before .before .before .before .before .before .pre .1 .1 .0 .high)
@@ -96,7 +96,7 @@ search-again c =
     let l = few (c .before .before .before .before .before .before .before .before .before .before .before) .0 in
     let z = c .before .before .before .before .before .before .before .lift .ensures in
     let d : c .before .wide2 .result ≡ flags (c .before .before .before .before .before .before .before .lift .last .1 .1 .1 .0) (c .before .before .before .before .before .before .before .before .before .before .before .before .before .before .before .before .before .before .args .kind) (c .before .before .before .before .before .before .before .before .before .before .before .before .search .t) = c .before .wide2 .ensures .0 ∙ ap (λ b. getD (c .before .before .before .before .before .before .before .lift .last .1 .1 .1 .0) (b + c .before .before .before .before .before .before .before .before .before .before .before .before .search .t) 0) (inv .1 .0) in
-    let e = partners-none (c .before .before .before .before .before .before .before .before .before .before .before .before .before .before .before .before .before .before .args .words .now) (c .before .before .before .before .before .before .before .before .before .before .before .before .before .before .before .before .before .before .args .marks .now) (c .before .before .before .before .before .before .before .before .before .before .before .before .before .before .before .before .before .before .args .kind) _ _ (c .before .before .before .partners .ensures) k (λ q h. calm-from _ _ _ _ (z .swept .calm) k (c .before .before .before .before .before .before .before .before .before .before .before .before .search .t) q (omega (arith, d, c .if2 .taken))) in
+    let e = partners-none (c .before .before .before .before .before .before .before .before .before .before .before .before .before .before .before .before .before .before .args .words .now) (c .before .before .before .before .before .before .before .before .before .before .before .before .before .before .before .before .before .before .args .marks .now) (c .before .before .before .before .before .before .before .before .before .before .before .before .before .before .before .before .before .before .args .kind) _ _ (c .before .before .before .partners-end .ensures) k (λ q h. calm-from _ _ _ _ (z .swept .calm) k (c .before .before .before .before .before .before .before .before .before .before .before .before .search .t) q (omega (arith, d, c .if2 .taken))) in
     (inv .0, (inv .1 .0, rw (inv .1 .0) (swept-clear _ _ _ _ _ (swept-then _ _ _ _ _ _ (inv .1 .1 .0) (z .swept)) (let h = k .high in omega arith) _ l e, inside-clear (c .before .before .before .before .before .before .before .lift .last .1 .1 .1 .0) (c .before .before .before .before .before .before .before .before .before .before .before .before .before .before .before .before .before .before .args .kind) (c .before .before .before .before .before .before .before .before .before .before .before .before .search .t) _ (z .inside _ _ (inv .1 .1 .1)) (omega (arith, l, z .swept .calm .rows .long, k .high)))))
 
 loop-holds : tie.Need-loop-holds Inv-loop μ-loop Inv-search μ-search
@@ -106,7 +106,7 @@ loop-holds c =
     let e : c .before .before .before .before .wide2 .result ≡ flags (c .before .before .before .before .before .before .before .before .before .before .lift .last .1 .1 .1 .0) (c .before .before .before .before .before .before .before .before .before .before .before .before .before .before .before .before .before .before .before .before .before .args .kind) (c .before .before .before .before .before .before .before .before .before .before .before .before .before .before .before .search .t) = c .before .before .before .before .wide2 .ensures .0 ∙ ap (λ b. getD (c .before .before .before .before .before .before .before .before .before .before .lift .last .1 .1 .1 .0) (b + c .before .before .before .before .before .before .before .before .before .before .before .before .before .before .before .search .t) 0) (inv .1 .0) in (
       inv .0,
       (
-        c .before .before .before .before .before .before .partners .ensures,
+        c .before .before .before .before .before .before .partners-end .ensures,
         (
           c .before .stamp-clause .ensures .0,
           (
@@ -203,4 +203,4 @@ returns-2 c =
 pub first-by-partner-spec : {M : Type 1} → statement M
 first-by-partner-spec =
     tie.close
-    (tie.spec Inv-loop μ-loop Inv-search μ-search (λ c κs. search needs) mul-base search-holds add-if1 mul-if1 slice-read-if1 lift-requires partners-requires add-wide mul-wide slice-read-wide (λ c κs. search needs) sub-from add-may mul-may slice-write-may (λ c. search needs) (λ c. search needs) search-again (λ c. search needs) stamp-clause-requires loop-holds (λ c. search needs) partner-applies-requires add-narrow narrow-requires add-may-2 mul-may-2 slice-write-may-2 narrow-requires-2 narrow-requires-3 (λ c κs. search needs) (λ c. search needs) loop-less loop-again add-may-3 mul-may-3 slice-write-may-3 (λ c. search needs) (λ c. search needs) search-again-2 same-length returns same-length-2 returns-2)
+    (tie.spec Inv-loop μ-loop Inv-search μ-search (λ c κs. search needs) mul-base search-holds add-if1 mul-if1 slice-read-if1 lift-requires partners-end-requires add-wide mul-wide slice-read-wide (λ c κs. search needs) sub-from add-may mul-may slice-write-may (λ c. search needs) (λ c. search needs) search-again (λ c. search needs) stamp-clause-requires loop-holds (λ c. search needs) partner-applies-requires add-narrow narrow-requires add-may-2 mul-may-2 slice-write-may-2 narrow-requires-2 narrow-requires-3 (λ c κs. search needs) (λ c. search needs) loop-less loop-again add-may-3 mul-may-3 slice-write-may-3 (λ c. search needs) (λ c. search needs) search-again-2 same-length returns same-length-2 returns-2)

@@ -3,7 +3,7 @@ use mathlib.Core.Path.{sym, ap, _∙_}
 use borrow.Author.Tests.{not-true, not-false}
 use borrow.Author.Needs.{needs}
 use Rattle.semantics.specs.Decide.{among}
-use Rattle.stability.specs.Masks.{maskOf}
+use Rattle.masks.specs.Masks.{maskOf}
 use Rattle.stability.proofs.Listing.{added-none, added-one}
 use Rattle.stability.proofs.kept.add_clause.Statement.{statement}
 use Rattle.stability.proofs.kept.add_clause.Tie as tie
