@@ -33,6 +33,8 @@
 extern "C" {
 #endif
 
+#define GAMBROLT_VERSION "1.1.0"
+
 /* ---- Limits ---------------------------------------------------------------------------------------------------------- */
 
 #define GAMBROLT_MAX_ATOMS   1024
@@ -55,6 +57,22 @@ enum gambrolt_kind {
     GAMBROLT_LOOP          = 7, /* atom: in the positive body and underivable; the clause is deleted */
     GAMBROLT_SUBSUMED      = 8  /* partner: each part within the target's same part; the clause is deleted */
 };
+
+/* The name of a kind of step: its constant's, in small letters. */
+static inline const char *gambrolt_kind_name(unsigned kind)
+{
+    switch (kind) {
+    case GAMBROLT_TAUTOLOGY: return "tautology";
+    case GAMBROLT_CONTRADICTION: return "contradiction";
+    case GAMBROLT_SUCCESS: return "success";
+    case GAMBROLT_NO_HEAD: return "no_head";
+    case GAMBROLT_BLOCKED: return "blocked";
+    case GAMBROLT_FAILURE: return "failure";
+    case GAMBROLT_LOOP: return "loop";
+    case GAMBROLT_SUBSUMED: return "subsumed";
+    default: return "none";
+    }
+}
 
 /* ---- Answers --------------------------------------------------------------------------------------------------------- */
 

@@ -1,6 +1,7 @@
 /* report.c - what there is to say about a reduction: each step as a sentence, and figures. */
 #include "shell.h"
 
+#include <stdio.h>
 #include <string.h>
 
 #define KINDS 9
@@ -12,18 +13,16 @@
  * The kinds of step. In a sentence @a is the step's atom, @n the partner's number, @p the partner, @h its heads denied,
  * @c how the atom rests on itself, @s how the partner compares with the target.
  */
-static const struct {
-    const char *name, *sentence;
-} kinds[KINDS] = {
-    {"none", "deleted, since @p, rules out every stable model anyway"}, /* what blocked says of an empty partner */
-    {"tautology", "deleted, since it derives `@a` only where that already holds"},
-    {"contradiction", "deleted, since it needs both `@a` and `not @a`"},
-    {"success", "dropped `@a`, which clause @n gives as a fact"},
-    {"no head", "dropped `not @a`, which no clause can derive"},
-    {"blocked", "deleted, since it needs @h, but @p, is a fact"},
-    {"failure", "deleted, since it needs `@a`, which no clause can derive"},
-    {"loop", "deleted, since it needs `@a`, which is derived only in a circle@c"},
-    {"subsumed", "deleted, since @p, @s"}};
+static const char *const sentences[KINDS] = {
+    "deleted, since @p, rules out every stable model anyway", /* what blocked says of an empty partner */
+    [GAMBROLT_TAUTOLOGY] = "deleted, since it derives `@a` only where that already holds",
+    [GAMBROLT_CONTRADICTION] = "deleted, since it needs both `@a` and `not @a`",
+    [GAMBROLT_SUCCESS] = "dropped `@a`, which clause @n gives as a fact",
+    [GAMBROLT_NO_HEAD] = "dropped `not @a`, which no clause can derive",
+    [GAMBROLT_BLOCKED] = "deleted, since it needs @h, but @p, is a fact",
+    [GAMBROLT_FAILURE] = "deleted, since it needs `@a`, which no clause can derive",
+    [GAMBROLT_LOOP] = "deleted, since it needs `@a`, which is derived only in a circle@c",
+    [GAMBROLT_SUBSUMED] = "deleted, since @p, @s"};
 
 /* ---- Sentences: the steps are made again, and each is read on the marks that those before it left ---- */
 
@@ -67,7 +66,7 @@ static void put_atom(struct order *o, const char *before, int atom, const char *
 
 static void put_numbered(struct order *o, size_t clause)
 {
-    putf(&o->explanation, "clause %zu, `", clause);
+    putf(&o->explanation, "clause %zu, `", statement_at(o, o->of[clause])->number);
     put_clause(&o->explanation, o, clause, SHOWN);
     putf(&o->explanation, "`");
 }
@@ -118,7 +117,7 @@ static void put_sentence(struct order *o, const char *c, size_t target, size_t p
         else if (*++c == 'a')
             put_atom(o, "", atom, "");
         else if (*c == 'n')
-            putf(&o->explanation, "%zu", partner);
+            putf(&o->explanation, "%zu", statement_at(o, o->of[partner])->number);
         else if (*c == 'p')
             put_numbered(o, partner);
         else if (*c == 'h')
@@ -142,7 +141,8 @@ void explain(struct order *o)
         int empty = kind == GAMBROLT_BLOCKED && head == part_start(o, step[2], POSITIVE);
         if (kind == GAMBROLT_LOOP && !known)
             find_reach(o);
-        put_sentence(o, kinds[empty ? 0 : kind].sentence, step[1], step[2], atom);
+        if (o->of[step[1]] != NO_RULE) /* a guard is none of the order's clauses */
+            put_sentence(o, sentences[empty ? 0 : kind], step[1], step[2], atom);
         if (success || kind == GAMBROLT_NO_HEAD)
             gone = find(o, step[1], success ? POSITIVE : NEGATIVE, atom);
         o->marks[gone] = 0;
@@ -154,43 +154,71 @@ void explain(struct order *o)
 
 /* ---- Figures ---- */
 
-/* The clauses, the body literals, and the atoms that some clause has. */
-static void measure(const uint16_t *table, size_t words, unsigned size[3])
+/* The clauses, the body literals, and the atoms that some clause has: those of the order, in the table and round it. */
+static void measure(const struct order *o, const uint16_t *table, size_t words, size_t size[3])
 {
     char met[GAMBROLT_MAX_ATOMS] = {0};
-    size[0] = table[1];
+    const struct statement *s;
     for (size_t i = 2; i < words; i = clause_end(table, i)) {
+        int guard = table[i] == 2 && o->program.atom[table[i + 4]] >= GUARD;
+        size[0] += !guard;
         size[1] += table[i + 1] + table[i + 2];
-        for (size_t k = i + 3; k < clause_end(table, i); k++) {
-            size[2] += !met[table[k]];
+        for (size_t k = i + 3; k < clause_end(table, i) && !guard; k++) {
+            size[2] += !met[table[k]] && o->program.atom[table[k]] < CHOSEN;
             met[table[k]] = 1;
         }
     }
+    for (size_t k = 0; (s = statement_at(o, k)); k++)
+        if (s->kind == RULE && s->role == LED_ROUND) {
+            size[0]++;
+            size[2]++;
+        }
+}
+
+static void put_json(struct buffer *b, struct order *o, size_t size[2][3], const unsigned *steps)
+{
+    static const char *const sizes[] = {"clauses", "literals", "atoms"};
+    putf(b, "{\"reduced\": true,\n");
+    for (int i = 0; i < 3; i++)
+        putf(b, " \"%s\": {\"before\": %zu, \"after\": %zu},\n", sizes[i], size[0][i], size[1][i]);
+    putf(b, " \"carried\": %zu,\n \"steps\": {\"all\": %zu", o->carried, o->steps);
+    for (unsigned k = 1; k < KINDS; k++)
+        putf(b, ", \"%s\": %u", gambrolt_kind_name(k), steps[k]);
+    putf(b, "},\n \"seconds\": {\"reading\": %.6f, \"reducing\": %.6f, \"checking\": %.6f},\n \"list\": [", o->seconds[0],
+         o->seconds[1], o->seconds[2]);
+    put_objects(b, o);
+    putf(b, "]}\n");
 }
 
 void put_statistics(struct order *o, int json)
 {
     static const char *const sizes[] = {"clauses", "body literals", "atoms"};
     static const char *const times[] = {"reading", "reducing", "checking"};
-    unsigned before[3] = {0}, after[3] = {0}, steps[KINDS] = {0};
-    struct buffer *b = &o->notes;
-    measure(o->table, o->words, before);
-    measure(o->reduced, o->reduced_words, after);
+    size_t size[2][3] = {{0}};
+    unsigned steps[KINDS] = {0};
+    struct buffer *b = &o->statistics;
+    measure(o, o->table, o->words, size[0]);
+    measure(o, o->reduced, o->reduced_words, size[1]);
     for (size_t s = 0; s < o->steps; s++)
         steps[o->list[4 * s]]++;
-
-    putf(b, json ? "{\"reduced\": true,\n" : "%-16s %8s %8s\n", "", "before", "after");
+    if (json) {
+        put_json(b, o, size, steps);
+        return;
+    }
+    putf(b, "%-16s %8s %8s\n", "", "before", "after");
     for (int i = 0; i < 3; i++)
-        putf(b, json ? " \"%s\": {\"before\": %u, \"after\": %u},\n" : "%-16s %8u %8u\n",
-             json && i == 1 ? "literals" : sizes[i], before[i], after[i]);
-    putf(b, json ? " \"%s\": {\"all\": %zu" : "%-16s %8zu\n", "steps", o->steps);
+        putf(b, "%-16s %8zu %8zu\n", sizes[i], size[0][i], size[1][i]);
+    if (o->carried)
+        putf(b, "%-16s %8zu %8zu\n", "carried rules", o->carried, o->carried);
+    putf(b, "%-16s %8zu\n", "steps", o->steps);
     for (int k = 1; k < KINDS; k++)
-        if (json)
-            putf(b, ", \"%s\": %u", kinds[k].name, steps[k]);
-        else
-            putf(b, "  %d %-13s%8u\n", k, kinds[k].name, steps[k]);
+        {
+        char name[16]; /* as words */
+        snprintf(name, sizeof name, "%s", gambrolt_kind_name((unsigned)k));
+        for (char *c = name; *c; c++)
+            *c = *c == '_' ? ' ' : *c;
+        putf(b, "  %d %-13s%8u\n", k, name, steps[k]);
+    }
     for (int i = 0; i < 3; i++)
-        putf(b, json ? "%s\"%s\": %.6f" : "%s%-16s %8.3f s\n", !json ? "" : i ? ", " : "},\n \"seconds\": {",
-             times[i], o->seconds[i]);
-    putf(b, json ? "}}\n" : "");
+        putf(b, "%-16s %8.3f s\n", times[i], o->seconds[i]);
 }

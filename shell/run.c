@@ -7,18 +7,34 @@
 #include <string.h>
 #include <time.h>
 
+#define TRANSLATE "put `clasp --pre=aspif --trans-ext=all --eq=0` in front to translate it"
 #define REPORT "; nothing is written; please report the order"
+
+/* One printable line, whatever the input holds. */
+static void say(char *line, size_t size, const char *format, va_list arguments)
+{
+    vsnprintf(line, size, format, arguments);
+    for (; *line; line++)
+        if ((unsigned char)*line < 32 || *line == 127)
+            *line = '?';
+}
 
 int refuse(struct order *o, const char *format, ...)
 {
     va_list arguments;
     va_start(arguments, format);
-    vsnprintf(o->fault, sizeof o->fault, format, arguments);
+    say(o->fault, sizeof o->fault, format, arguments);
     va_end(arguments);
-    for (char *c = o->fault; *c; c++) /* one printable line, whatever the input holds */
-        if ((unsigned char)*c < 32 || *c == 127)
-            *c = '?';
     return -1;
+}
+
+void beyond(struct order *o, const char *format, ...)
+{
+    va_list arguments;
+    va_start(arguments, format);
+    if (!o->beyond[0])
+        say(o->beyond, sizeof o->beyond, format, arguments);
+    va_end(arguments);
 }
 
 /* Whether a part of the library refuses a call that it must take. */
@@ -78,23 +94,51 @@ static int put_text(struct order *o, int steps)
         return -1;
     put(&o->output, text, answer);
     if (steps)
-        putf(&o->output, "steps=%zu\n", o->steps);
-    for (const uint16_t *step = o->list; steps && step < o->list + 4 * o->steps; step += 4)
-        putf(&o->output, "step=%u,%u,%u,%u\n", step[0], step[1], step[2], step[3]);
+        put_steps(&o->output, o);
     return 0;
 }
 
-/* An order over the limits: refused, or handed on as it came. */
-static int run_over(struct order *o, const struct options *options)
+/* An order that can't be reduced: refused, or handed on as it came. */
+static int run_beyond(struct order *o, const struct options *options)
 {
-    refuse(o, "line %zu: rule: %s; %s", o->over_line, gambrolt_message(o->over),
-           options->pass_through ? "the program is handed on unreduced"
-                                 : "split the order, or hand it on unreduced with --pass-through");
     if (!options->pass_through)
-        return -1;
-    putf(&o->notes, "gambrolt: %s\n%s", o->fault, options->json ? "{\"reduced\": false}\n" : "");
+        return refuse(o, "%s; --pass-through hands it on unreduced", o->beyond);
+    putf(&o->notes, "gambrolt: %s; the program is handed on unreduced\n", o->beyond);
+    if (options->json)
+        putf(&o->statistics, "{\"reduced\": false}\n");
+    if (options->list)
+        (options->list_json ? put_steps_json : put_steps)(&o->certificate, o);
     put(&o->output, o->bytes.at, o->bytes.len);
     return 0;
+}
+
+/* Whether the form that is asked for lacks something that the order has. */
+static int lacks(struct order *o, const struct options *options)
+{
+    const struct statement *s;
+    for (size_t k = 0; (s = statement_at(o, k)); k++) {
+        int choice = s->kind == RULE && s->role == CHOICE, weight = s->kind == RULE && s->role == CARRIED;
+        if (options->to_lp && s->kind == THEORY)
+            return refuse(o, "line %zu: theory statement: --to-lp can't write theories; write aspif", s->line);
+        if (options->to_text && (choice || weight))
+            return refuse(o, "line %zu: %s: the text form has none; " TRANSLATE, s->line,
+                          choice ? "choice rule" : "rule with a weight body");
+        if (options->to_text && (s->kind == EXTERNAL || s->kind == THEORY))
+            return refuse(o, "line %zu: %s: the text form has none; write aspif or --to-lp", s->line,
+                          s->kind == EXTERNAL ? "external statement" : "theory statement");
+    }
+    return 0;
+}
+
+/* What is asked for, besides the program. */
+static void put_reports(struct order *o, const struct options *options)
+{
+    if (options->list)
+        (options->list_json ? put_steps_json : put_steps)(&o->certificate, o);
+    if (options->explain)
+        explain(o);
+    if (options->stats)
+        put_statistics(o, options->json);
 }
 
 int run(struct order *o, const struct options *options)
@@ -102,27 +146,31 @@ int run(struct order *o, const struct options *options)
     double start = seconds(0);
     put(&o->bytes, "", 0); /* there, be there nothing in it */
     put(&o->numbers, "", 0);
+    put(&o->given, "", 0);
     program_start(&o->program);
     if (options->text || options->from_text ? read_text(o) : read_aspif(o))
         return -1;
+    make_table(o, options);
     o->seconds[0] = seconds(start);
-    if (o->over != PROGRAM_TAKEN)
-        return run_over(o, options);
+    if (o->beyond[0])
+        return run_beyond(o, options);
+    if (lacks(o, options))
+        return -1;
+    if (options->check)
+        return check_steps(o);
     if (reduce_checked(o, !options->no_reduce))
         return -1;
+    find_left(o, !options->no_reduce);
     name_shown(o);
     if (options->names && name_ground(o))
         putf(&o->notes, "gambrolt: names: its rules do not fit the input's one by one, so none is taken; "
              "ground both alike\n");
     if (options->to_lp)
-        put_lp(o);
+        put_lp(o, !options->no_reduce);
     else if (!options->text && !options->to_text)
         put_aspif(o);
     else if (put_text(o, options->steps))
         return -1;
-    if (options->explain)
-        explain(o);
-    if (options->stats)
-        put_statistics(o, options->json);
+    put_reports(o, options);
     return 0;
 }

@@ -20,7 +20,8 @@ static const struct options named = {.to_lp = 1, .explain = 1, .names = 1};
 /* Makes the order all zeros again. */
 static void reset(struct order *o)
 {
-    struct buffer *const all[] = {&o->bytes, &o->ground, &o->output, &o->explanation, &o->notes, &o->statements, &o->numbers};
+    struct buffer *const all[] = {&o->bytes, &o->ground, &o->output, &o->explanation, &o->notes, &o->statements, &o->numbers, &o->given,
+                                  &o->statistics, &o->certificate, &o->atoms, &o->slots};
     for (size_t i = 0; i < sizeof all / sizeof *all; i++)
         free(all[i]->at);
     memset(o, 0, sizeof *o);

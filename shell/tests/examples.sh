@@ -1,44 +1,80 @@
 # examples.sh - every example through grounder, reducer and solver: the same stable models by name, however it is written.
 
-# fit GIVEN LEFT SENTENCES: the first sentence about a clause quotes that rule of GIVEN, none is about a clause that is
-# deleted already, and LEFT has exactly the rules that no sentence deletes, shorter where one drops a condition.
+# fit GIVEN LEFT SENTENCES: the first sentence about a clause quotes that rule of GIVEN, or one atom of it where it is a
+# choice; none is about a clause that is deleted already; LEFT has exactly the rules that no sentence deletes, shorter
+# where one drops a condition, and choices of exactly those atoms that none deletes.
 fit() {
     awk '
+        function choice(rule) { return substr(rule, 1, 1) == "{" }
+        function body(rule) { sub(/^[^}]*}/, "", rule); return rule }
+        function atoms(rule, list) { sub(/^{/, "", rule); sub(/}.*/, "", rule); return split(rule, list, "; ") }
         FNR == 1 { file++; rules = 1 }
         rules && /^#show\.$/ { rules = 0 }
         file == 1 && rules { rule[n++] = $0 }
-        file == 2 && rules { left[kept++] = $0 }
+        file == 2 && rules && choice($0) { for (i = atoms($0, list); i > 0; i--) chosen[list[i]] = 1 }
+        file == 2 && rules && !choice($0) { left[kept++] = $0 }
         file == 3 {
             number = $2 + 0
             quoted = $0; sub(/^[^`]*`/, "", quoted); sub(/`.*/, "", quoted)
-            if (!(number in met) && quoted != rule[number] && quoted !~ / \.\. and [0-9]+ more\.$/) { print "not the rule: " $0; bad = 1 }
-            if (number in deleted) { print "deleted already: " $0; bad = 1 }
-            met[number] = 1
-            if (/`: deleted, since /) deleted[number] = 1
-            else if (/`: dropped `/) dropped[number] = 1
+            key = number
+            fits = quoted == rule[number]
+            if (choice(rule[number])) {
+                atoms(quoted, list); key = number " " list[1]
+                fits = body(quoted) == body(rule[number]) && index(rule[number], list[1])
+            }
+            if (!(key in met) && !fits && quoted !~ / \.\. and [0-9]+ more\.$/) { print "not the rule: " $0; bad = 1 }
+            if (key in deleted) { print "deleted already: " $0; bad = 1 }
+            met[key] = 1
+            if (/`: deleted, since /) deleted[key] = 1
+            else if (/`: dropped `/) dropped[key] = 1
             else { print "neither: " $0; bad = 1 }
         }
         END {
             for (i = k = 0; i < n; i++) {
-                if (i in deleted) continue
+                for (a = choice(rule[i]) ? atoms(rule[i], list) : 0; a > 0; a--)
+                    if (!((i " " list[a]) in deleted)) expected[list[a]] = 1
+                if (choice(rule[i]) || i in deleted) continue
                 same = rule[i] == left[k]
                 shorter = length(left[k]) < length(rule[i])
                 if ((i in dropped) ? !shorter : !same) { print "left: " left[k] " of: " rule[i]; bad = 1 }
                 k++
             }
+            for (a in expected) if (!(a in chosen)) { print "no choice of: " a; bad = 1 }
+            for (a in chosen) if (!(a in expected)) { print "a choice of: " a; bad = 1 }
             if (k != kept) { print "rules left: " kept " not " k; bad = 1 }
             exit bad
         }' "$1" "$2" "$3" >&2
 }
+
+# through_rules NAME OPTION..: the same stable models, and the same optima, from the ground rules that --to-lp writes.
+through_rules() {
+    what=$1
+    shift
+    build/gambrolt --to-lp "$@" <"$tmp/in" 2>"$tmp/err" | gringo 2>/dev/null >"$tmp/out"
+    models "$tmp/out" --opt-mode=ignore >"$tmp/reduced"
+    expect "$what" same "$tmp/models" "$tmp/reduced"
+    if grep -q '^2 ' "$tmp/in"; then
+        models "$tmp/out" --opt-mode=optN --quiet=1 >"$tmp/reduced"
+        expect "$what: the same best models" same "$tmp/best" "$tmp/reduced"
+    fi
+    if grep -q '^3 ' "$tmp/in"; then
+        models "$tmp/out" --opt-mode=ignore --project >"$tmp/reduced"
+        expect "$what: the same projected models" [ "$(grep -c model "$tmp/reduced")" -eq "$(grep -c model "$tmp/projected")" ]
+    fi
+}
 : >"$tmp/kinds"
 wide=0
 named=0
-for example in examples/*.lp; do
+ordinary=0
+weighted=0
+for example in examples/*.lp examples/ordinary/*.lp; do
     name=${example#examples/}
     ground "$example" >"$tmp/in"
     expect "$name: grounds" [ -s "$tmp/in" ]
-    build/gambrolt "--explain=$tmp/sentences" --stats=json <"$tmp/in" >"$tmp/out" 2>"$tmp/stats"
+    build/gambrolt "--explain=$tmp/sentences" "--stats=json:$tmp/stats" "--steps=$tmp/list" <"$tmp/in" >"$tmp/out" 2>"$tmp/err"
     expect "$name: status 0" [ $? -eq 0 ]
+    expect "$name: nothing to note" [ ! -s "$tmp/err" ]
+    grep -q '^1 1 ' "$tmp/in" && ordinary=$((ordinary + 1))
     models "$tmp/in" --opt-mode=ignore >"$tmp/models"
     models "$tmp/out" --opt-mode=ignore >"$tmp/reduced"
     expect "$name: an answer" grep -q SATISFIABLE "$tmp/models"
@@ -46,24 +82,32 @@ for example in examples/*.lp; do
     if grep -q '^2 ' "$tmp/in"; then
         models "$tmp/in" --opt-mode=optN --quiet=1 >"$tmp/best"
         models "$tmp/out" --opt-mode=optN --quiet=1 >"$tmp/reduced"
-        expect "$name: an optimum" sh -c 'grep -q OPTIMUM "$0" && grep -q "^model" "$0"' "$tmp/best"
+        expect "$name: an optimum" sh -c 'grep -q "^UNSAT" "$0" || { grep -q OPTIMUM "$0" && grep -q "^model" "$0"; }' "$tmp/best"
         expect "$name: the same best models" same "$tmp/best" "$tmp/reduced"
+    fi
+    if grep -q '^3 ' "$tmp/in"; then
+        models "$tmp/in" --opt-mode=ignore --project >"$tmp/projected"
+        models "$tmp/out" --opt-mode=ignore --project >"$tmp/reduced"
+        expect "$name: the same projected models" [ "$(grep -c model "$tmp/reduced")" -eq "$(grep -c model "$tmp/projected")" ]
     fi
     if awk 'NF > 259 && $1 == 1 { wide = 1 } END { exit !wide }' "$tmp/in"; then
         wide=$((wide + 1))
     fi
 
     steps=$(sed -n 's/.*"all": \([0-9]*\),.*/\1/p' "$tmp/stats")
-    expect "$name: a sentence for each step" [ "$(wc -l <"$tmp/sentences")" -eq "$steps" ]
+    expect "$name: a sentence for each step at a rule" \
+        [ "$(wc -l <"$tmp/sentences")" -eq $((steps - $(grep -c '"rule": null' "$tmp/stats"))) ]
+    expect "$name: the list is accepted" sh -c 'build/gambrolt "--check=$1" <"$0" | grep -q "^yes: .* $2 steps"' "$tmp/in" "$tmp/list" "$steps"
     grep '"steps"' "$tmp/stats" >>"$tmp/kinds"
-    build/gambrolt --to-lp --no-reduce <"$tmp/in" >"$tmp/given"
-    build/gambrolt --to-lp <"$tmp/in" >"$tmp/left"
-    expect "$name: sentences fit the rules" fit "$tmp/given" "$tmp/left" "$tmp/sentences"
-    for carried in 2 3 4 6 7 8 10; do
+    for carried in 2 3 4 5 6 7 8 9 10; do
         grep "^$carried " "$tmp/in" >"$tmp/before"
         grep "^$carried " "$tmp/out" >"$tmp/after"
         expect "$name: statements $carried as they came" same "$tmp/before" "$tmp/after"
     done
+    awk '$1 == 1 && $(4 + $3) == 1' "$tmp/in" >"$tmp/before"
+    awk '$1 == 1 && $(4 + $3) == 1' "$tmp/out" >"$tmp/after"
+    expect "$name: weight bodies as they came" same "$tmp/before" "$tmp/after"
+    [ -s "$tmp/before" ] && weighted=$((weighted + 1))
     build/gambrolt <"$tmp/out" >"$tmp/twice"
     expect "$name: nothing is left to reduce" same "$tmp/out" "$tmp/twice"
     build/sanitized/gambrolt --explain --stats --dry-run <"$tmp/in" 2>"$tmp/err"
@@ -72,17 +116,23 @@ for example in examples/*.lp; do
     build/gambrolt --no-reduce <"$tmp/in" >"$tmp/out"
     models "$tmp/out" --opt-mode=ignore >"$tmp/reduced"
     expect "$name: the same models unreduced" same "$tmp/models" "$tmp/reduced"
-    build/gambrolt --to-lp <"$tmp/in" | gringo 2>/dev/null >"$tmp/out"
-    models "$tmp/out" --opt-mode=ignore >"$tmp/reduced"
-    expect "$name: the same models from ground rules" same "$tmp/models" "$tmp/reduced"
-
-    # the same with the names of the ground rules
-    # shellcheck disable=SC2046
-    gringo --text $(sed -n 's/^% ground with: gringo //p' "$example") "$example" >"$tmp/text" 2>/dev/null
-    build/gambrolt --to-lp "--names=$tmp/text" <"$tmp/in" 2>"$tmp/err" | gringo 2>/dev/null >"$tmp/out"
-    models "$tmp/out" --opt-mode=ignore >"$tmp/reduced"
-    expect "$name: the same models from ground rules with all names" same "$tmp/models" "$tmp/reduced"
-    [ -s "$tmp/err" ] || named=$((named + 1))
+    if ! grep -q '^9 ' "$tmp/in"; then # without theories, which readable rules don't have
+        build/gambrolt --to-lp --no-reduce <"$tmp/in" >"$tmp/given"
+        build/gambrolt --to-lp <"$tmp/in" >"$tmp/left"
+        expect "$name: sentences fit the rules" fit "$tmp/given" "$tmp/left" "$tmp/sentences"
+        through_rules "$name: the same models from ground rules"
+        through_rules "$name: the same models from ground rules unreduced" --no-reduce
+        # the same with the names of the ground rules
+        # shellcheck disable=SC2046
+        gringo --text $(sed -n 's/^% ground with: gringo //p' "$example") "$example" >"$tmp/text" 2>/dev/null
+        through_rules "$name: the same models from ground rules with all names" "--names=$tmp/text"
+        [ -s "$tmp/err" ] || named=$((named + 1))
+    fi
+    if [ -s "$tmp/before" ] || grep -q '^1 1 \|^[59] ' "$tmp/in"; then # the text form has none of these
+        build/gambrolt --to-text <"$tmp/in" >"$tmp/text" 2>"$tmp/err"
+        expect "$name: --to-text refuses" sh -c '[ "$1" -eq 1 ] && grep -q "the text form has none" "$0"' "$tmp/err" $?
+        continue
+    fi
 
     # as text: the same number of models, reduced or not, and the same steps
     build/gambrolt --to-text <"$tmp/in" >"$tmp/text"
@@ -95,12 +145,13 @@ for example in examples/*.lp; do
     build/gambrolt --text --steps <"$tmp/text" | sed -n 's/^steps=//p' >"$tmp/count"
     expect "$name: as many steps by text" [ "$(cat "$tmp/count")" = "$steps" ]
 done
-for kind in tautology contradiction success "no head" blocked failure loop subsumed; do
+for kind in tautology contradiction success no_head blocked failure loop subsumed; do
     expect "some example has a step of the kind: $kind" grep -q "\"$kind\": [1-9]" "$tmp/kinds"
 done
 expect "an example has clauses of more than 255 conditions" [ "$wide" -gt 0 ]
-expect "most examples fit their ground rules" [ "$named" -gt 20 ]
-expect "choices are refused before clasp translates them" sh -c '! gringo examples/choices.lp | build/gambrolt >"$0" 2>&1' "$tmp/out"
+expect "most examples fit their ground rules" [ "$named" -gt 40 ]
+expect "twenty examples have choices" [ "$ordinary" -ge 20 ]
+expect "ten examples have weight bodies" [ "$weighted" -ge 10 ]
 
 for example in examples/*.txt; do
     name=${example#examples/}

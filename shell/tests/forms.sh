@@ -278,13 +278,25 @@ reducing            T s
 checking            T s
 END
 expect "statistics" sh -c 'tr -s " " <"$0" | sed "s/ *T s/ T s/" >"$0.1"; tr -s " " <"$1" >"$1.1"; cmp -s "$0.1" "$1.1" || { diff "$0" "$1" >&2; false; }' "$tmp/out" "$tmp/want"
-build/gambrolt --stats=json --dry-run shell/tests/data/kinds.aspif 2>&1 | sed 's/: [0-9]*\.[0-9]*/: T/g' >"$tmp/out"
+build/gambrolt "--stats=json:$tmp/stats" --explain --dry-run shell/tests/data/kinds.aspif >"$tmp/out" 2>"$tmp/err"
+expect "statistics in a file: status 0" [ $? -eq 0 ]
+expect "statistics in a file: sentences alone on standard error" sh -c '[ "$(grep -c "^clause" "$0")" -eq 14 ] && [ "$(wc -l <"$0")" -eq 14 ]' "$tmp/err"
+sed 's/: [0-9]*\.[0-9]*/: T/g' "$tmp/stats" >"$tmp/out"
 cat >"$tmp/want" <<'END'
 {"reduced": true,
  "clauses": {"before": 16, "after": 6},
  "literals": {"before": 26, "after": 3},
  "atoms": {"before": 13, "after": 7},
- "steps": {"all": 14, "tautology": 1, "contradiction": 1, "success": 1, "no head": 3, "blocked": 2, "failure": 3, "loop": 1, "subsumed": 2},
- "seconds": {"reading": T, "reducing": T, "checking": T}}
+ "carried": 0,
+ "steps": {"all": 14, "tautology": 1, "contradiction": 1, "success": 1, "no_head": 3, "blocked": 2, "failure": 3, "loop": 1, "subsumed": 2},
+ "seconds": {"reading": T, "reducing": T, "checking": T},
+ "list": [
+ {"step": [1, 8, 0, 8], "kind": "tautology", "rule": 8, "line": 10, "atom": 9, "name": "t"},
+ {"step": [2, 3, 0, 1], "kind": "contradiction", "rule": 3, "line": 5, "atom": 2, "name": "b"},
+ {"step": [3, 2, 0, 0], "kind": "success", "rule": 2, "line": 4, "partner_rule": 0, "partner_line": 2, "atom": 1, "name": "x_1"},
 END
-expect "statistics in JSON" same "$tmp/want" "$tmp/out"
+head -11 "$tmp/out" >"$tmp/first"
+expect "statistics in JSON" same "$tmp/want" "$tmp/first"
+expect "statistics in JSON: the last step" [ "$(tail -1 "$tmp/out")" = ' {"step": [8, 9, 10, 0], "kind": "subsumed", "rule": 9, "line": 11, "partner_rule": 10, "partner_line": 12}]}' ]
+build/gambrolt --stats=json --dry-run shell/tests/data/kinds.aspif 2>&1 | sed 's/: [0-9]*\.[0-9]*/: T/g' >"$tmp/err"
+expect "statistics in JSON on standard error" same "$tmp/out" "$tmp/err"

@@ -53,12 +53,6 @@ models() {
 
 # ground FILE: aspif of an example, with the options that its comments name.
 ground() {
-    options=$(sed -n 's/^% ground with: gringo //p' "$1")
-    translate=$(sed -n 's/^% needs translation: clasp //p' "$1")
-    # shellcheck disable=SC2086
-    if [ -n "$translate" ]; then
-        gringo $options "$1" 2>/dev/null | clasp $translate
-    else
-        gringo $options "$1" 2>/dev/null
-    fi
+    # shellcheck disable=SC2046
+    gringo $(sed -n 's/^% ground with: gringo //p' "$1") "$1" 2>/dev/null
 }
