@@ -1,14 +1,15 @@
 # make run: proves, builds and runs the program on a bundled order. make test: everything that is checked.
 # make lib: the library for C; make install PREFIX=..: header, library and pkg-config file. make bench: docs/BENCHMARKS.md's table.
 # make shell: the program `gambrolt` in build/; make install-shell: it and its man page. make test-shell: its tests.
-# make fuzz: a minute of a fuzzer on it.
-.PHONY: run test lib install bench test-lib test-c shell install-shell test-shell fuzz clean compiler packages
+# make dist: a tarball of program, library and verdict. make fuzz: a minute of a fuzzer on the program.
+.PHONY: run test lib install bench test-lib test-c shell install-shell test-shell dist fuzz clean compiler packages
 
 PREFIX ?= /usr/local
 LIB_DIR := $(CURDIR)/target/staticlib
 PROGRAM := $(CURDIR)/target/bin/reduce
 BUILD := $(CURDIR)/build
 C_FLAGS := -std=c11 -Wall -Wextra -Werror -O2 -Iinclude
+VERSION := $(shell sed -n 's/^\#define GAMBROLT_VERSION "\(.*\)"/\1/p' include/gambrolt.h)
 CARGO_ENV = MAKEFLAGS= GAMBROLT_LIB_DIR=$(LIB_DIR) CARGO_TARGET_DIR=$(BUILD)
 
 # the program on document 01's sample: the reduced program, then its steps
@@ -35,11 +36,17 @@ test-c: lib | compiler
 	$(BUILD)/reduce-checked > $(BUILD)/reduce.out && diff $(BUILD)/reduce.out examples/c/reduce.stdout
 	@if command -v valgrind >/dev/null; then valgrind -q --error-exitcode=1 $(BUILD)/reduce >/dev/null && echo "valgrind: ok"; fi
 
-install: lib
+install: build/lib/libgambrolt.a
 	install -d $(DESTDIR)$(PREFIX)/include $(DESTDIR)$(PREFIX)/lib/pkgconfig
 	install -m 644 include/gambrolt.h $(DESTDIR)$(PREFIX)/include/
-	install -m 644 $(LIB_DIR)/libgambrolt.a $(DESTDIR)$(PREFIX)/lib/
-	sed 's|@PREFIX@|$(PREFIX)|' include/gambrolt.pc.in > $(DESTDIR)$(PREFIX)/lib/pkgconfig/gambrolt.pc
+	install -m 644 build/lib/libgambrolt.a $(DESTDIR)$(PREFIX)/lib/
+	sed 's|@PREFIX@|$(PREFIX)|; s|@VERSION@|$(VERSION)|' include/gambrolt.pc.in > $(DESTDIR)$(PREFIX)/lib/pkgconfig/gambrolt.pc
+
+# the library as it is installed: with the header's inline functions as functions that other languages can link
+build/lib/libgambrolt.a: $(LIB_DIR)/libgambrolt.a include/gambrolt.h include/messages.c | compiler
+	@mkdir -p build/lib
+	$(CC) $(C_FLAGS) -c include/messages.c -o build/lib/messages.o
+	cp $(LIB_DIR)/libgambrolt.a $@ && ar r $@ build/lib/messages.o
 
 install-shell: shell
 	install -d $(DESTDIR)$(PREFIX)/bin $(DESTDIR)$(PREFIX)/share/man/man1
@@ -54,6 +61,7 @@ LIBGAMBROLT = $(LIB_DIR)/libgambrolt.a
 GAMBROLT_INCLUDE = include
 STRICT = -std=c11 -Wall -Wextra -Werror -I$(GAMBROLT_INCLUDE) -Ishell
 SANITIZE = -g -O1 -fsanitize=address,undefined -fno-sanitize-recover=all -fno-omit-frame-pointer
+DIST = gambrolt-$(VERSION)-x86_64-linux.tar.gz
 SHELL_PARTS = $(filter-out shell/gambrolt.c,$(wildcard shell/*.c))
 SHELL_FILES = $(wildcard shell/*.[ch] shell/tests/*.[ch]) $(GAMBROLT_INCLUDE)/gambrolt.h $(LIBGAMBROLT)
 
@@ -94,8 +102,13 @@ build/lying: $(SHELL_FILES) | compiler
 packages: | compiler
 	@sh shell/tests/packages.sh
 
-test-shell: packages build/gambrolt build/lying build/sanitized/gambrolt build/sanitized/builder build/sanitized/damage
+test-shell: packages dist build/gambrolt build/lying build/sanitized/gambrolt build/sanitized/builder build/sanitized/damage
 	@sh shell/tests/run.sh
+
+# a tarball for machines without the toolchain
+dist: build/$(DIST)
+build/$(DIST): $(SHELL_FILES) build/lib/libgambrolt.a shell/dist.sh shell/gambrolt.1 include/gambrolt.pc.in $(wildcard build/ci.log)
+	@sh shell/dist.sh $(VERSION) $(CC) $(STRICT)
 
 fuzz: $(LIBGAMBROLT)
 	@sh shell/tests/fuzz.sh '$(STRICT)' '$(LIBGAMBROLT)'

@@ -21,7 +21,24 @@
  * The marks. A byte for each word of the table, 1 for kept and 0 for gone. The mark of a clause's first word is 0 where
  * the clause is deleted, that of a body atom where the literal is dropped.
  *
- * The list. Four words a step: kind, target, partner, atom. An unused word is 0.
+ * The list. Four words a step: kind, target, partner, atom. An unused word is 0. 4 times the table's length always
+ * suffices for the list of a reduction.
+ *
+ * The text. Lines in fixed order, each ended by a line feed: atoms= and clauses= with the two numbers, then for each clause
+ * head=, pos= and neg= with its atoms, joined by commas, or with nothing. A number has one to four digits and no leading
+ * zero, save 0 itself; there are no blanks. The program above is
+ *
+ *     atoms=3
+ *     clauses=2
+ *     head=0
+ *     pos=
+ *     neg=
+ *     head=1
+ *     pos=0
+ *     neg=2
+ *
+ * Languages that can't read this header link the functions of the same names that the installed library has for the five
+ * inline ones: gambrolt_version, gambrolt_refusal, gambrolt_value, gambrolt_message, gambrolt_kind_name.
  */
 #ifndef GAMBROLT_H
 #define GAMBROLT_H
@@ -33,7 +50,14 @@
 extern "C" {
 #endif
 
+/* ---- Version --------------------------------------------------------------------------------------------------------- */
+
 #define GAMBROLT_VERSION "1.1.0"
+
+static inline const char *gambrolt_version(void)
+{
+    return GAMBROLT_VERSION;
+}
 
 /* ---- Limits ---------------------------------------------------------------------------------------------------------- */
 
@@ -182,7 +206,8 @@ uint64_t gambrolt_check(const uint16_t *table, size_t table_len, uint8_t *marks,
  * Reduces a program: takes the applicable step that is smallest by kind, target, partner, atom, until none applies: 9, 17.
  * Value: the number s of steps made.
  * marks (at least table_len, of any values): those after the steps.
- * list (at least 4 words for each clause and each body literal): the steps, in its first 4s words.
+ * list (at least 4 words for each clause and each body literal; 4 * table_len always suffices): the steps, in its first
+ * 4s words.
  */
 uint64_t gambrolt_reduce(const uint16_t *table, size_t table_len, uint8_t *marks, size_t marks_len,
                          uint16_t *list, size_t list_len);

@@ -8,14 +8,15 @@
 #include <string.h>
 
 static const struct options every[] = {
-    {.explain = 1, .stats = 1},
-    {.to_lp = 1, .stats = 1, .json = 1},
+    {.explain = 1, .stats = 1, .list = 1},
+    {.to_lp = 1, .stats = 1, .json = 1, .list = 1, .list_json = 1},
     {.no_reduce = 1, .pass_through = 1},
     {.text = 1, .steps = 1}};
 
-/* A sound order, to be read with names from anything. */
-static const char sound[] = "asp 1 0 0\n1 0 2 1 2 0 0\n1 0 1 3 0 3 1 2 -4\n1 0 1 4 0 2 4 -3\n1 0 0 0 1 -3\n4 1 b 1 2\n0\n";
-static const struct options named = {.to_lp = 1, .explain = 1, .names = 1};
+/* A sound order, to be read with names from anything, and checked with any list. */
+static const char sound[] =
+    "asp 1 0 0\n1 0 2 1 2 0 0\n1 0 1 3 0 3 1 2 -4\n1 0 1 4 0 2 4 -3\n1 1 2 5 6 0 1 -7\n1 0 1 7 1 2 2 5 1 6 1\n1 0 0 0 1 -3\n4 1 b 1 2\n0\n";
+static const struct options named = {.to_lp = 1, .explain = 1, .names = 1}, checked = {.check = 1};
 
 /* Makes the order all zeros again. */
 static void reset(struct order *o)
@@ -42,6 +43,11 @@ static int try_every(struct order *o, const char *bytes, size_t len)
     put(&o->bytes, sound, sizeof sound - 1);
     put(&o->ground, bytes, len);
     if (run(o, &named))
+        return -1;
+    reset(o);
+    put(&o->bytes, sound, sizeof sound - 1);
+    put(&o->given, bytes, len);
+    if (run(o, &checked) ? o->output.len > 0 || strncmp(o->fault, "list, line ", 11) != 0 : o->output.len == 0)
         return -1;
     reset(o);
     return refused;
