@@ -197,12 +197,11 @@ static int write_all(const char *name, FILE *stream, const struct buffer *b)
 /* Reports first: where one is lost, no program is written. */
 static int write_result(const struct order *o)
 {
-    const struct buffer *program = dry_run ? &(struct buffer){0} : &o->output;
     if (write_all(explain_file, stderr, &o->explanation) != DONE || write_all(stats_file, stderr, &o->statistics) != DONE ||
         (steps_file && write_all(steps_file, NULL, &o->certificate) != DONE) ||
         write_all(NULL, stderr, &o->notes) != DONE)
         return FAILED;
-    return write_all(dry_run ? NULL : output_file, stdout, program);
+    return dry_run && !options.check ? DONE : write_all(output_file, stdout, &o->output);
 }
 
 int main(int count, char **argument)

@@ -101,6 +101,8 @@ static int put_text(struct order *o, int steps)
 /* An order that can't be reduced: refused, or handed on as it came. */
 static int run_beyond(struct order *o, const struct options *options)
 {
+    if (options->to_lp || options->to_text || options->check) /* which don't go with --pass-through */
+        return refuse(o, "%s", o->beyond);
     if (!options->pass_through)
         return refuse(o, "%s; --pass-through hands it on unreduced", o->beyond);
     putf(&o->notes, "gambrolt: %s; the program is handed on unreduced\n", o->beyond);

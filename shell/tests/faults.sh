@@ -73,3 +73,26 @@ expect "names beside choices and aggregates: no note" [ ! -s "$tmp/err" ]
 for rule in 'cell(1).' '{take(1)' 'full :- heavy.' 'open :- not heavy.'; do
     expect "names beside choices and aggregates: $rule" grep -qF "$rule" "$tmp/out"
 done
+
+# 6: reading takes a fraction of reducing, at full size (the best of ten runs, in microseconds)
+awk 'BEGIN {
+    state = 7; words = 2
+    print "asp 1 0 0"
+    while (words < 8180) {
+        state = (16807 * state) % 2147483647; head = 1 + state % 1024
+        state = (16807 * state) % 2147483647; n = int(state / 1024) % 3
+        line = "1 0 1 " head " 0 " n
+        for (k = 0; k < n; k++) { state = (16807 * state) % 2147483647; line = line (int(state / 2048) % 2 ? " " : " -") 1 + 2 * (state % 512) + k }
+        print line
+        words += 4 + n
+    }
+    print "0"
+}' >"$tmp/in"
+for run in 1 2 3 4 5 6 7 8 9 10; do
+    build/gambrolt --stats=json --dry-run <"$tmp/in" 2>&1 | sed -n 's/.*"reading": \([0-9.]*\), "reducing": \([0-9.]*\),.*/\1 \2/p'
+done | awk '
+    { read = $1 * 1e6; reduced = $2 * 1e6 }
+    NR == 1 || read < best { best = read }
+    NR == 1 || reduced < other { other = reduced }
+    END { print NR, best, other }' >"$tmp/times"
+expect "reading takes less than two thirds of reducing: $(cat "$tmp/times")" awk '{ exit !($1 == 10 && $2 * 3 < $3 * 2) }' "$tmp/times"

@@ -13,6 +13,8 @@ asp 1 0 0
 1 1 1 12 0 2 4 4
 1 1 0 0 1 4
 1 1 1 5 0 1 4
+1 1 1 13 0 1 3
+1 1 1 14 0 1 -4
 0
 END
 cat >"$tmp/want" <<'END'
@@ -20,6 +22,8 @@ asp 1 0 0
 1 1 3 2 3 4 0 0
 1 0 1 5 0 0
 1 1 3 10 11 12 0 1 4
+1 1 1 13 0 1 3
+1 1 1 14 0 1 -4
 0
 END
 writes "choices" ""
@@ -27,6 +31,8 @@ cat >"$tmp/want" <<'END'
 {x_2; x_3; x_4}.
 x_5.
 {x_10; x_11; x_12} :- x_4.
+{x_13} :- x_3.
+{x_14} :- not x_4.
 #show.
 END
 writes "choices as rules" --to-lp
@@ -40,6 +46,8 @@ asp 1 0 0
 1 1 2 10 11 0 1 4
 1 1 1 12 0 1 4
 1 1 1 5 0 1 4
+1 1 1 13 0 1 3
+1 1 1 14 0 1 -4
 0
 END
 writes "choices without a reduction" --no-reduce

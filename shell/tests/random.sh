@@ -27,8 +27,8 @@ random_aspif() {
     awk -v seed="$1" '
         function draw(n) { state = (16807 * state) % 2147483647; return int(state / 7) % n }
         function literal() { return (draw(2) ? "-" : "") 3 * (1 + draw(atoms + 2 * ordinary)) }
-        function body(line, least,   n, k, weights) {
-            n = least + draw(5 - least); weights = ordinary && draw(5) == 0
+        function body(line, least, most,   n, k, weights) {
+            n = least + draw(most - least); weights = ordinary && draw(5) == 0
             line = line (weights ? " 1 " draw(2 + n) " " : " 0 ") n
             for (k = 0; k < n; k++) line = line " " literal() (weights ? " " draw(3) : "")
             return line
@@ -42,10 +42,10 @@ random_aspif() {
             if (ordinary && draw(2)) print "5 " 3 * (atoms + 1) " " draw(4)
             for (i = 0; i < rules; i++) {
                 heads = draw(12); heads = heads == 0 ? 0 : heads < 8 ? 1 : heads - 6 > 3 ? 3 : heads - 6
-                choice = ordinary && draw(3) == 0
+                choice = ordinary && draw(2)
                 line = "1 " choice " " heads
                 for (k = 0; k < heads; k++) line = line " " 3 * (1 + draw(atoms))
-                print body(line, heads == 0)
+                print body(line, heads == 0, choice ? 3 : 5)
             }
             for (i = 1; i <= atoms + 2; i++) print "4 2 q" i % 10 " 2 " 3 * i " " 3 * i
             if (ordinary && draw(2)) print "5 " 3 * (atoms + 2) " " draw(4)
