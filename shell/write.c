@@ -138,8 +138,9 @@ void put_literal(struct buffer *b, const struct order *o, const char *before, in
 /* Head atoms, in braces where they are a choice's. */
 static void put_heads(struct buffer *b, const struct order *o, int choice, const uint32_t *head, size_t heads)
 {
+    putf(b, choice ? "{" : "");
     for (size_t i = 0; i < heads; i++)
-        put_literal(b, o, i == 0 ? choice ? "{" : "" : choice ? "; " : " | ", head[i], "");
+        put_literal(b, o, i == 0 ? "" : choice ? "; " : " | ", head[i], "");
     putf(b, choice ? "}" : "");
 }
 

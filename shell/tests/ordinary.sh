@@ -144,6 +144,9 @@ x_16 :- 3 #sum { 3,0 : x_16; 3,1 : x_18 }.
 #external x_8. [free]
 END
 writes "rules that are carried, as rules" --to-lp
+printf 'asp 1 0 0\n1 1 0 1 1 1 5 1\n1 0 0 1 2 1 5 2\n1 0 2 7 6 1 0 0\n1 1 0 0 0\n0\n' >"$tmp/in"
+printf '{} :- 1 #sum { 1,0 : x_5 }.\n:- 2 #sum { 2,0 : x_5 }.\nx_7 | x_6 :- 0 #sum { }.\n#show.\n' >"$tmp/want"
+writes "heads and bodies of nothing, as rules" --to-lp
 
 # facts that nothing else mentions are led round the table, however many; those that something mentions are in it
 awk 'BEGIN { print "asp 1 0 0"; for (i = 1; i <= 5000; i++) print "1 0 1 " i " 0 0"

@@ -78,6 +78,11 @@ while [ "$seed" -le "${RANDOM_PROGRAMS:-150}" ]; do
     compare "random program $seed"
     random_aspif "$seed" >"$tmp/in"
     compare "random aspif $seed"
+    if [ $((seed % 3)) -eq 0 ] && ! grep -q '^9 ' "$tmp/in"; then
+        build/gambrolt --to-lp <"$tmp/in" 2>/dev/null | gringo 2>/dev/null >"$tmp/out"
+        models "$tmp/out" --opt-mode=ignore >"$tmp/reduced"
+        expect "random aspif $seed: the same stable models from ground rules" same "$tmp/models" "$tmp/reduced"
+    fi
     seed=$((seed + 1))
 done
 expect "most random programs lose rules" [ "$(grep -c changed "$tmp/counts")" -gt "$seed" ]
