@@ -9,7 +9,7 @@ LIB_DIR := $(CURDIR)/target/staticlib
 PROGRAM := $(CURDIR)/target/bin/reduce
 BUILD := $(CURDIR)/build
 C_FLAGS := -std=c11 -Wall -Wextra -Werror -O2 -Iinclude
-VERSION := $(shell sed -n 's/^\#define GAMBROLT_VERSION "\(.*\)"/\1/p' include/gambrolt.h)
+VERSION := $(shell sed -n 's/.*define GAMBROLT_VERSION "\(.*\)"/\1/p' include/gambrolt.h)
 CARGO_ENV = MAKEFLAGS= GAMBROLT_LIB_DIR=$(LIB_DIR) CARGO_TARGET_DIR=$(BUILD)
 
 # the program on document 01's sample: the reduced program, then its steps

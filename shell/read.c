@@ -288,6 +288,7 @@ int read_text(struct order *o)
     if (gambrolt_refusal(answer))
         return refuse_text(o, &text, answer);
     o->bytes = (struct buffer){0};
+    o->shift = 1;
     for (uint32_t a = 0; a < o->table[0]; a++) /* those that no clause has, too */
         o->program.atom[o->program.atoms++] = a + 1;
     putf(&o->bytes, "asp 1 0 0\n");
@@ -297,5 +298,9 @@ int read_text(struct order *o)
         putf(&o->bytes, "4 %d a(%u) 1 %u\n", snprintf(NULL, 0, "a(%u)", a), a, a + 1);
     putf(&o->bytes, "0\n");
     free(text.at);
-    return read_aspif(o);
+    int refused = read_aspif(o);
+    struct statement *s;
+    for (size_t k = 0; (s = statement_at(o, k)); k++)
+        s->line = 3 * s->number + 3; /* where the clause's head= stands in the text */
+    return refused;
 }

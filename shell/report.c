@@ -1,7 +1,6 @@
 /* report.c - what there is to say about a reduction: each step as a sentence, and figures. */
 #include "shell.h"
 
-#include <stdio.h>
 #include <string.h>
 
 #define KINDS 9
@@ -211,14 +210,8 @@ void put_statistics(struct order *o, int json)
     if (o->carried)
         putf(b, "%-16s %8zu %8zu\n", "carried rules", o->carried, o->carried);
     putf(b, "%-16s %8zu\n", "steps", o->steps);
-    for (int k = 1; k < KINDS; k++)
-        {
-        char name[16]; /* as words */
-        snprintf(name, sizeof name, "%s", gambrolt_kind_name((unsigned)k));
-        for (char *c = name; *c; c++)
-            *c = *c == '_' ? ' ' : *c;
-        putf(b, "  %d %-13s%8u\n", k, name, steps[k]);
-    }
+    for (unsigned k = 1; k < KINDS; k++)
+        putf(b, "  %u %-13s%8u\n", k, gambrolt_kind_name(k), steps[k]);
     for (int i = 0; i < 3; i++)
         putf(b, "%-16s %8.3f s\n", times[i], o->seconds[i]);
 }

@@ -71,6 +71,7 @@ struct order {
     char beyond[400];                  /* why it can't be reduced, though it is well-formed */
     struct program program;            /* the table's clauses: rules, choices and guards, with aspif's atoms */
     size_t rules, carried;             /* of the input; those that go past the table as they are */
+    uint32_t shift;                    /* how far the input's atoms are below aspif's: 1 for a text */
     uint64_t taken;                    /* bit k: a name of the order is k letters x, _ and a number */
 
     uint16_t table[GAMBROLT_MAX_WORDS], reduced[GAMBROLT_MAX_WORDS], list[GAMBROLT_MAX_LIST];

@@ -55,7 +55,7 @@ void put_objects(struct buffer *b, const struct order *o)
             uint32_t atom = o->program.atom[with_partner ? o->table[o->start[step[2]] + 3] : step[3]];
             struct buffer name = {0};
             put_literal(&name, o, "", atom, "");
-            putf(b, ", \"atom\": %u, \"name\": ", atom);
+            putf(b, ", \"atom\": %u, \"name\": ", atom - o->shift);
             put_string(b, name.at, name.len);
             free(name.at);
         }

@@ -268,7 +268,7 @@ steps                  14
   1 tautology           1
   2 contradiction       1
   3 success             1
-  4 no head             3
+  4 no_head             3
   5 blocked             2
   6 failure             3
   7 loop                1
