@@ -128,6 +128,8 @@ for example in examples/*.lp examples/ordinary/*.lp; do
         through_rules "$name: the same models from ground rules with all names" "--names=$tmp/text"
         [ -s "$tmp/err" ] || named=$((named + 1))
     fi
+    cat "$tmp/sentences" "$tmp/stats" "$tmp/twice" "$tmp/left" >"$tmp/all" # those of choices are from 2^31 up, of guards from 3 * 2^30
+    expect "$name: no atom of the table's own is told" sh -c '! grep -qE "(^|[^0-9])(2147483[6-9]|214748[4-9]|322122[5-9])" "$0"' "$tmp/all"
     if [ -s "$tmp/before" ] || grep -q '^1 1 \|^[59] ' "$tmp/in"; then # the text form has none of these
         build/gambrolt --to-text <"$tmp/in" >"$tmp/text" 2>"$tmp/err"
         expect "$name: --to-text refuses" sh -c '[ "$1" -eq 1 ] && grep -q "the text form has none" "$0"' "$tmp/err" $?
