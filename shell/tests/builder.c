@@ -66,6 +66,26 @@ static void limits(void)
     EXPECT(gambrolt_check_table(table, p.words) == 0 && table[0] == 1024 && table[1] == 2048);
 }
 
+/* A rule with more new atoms than there is room for: those that came in go again, wherever they stood. */
+static void atoms_go_again(void)
+{
+    static struct program before;
+    program_start(&p);
+    for (uint32_t a = 1; a <= 1022; a++)
+        EXPECT(program_rule(&p, (uint32_t[]){10 * a}, 1, NULL, 0) == PROGRAM_TAKEN);
+    before = p;
+    RULE(PROGRAM_ATOMS, 2, 3, 20000, 5, 555, -5005, 30);
+    RULE(PROGRAM_ATOMS, 3, 0, 1, 2, 3);
+    RULE(PROGRAM_ATOMS, 1, 2, 20000, -20001, 20002);
+    EXPECT(p.atoms == 1022 && p.clauses == 1022 && p.words == before.words);
+    EXPECT(memcmp(p.atom, before.atom, 1022 * sizeof *p.atom) == 0);
+    EXPECT(memcmp(p.word, before.word, p.words * sizeof *p.word) == 0);
+    RULE(PROGRAM_TAKEN, 2, 2, 5, 20000, -5, 30); /* two new ones fit, each once */
+    EXPECT(p.atoms == 1024 && program_number(&p, 5) == 0 && program_number(&p, 20000) == 1023);
+    RULE(PROGRAM_ATOMS, 1, 0, 7);
+    EXPECT(program_table(&p, table) == p.words && gambrolt_check_table(table, p.words) == 0);
+}
+
 static void word_limit(void)
 {
     static int32_t body[1023];
@@ -125,6 +145,7 @@ int main(void)
     example();
     rules();
     limits();
+    atoms_go_again();
     word_limit();
     random_rules();
     return 0;
