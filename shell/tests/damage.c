@@ -55,7 +55,7 @@ static void damage(const struct buffer *whole)
 {
     static const char *const pieces[] = {"", "0", "-", " ", "\n", "\r", "x", "99999999999999999999", "-2147483648",
                                          "2147483647", "4294967295", "\xff", "1 0 1 1 0 0\n", "0\n"};
-    size_t stride = 1 + whole->len / 180; /* of a long file not every place */
+    size_t stride = 1 + whole->len / 110; /* of a long file not every place */
     try(whole->at, whole->len);
     try_carriage_returns(whole);
     try_replaced(whole, 0, 0, "\0", 1);
@@ -76,7 +76,7 @@ static void damage(const struct buffer *whole)
 static void noise(void)
 {
     unsigned long state = 7;
-    for (int round = 0; round < 3000; round++) {
+    for (int round = 0; round < 2000; round++) {
         char bytes[200];
         size_t len = 0, most = (state = state * 16807 % 2147483647) % sizeof bytes;
         if (round % 2 && most >= 10)
