@@ -107,7 +107,8 @@ static enum form read_rule(struct line *l, const char *c)
         c += skipped;
         int negative = body && strncmp(c, "not ", 4) == 0;
         c += 4 * negative;
-        size_t made = strncmp(c, "#delayed", 8) == 0, len = made ? strcspn(c, ")\n") + 1 : name_at(c);
+        size_t made = strncmp(c, "#delayed(", 9) == 0 ? strcspn(c, ")\n") : 0;
+        size_t len = made && c[made] == ')' ? made + 1 : name_at(c);
         if (len == 0)
             return UNREAD;
         put(&l->part[body + negative], &(struct span){made ? NULL : c, len}, sizeof(struct span));

@@ -28,25 +28,36 @@ static void reset(struct order *o)
     memset(o, 0, sizeof *o);
 }
 
+/* A buffer of exactly these bytes and the zero behind them, so that the sanitizer sees who reads on. */
+static void give(struct buffer *b, const char *bytes, size_t len)
+{
+    *b = (struct buffer){malloc(len + 1), len, len + 1};
+    if (!b->at)
+        abort();
+    if (len)
+        memcpy(b->at, bytes, len);
+    b->at[len] = 0;
+}
+
 /* The number of forms that are refused, or -1 where something else happens. The order `o`, all zeros, is used for all. */
 static int try_every(struct order *o, const char *bytes, size_t len)
 {
     int refused = 0;
     for (size_t i = 0; i < sizeof every / sizeof *every; i++) {
-        put(&o->bytes, bytes, len);
+        give(&o->bytes, bytes, len);
         int answer = run(o, &every[i]);
         if (answer ? o->output.len > 0 || strncmp(o->fault, "line ", 5) != 0 : o->output.len == 0)
             return -1;
         refused += answer != 0;
         reset(o);
     }
-    put(&o->bytes, sound, sizeof sound - 1);
-    put(&o->ground, bytes, len);
+    give(&o->bytes, sound, sizeof sound - 1);
+    give(&o->ground, bytes, len);
     if (run(o, &named))
         return -1;
     reset(o);
-    put(&o->bytes, sound, sizeof sound - 1);
-    put(&o->given, bytes, len);
+    give(&o->bytes, sound, sizeof sound - 1);
+    give(&o->given, bytes, len);
     if (run(o, &checked) ? o->output.len > 0 || strncmp(o->fault, "list, line ", 11) != 0 : o->output.len == 0)
         return -1;
     reset(o);
