@@ -84,15 +84,24 @@ struct line {
     int choice;
 };
 
+/* Whether gringo made an atom: an aggregate's last rule has a head of the order, those before it have not. */
+enum made { NOT_MADE, MAYBE, SURELY };
+
 /* What a line is: no rule, a rule that can be read, or another. */
 enum form { NO_RULE_LINE, READ, UNREAD };
 
-/* Takes the rule at c apart. `#delayed(1)` stands for an atom that gringo makes; it gets no name. */
+/* Whether an atom that gringo made stands there, as `#delayed(1)` or `#p_cell(#b(c1),#p)`. It gets no name. */
+static int made_at(const char *c)
+{
+    return strncmp(c, "#delayed(", 9) == 0 || strncmp(c, "#p_", 3) == 0;
+}
+
+/* Takes the rule at c apart. */
 static enum form read_rule(struct line *l, const char *c)
 {
     int body = 0, more = 0;
     l->part[0].len = l->part[1].len = l->part[2].len = 0;
-    if (*c == '\n' || *c == '%' || strncmp(c, ":~", 2) == 0 || (*c == '#' && strncmp(c, "#delayed", 8) != 0))
+    if (*c == '\n' || *c == '%' || strncmp(c, ":~", 2) == 0 || (*c == '#' && !made_at(c)))
         return NO_RULE_LINE;
     l->choice = *c == '{';
     for (c += l->choice; *c != '.'; more = 1) {
@@ -107,12 +116,12 @@ static enum form read_rule(struct line *l, const char *c)
         c += skipped;
         int negative = body && strncmp(c, "not ", 4) == 0;
         c += 4 * negative;
-        size_t made = strncmp(c, "#delayed(", 9) == 0 ? strcspn(c, ")\n") : 0;
-        size_t len = made && c[made] == ')' ? made + 1 : name_at(c);
+        int made = made_at(c);
+        size_t len = name_at(c + made);
         if (len == 0)
             return UNREAD;
         put(&l->part[body + negative], &(struct span){made ? NULL : c, len}, sizeof(struct span));
-        c += len;
+        c += made + len;
     }
     return c[1] == '\n' || c[1] == 0 ? READ : UNREAD;
 }
@@ -132,11 +141,12 @@ static int fits(struct order *o, const struct line *l, const struct rule *r, int
         const struct span *name = (const struct span *)(const void *)(l->part[part].at + used[part]);
         struct atom *a = atom_of(o, (uint32_t)abs(literal));
         used[part] += sizeof *name;
-        if (a->name.at && (!name->at || by_name(&a->name, name)))
+        if (name->at ? a->made == SURELY || (a->name.at && by_name(&a->name, name)) : a->name.at != NULL)
             return 0;
         if (give && name->at)
             a->name = *name;
-        a->made |= give && !name->at;
+        else if (give)
+            a->made = SURELY;
     }
     return 1;
 }
@@ -149,9 +159,9 @@ static int is_made(struct order *o, const struct rule *r, int aggregates)
     if (a && !r->choice && r->literals > 1 && a->minimized && a->mentions == 1 && !a->name.at)
         return 1;
     for (size_t i = 0; i < r->literals; i++)
-        made |= atom_of(o, (uint32_t)abs(r->body[i << r->weights]))->made;
-    if (a && made && aggregates)
-        a->made = 1;
+        made |= atom_of(o, (uint32_t)abs(r->body[i << r->weights]))->made != NOT_MADE;
+    if (a && !a->name.at && made && aggregates && a->made != SURELY)
+        a->made = r->weights ? SURELY : MAYBE;
     return made && aggregates;
 }
 
@@ -224,7 +234,7 @@ static int try_align(struct order *o, const struct span *shown)
     struct atom *a;
     for (size_t k = 0; (a = each_atom(o, k)); k++) {
         a->name = shown ? shown[k] : (struct span){0};
-        a->made = 0;
+        a->made = NOT_MADE;
     }
     int answer = align(o, &l) || repeated(o) ? -1 : 0;
     for (int part = 0; part < 3; part++)

@@ -151,7 +151,7 @@ for kind in tautology contradiction success no_head blocked failure loop subsume
     expect "some example has a step of the kind: $kind" grep -q "\"$kind\": [1-9]" "$tmp/kinds"
 done
 expect "an example has clauses of more than 255 conditions" [ "$wide" -gt 0 ]
-expect "most examples fit their ground rules" [ "$named" -gt 40 ]
+expect "most examples fit their ground rules" [ "$named" -gt 45 ]
 expect "twenty examples have choices" [ "$ordinary" -ge 20 ]
 expect "ten examples have weight bodies" [ "$weighted" -ge 10 ]
 

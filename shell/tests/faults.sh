@@ -62,17 +62,27 @@ echo 'second.' >"$tmp/text"
 build/gambrolt --to-lp "--names=$tmp/text" <"$tmp/in" 2>&1 | grep -c 'second\|do not fit' >"$tmp/out"
 expect "names of some facts: none" [ "$(cat "$tmp/out")" = 1 ]
 
-# choices, and rules that gringo makes for minimize statements and aggregates, fit theirs
+# choices, and rules that gringo makes for minimize statements, aggregates and anonymous variables, fit theirs
 cat >"$tmp/order.lp" <<'END'
 cell(1..3). { take(C) : cell(C) }. heavy :- 2 #sum { C : take(C) }. full :- heavy, not cell(4). :~ take(1), take(2). [3@1]
-{ box(C) : cell(C) } = 1 :- heavy. open :- not heavy. #show take/1.
+{ box(C) : cell(C) } = 1 :- heavy. open :- not heavy. any :- box(_). #show take/1.
 END
 gringo --text "$tmp/order.lp" >"$tmp/text" 2>/dev/null
 gringo "$tmp/order.lp" 2>/dev/null | build/gambrolt --to-lp "--names=$tmp/text" >"$tmp/out" 2>"$tmp/err"
 expect "names beside choices and aggregates: no note" [ ! -s "$tmp/err" ]
-for rule in 'cell(1).' '{take(1)' 'full :- heavy.' 'open :- not heavy.'; do
+for rule in 'cell(1).' '{take(1)' 'full :- heavy.' 'open :- not heavy.' 'any :- box(3).'; do
     expect "names beside choices and aggregates: $rule" grep -qF "$rule" "$tmp/out"
 done
+echo '{ a; b }. heavy :- 2 { a; b }. { c; d } = 1 :- heavy. #show a/0.' >"$tmp/order.lp"
+gringo --text "$tmp/order.lp" >"$tmp/text"
+gringo "$tmp/order.lp" | build/gambrolt --to-lp "--names=$tmp/text" >"$tmp/out" 2>"$tmp/err"
+expect "a name that stands behind an aggregate" grep -q "^heavy :- x_[0-9]*\.$" "$tmp/out"
+echo 'fits(1..2,7). { take(C) : fits(C,_) }. any :- not take(_), fits(_,7). #show take/1.' >"$tmp/order.lp"
+gringo --text "$tmp/order.lp" >"$tmp/text" 2>/dev/null
+expect "an atom that gringo makes" grep -q '^#p_' "$tmp/text"
+gringo "$tmp/order.lp" | build/gambrolt --to-lp "--names=$tmp/text" >"$tmp/out" 2>"$tmp/err"
+expect "names beside anonymous variables: no note" [ ! -s "$tmp/err" ]
+expect "names beside anonymous variables" sh -c 'grep -qF "fits(2,7)." "$0" && grep -q "^any :- not x_[0-9]*\.$" "$0"' "$tmp/out"
 
 # 6: reading takes a fraction of reducing, at full size (the best of ten runs, in microseconds)
 awk 'BEGIN {
