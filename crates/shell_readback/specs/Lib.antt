@@ -1,0 +1,2 @@
+pub mod Readback
+pub mod Laid
