@@ -2,7 +2,8 @@
 # make lib: the library for C; make install PREFIX=..: header, library and pkg-config file. make bench: docs/BENCHMARKS.md's table.
 # make shell: the program `gambrolt` in build/; make install-shell: it and its man page. make test-shell: its tests.
 # make dist: a tarball of program, library and verdict. make fuzz: a minute of a fuzzer on the program.
-.PHONY: run test lib install bench test-lib test-c shell install-shell test-shell dist fuzz clean compiler packages
+# make program: the program `gambrolt-reduce` in build/, which ends with a status.
+.PHONY: run test lib install bench test-lib test-c shell install-shell test-shell dist fuzz clean compiler packages program
 
 PREFIX ?= /usr/local
 LIB_DIR := $(CURDIR)/target/staticlib
@@ -24,7 +25,7 @@ lib: $(LIB_DIR)/libgambrolt.a
 	@echo "the library: $(LIB_DIR)/libgambrolt.a; its header: $(CURDIR)/include/gambrolt.h"
 
 # the library and the program against an independent implementation of document 01; GAMBROLT_ROUNDS=10 for a larger run
-test-lib: lib $(PROGRAM) | compiler
+test-lib: lib $(PROGRAM) $(BUILD)/gambrolt-reduce | compiler
 	$(CARGO_ENV) cargo test --offline --release --manifest-path tests/Cargo.toml
 
 # the example in C: what it prints, and what valgrind, or else the address sanitizer, says of it
@@ -78,6 +79,17 @@ $(LIB_DIR)/libgambrolt.a: crates.txt $(shell find crates)
 $(PROGRAM): crates.txt $(shell find crates) | $(LIB_DIR)/libgambrolt.a
 	@rt check reduce
 	@touch $@
+
+# the program with its exit status: C over the function that it runs, which is all of it
+program: $(BUILD)/gambrolt-reduce
+
+$(LIB_DIR)/libreduce_streams.a: crates.txt $(shell find crates) | $(PROGRAM)
+	@rt staticlib reduce_streams
+	@touch $@
+
+$(BUILD)/gambrolt-reduce: reduce/main.c $(LIB_DIR)/libreduce_streams.a | compiler
+	@mkdir -p $(BUILD)
+	$(CC) $(C_FLAGS) $^ -o $@
 
 shell: build/gambrolt
 

@@ -6,7 +6,7 @@ mod incremental;
 mod timing;
 
 use gambrolt_tests::make::shapes::{Shape, SHAPES};
-use gambrolt_tests::paper::program::{words, Clause, Program};
+use gambrolt_tests::independent::program::{words, Clause, Program};
 use gambrolt_tests::rescan::Reducer;
 use timing::{best, best_by_turns, once};
 

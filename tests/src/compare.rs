@@ -1,6 +1,6 @@
 //! One call of the library beside document 01: the same answer, and the same memory afterwards.
 use crate::library;
-use crate::paper::{self, Answer, Refused};
+use crate::independent::{self, Answer, Refused};
 use std::fmt::Debug;
 
 /// How many calls were compared, how often each question refused one, and how many steps of each kind were made.
@@ -24,13 +24,13 @@ impl Tally {
     }
 
     /// Compares what a call gave with what document 01 says, both with all memory that was lent for writing.
-    fn same<M: PartialEq>(&mut self, input: &dyn Debug, answer: Answer, paper: M, given: u64, library: M) -> Answer {
+    fn same<M: PartialEq>(&mut self, input: &dyn Debug, answer: Answer, independent: M, given: u64, library: M) -> Answer {
         self.cases += 1;
         if let Err(refused) = answer {
             self.met[refused.number as usize] += 1;
         }
         assert!(given == code(answer), "{input:?}\nanswer {:x}, document 01 has {answer:?}", given);
-        assert!(library == paper, "{input:?}\nthe memory afterwards is not document 01's; the answer {answer:?} is");
+        assert!(library == independent, "{input:?}\nthe memory afterwards is not document 01's; the answer {answer:?} is");
         answer
     }
 
@@ -42,13 +42,13 @@ impl Tally {
     }
 
     pub fn check_table(&mut self, table: &[u16]) -> Answer {
-        let answer = paper::table::check_table(table);
+        let answer = independent::table::check_table(table);
         self.same(&("check_table", table), answer, (), library::check_table(table), ())
     }
 
     /// The answer, and the marks afterwards.
     pub fn check(&mut self, table: &[u16], marks: &[u8], list: &[u16]) -> (Answer, Vec<u8>) {
-        let (answer, after) = paper::list::check(table, marks, list);
+        let (answer, after) = independent::list::check(table, marks, list);
         let (given, bytes) = library::check(table, marks, list);
         match answer {
             Err(Refused { number: 12..=16, place }) => self.count(list, place),
@@ -60,7 +60,7 @@ impl Tally {
 
     /// The answer, and the marks and the list afterwards.
     pub fn reduce(&mut self, table: &[u16], marks: &[u8], list: &[u16]) -> (Answer, Vec<u8>, Vec<u16>) {
-        let (answer, after, steps) = paper::reduce::reduce(table, marks, list);
+        let (answer, after, steps) = independent::reduce::reduce(table, marks, list);
         let (given, bytes, words) = library::reduce(table, marks, list);
         self.count(&steps, answer.unwrap_or(0));
         (self.same(&("reduce", table, marks), answer, (&after, &steps), given, (&bytes, &words)), after, steps)
@@ -68,24 +68,24 @@ impl Tally {
 
     /// The answer, and the out slice afterwards.
     pub fn reduced_table(&mut self, table: &[u16], marks: &[u8], out: &[u16]) -> (Answer, Vec<u16>) {
-        let (answer, after) = paper::reduced::reduced_table(table, marks, out);
+        let (answer, after) = independent::reduced::reduced_table(table, marks, out);
         let (given, words) = library::reduced_table(table, marks, out);
         (self.same(&("reduced_table", table, marks, out.len()), answer, &after, given, &words), after)
     }
 
     pub fn test(&mut self, table: &[u16], set: &[u16]) -> Answer {
-        let answer = paper::stable::test(table, set);
+        let answer = independent::stable::test(table, set);
         self.same(&("test", table, set), answer, (), library::test(table, set), ())
     }
 
     pub fn cycle(&mut self, table: &[u16]) -> Answer {
-        let answer = paper::cycle::cycle(table);
+        let answer = independent::cycle::cycle(table);
         self.same(&("cycle", table), answer, (), library::cycle(table), ())
     }
 
     /// The answer, and the table slice afterwards.
     pub fn read_text(&mut self, text: &[u8], table: &[u16]) -> (Answer, Vec<u16>) {
-        let (answer, after) = paper::text::read_text(text, table);
+        let (answer, after) = independent::text::read_text(text, table);
         let (given, words) = library::read_text(text, table);
         let shown = String::from_utf8_lossy(text);
         (self.same(&("read_text", shown, table.len()), answer, &after, given, &words), after)
@@ -93,7 +93,7 @@ impl Tally {
 
     /// The answer, and the out slice afterwards.
     pub fn write_text(&mut self, table: &[u16], out: &[u8]) -> (Answer, Vec<u8>) {
-        let (answer, after) = paper::text::write_text(table, out);
+        let (answer, after) = independent::text::write_text(table, out);
         let (given, bytes) = library::write_text(table, out);
         (self.same(&("write_text", table, out.len()), answer, &after, given, &bytes), after)
     }

@@ -1,6 +1,6 @@
 //! A straightforward reducer: it looks through all kinds, targets and partners or atoms again after every step. What a
 //! round needs of the whole program (heads, facts, the reach) it works out once a round.
-use crate::paper::program::{Clause as Given, Program};
+use crate::independent::program::{Clause as Given, Program};
 
 struct Clause {
     head: Vec<u16>,

@@ -2,8 +2,8 @@
 //! input, and each call of the library does the same, in all of the memory that is lent to it.
 #![deny(warnings)]
 use gambrolt_tests::compare::Tally;
-use gambrolt_tests::paper::program::{parse, words};
-use gambrolt_tests::paper::Answer;
+use gambrolt_tests::independent::program::{parse, words};
+use gambrolt_tests::independent::Answer;
 
 const INPUT: &[u8] = include_bytes!("../../crates/cases/stdin");
 const OUTPUT: &[u8] = include_bytes!("../../crates/cases/stdout");

@@ -3,9 +3,9 @@
 use gambrolt_tests::compare::Tally;
 use gambrolt_tests::library;
 use gambrolt_tests::make::shapes::SHAPES;
-use gambrolt_tests::paper::program::{parse, words, Clause, Program};
-use gambrolt_tests::paper::table::Table;
-use gambrolt_tests::paper::{Answer, Refused};
+use gambrolt_tests::independent::program::{parse, words, Clause, Program};
+use gambrolt_tests::independent::table::Table;
+use gambrolt_tests::independent::{Answer, Refused};
 use gambrolt_tests::rescan::Reducer;
 
 fn refused(number: u64, place: u64) -> Answer {

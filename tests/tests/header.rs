@@ -2,8 +2,8 @@
 //! and the library refuse by it, each kind's that of a step which they make, and each limit's is document 01's.
 #![deny(warnings)]
 use gambrolt_tests::compare::Tally;
-use gambrolt_tests::paper::program::{parse, words};
-use gambrolt_tests::paper::Answer;
+use gambrolt_tests::independent::program::{parse, words};
+use gambrolt_tests::independent::Answer;
 
 const HEADER: &str = include_str!("../../include/gambrolt.h");
 

@@ -3,7 +3,7 @@
 #![deny(warnings)]
 use gambrolt_tests::compare::Tally;
 use gambrolt_tests::library;
-use gambrolt_tests::paper::{Answer, Refused};
+use gambrolt_tests::independent::{Answer, Refused};
 
 fn refused(number: u64, place: u64) -> Answer {
     Err(Refused { number, place })

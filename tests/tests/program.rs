@@ -1,34 +1,45 @@
-//! The program `reduce`, run on texts: it prints what document 01's literal implementation gives, and ends with status 0.
+//! The program `reduce`, run on texts: it prints what document 01's literal implementation gives. It is run as the Rattle program, which has no status to give,
+//! and with the exit status that `reduce/main.c` gives it.
 #![deny(warnings)]
 use gambrolt_tests::make::programs::any_size;
 use gambrolt_tests::make::texts;
-use gambrolt_tests::paper::filter::output;
+use gambrolt_tests::independent::filter::output;
 use gambrolt_tests::random::Random;
 use std::io::Write;
 use std::process::{Command, Stdio};
 
 const PROGRAM: &str = concat!(env!("CARGO_MANIFEST_DIR"), "/../target/bin/reduce");
 
+/// The same function, with its exit status.
+const WITH_STATUS: &str = concat!(env!("CARGO_MANIFEST_DIR"), "/../build/gambrolt-reduce");
+
+const SAMPLE: &[u8] = include_bytes!("../../examples/sample.txt");
+
 /// The text of the empty program.
 const SHORT: &[u8] = b"atoms=0\nclauses=0\n";
 
-/// What the program prints for a text.
-fn run(text: &[u8]) -> String {
-    let mut command = Command::new(PROGRAM);
-    let mut program =
-        command.stdin(Stdio::piped()).stdout(Stdio::piped()).spawn().expect("`rt check reduce` builds it");
+/// What a program prints for a text, and its exit status.
+fn run(program: &str, text: &[u8]) -> (String, Option<i32>) {
+    let mut command = Command::new(program);
+    let mut program = command.stdin(Stdio::piped()).stdout(Stdio::piped()).spawn().expect("`make test-lib` builds it");
     // of a text that is too long it reads one byte past the limit, so the rest may not be taken
     let _ = program.stdin.take().unwrap().write_all(text);
     let done = program.wait_with_output().unwrap();
-    assert!(done.status.success(), "{}", done.status);
-    String::from_utf8(done.stdout).unwrap()
+    (String::from_utf8(done.stdout).unwrap(), done.status.code())
 }
 
 /// Runs the program, and compares; what it prints.
 fn compared(text: &[u8]) -> String {
-    let printed = run(text);
+    let (printed, status) = run(PROGRAM, text);
     assert_eq!(printed, output(text), "{}", text.escape_ascii());
+    assert_eq!(status, Some(0));
     printed
+}
+
+/// The status of the program with this input and output, as a shell writes them.
+fn status(redirected: &str) -> Option<i32> {
+    let command = format!("exec '{WITH_STATUS}' {redirected}");
+    Command::new("sh").args(["-c", &command]).stdin(Stdio::null()).stdout(Stdio::null()).status().unwrap().code()
 }
 
 #[test]
@@ -58,8 +69,7 @@ fn long_texts() {
 #[test]
 fn taken_texts() {
     assert_eq!(compared(SHORT), "atoms=0\nclauses=0\nsteps=0\n");
-    let sample = include_bytes!("../../examples/sample.txt");
-    assert!(compared(sample).ends_with("steps=4\nstep=1,2,0,3\nstep=3,1,0,0\nstep=6,3,0,3\nstep=4,1,0,2\n"));
+    assert!(compared(SAMPLE).ends_with("steps=4\nstep=1,2,0,3\nstep=3,1,0,0\nstep=6,3,0,3\nstep=4,1,0,2\n"));
     let (mut taken, mut refused) = (0, 0);
     for seed in 0..400 {
         let random = &mut Random::new(seed);
@@ -68,4 +78,30 @@ fn taken_texts() {
         *(if printed.starts_with("refused=") { &mut refused } else { &mut taken }) += 1;
     }
     assert!(taken > 50 && refused > 50, "{taken} taken, {refused} refused");
+}
+
+/// "22 Are there at most 65,536 bytes?"
+#[test]
+fn one_byte_too_many() {
+    assert_eq!(compared(&[b'x'; 65536]), "refused=24,0\n");
+    assert_eq!(compared(&[b'x'; 65537]), "refused=22,0\n");
+}
+
+/// 0 done, 1 refused, 2 where reading or writing fails.
+#[test]
+fn exit_status() {
+    let sample = (run(PROGRAM, SAMPLE).0, Some(0));
+    assert_eq!(run(WITH_STATUS, SAMPLE), sample);
+    assert_eq!(run(WITH_STATUS, SHORT), ("atoms=0\nclauses=0\nsteps=0\n".into(), Some(0)));
+    assert_eq!(run(WITH_STATUS, b""), ("refused=24,0\n".into(), Some(1)));
+    assert_eq!(run(WITH_STATUS, &[b'x'; 65537]), ("refused=22,0\n".into(), Some(1)));
+    let sample = concat!(env!("CARGO_MANIFEST_DIR"), "/../examples/sample.txt");
+    assert_eq!(status(&format!("< '{sample}'")), Some(0));
+    assert_eq!(status("< /dev/null"), Some(1));
+    assert_eq!(status(&format!("< '{sample}' > /dev/full")), Some(2));
+    assert_eq!(status("< /dev/null > /dev/full"), Some(2));
+    assert_eq!(status(&format!("< '{sample}' >&-")), Some(2));
+    assert_eq!(status("<&-"), Some(2));
+    // a directory can be opened, and not read
+    assert_eq!(status("< /"), Some(2));
 }

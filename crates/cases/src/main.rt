@@ -202,7 +202,7 @@ fn exchange(text: &[u8], out: &mut [u8]) -> usize {
 
 fn run_table(words: &[u16]) {
     print_answer(gambrolt::gambrolt_check_table(words));
-    let checked = questions::check_table(words);
+    let checked = table_questions::check_table(words);
     let Checked::Valid(t) = checked else {
         return;
     };

@@ -11,7 +11,8 @@ use Rattle.rewriting.specs.Marked.{entry}
 use Rattle.rewriting.specs.Steps.{Step}
 use Rattle.table.specs.Questions.{Passed}
 use Rattle.table.specs.Places.{headAt, posAt, negAt, nextAt, startFrom, startOf}
-use Rattle.table.specs.View.{part, entryAt, entriesFrom, view, clears, marksAfter, marksAfterAll}
+use Rattle.table.specs.View.{part, entryAt, entriesFrom, view}
+use Rattle.table.specs.Effects.{clears, marksAfter, marksAfterAll}
 use Rattle.table.proofs.Places.{passed-good}
 use Rattle.table.proofs.View.{length-after}
 

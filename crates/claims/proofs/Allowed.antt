@@ -13,19 +13,21 @@ use borrow.Author.Tests.{eq-eqb, le-leb, lt-ltb}
 use Rattle.semantics.specs.Programs.{Clause}
 use Rattle.semantics.proofs.Tests.{or-left, or-right, and-iff}
 use Rattle.rewriting.specs.Marked.{entry}
-use Rattle.rewriting.specs.Steps.{Kind, tautology, contradiction, success, noHead, blocked, failure, loop, subsumed, Step, applies, accepted}
+use Rattle.rewriting.specs.Steps.{Step, applies}
+use Rattle.rewriting.specs.Runs.{accepted}
+use Rattle.rewriting.specs.Kinds.{Kind, tautology, contradiction, success, noHead, blocked, failure, loop, subsumed}
 use Rattle.table.specs.Questions.{Passed}
 use Rattle.table.specs.Places.{posAt, negAt, nextAt, startFrom, startOf}
-use Rattle.table.specs.View.{view, allKept, find, clears, marksAfter, marksAfterAll}
+use Rattle.table.specs.View.{view, allKept}
+use Rattle.table.specs.Effects.{find, clears, marksAfter, marksAfterAll}
 use Rattle.table.proofs.View.{at-step, view-after, length-after}
 use Rattle.table.proofs.Parts.{allKept-one, length-allKept, view-allKept}
-use Rattle.compaction.specs.declared.CompactAnswer.the-variants as compacted
-use Rattle.compaction.specs.Reduced.{reducedAnswer}
-use Rattle.sizes.specs.Leaves.{reduced}
-use Rattle.marks.specs.Allowed.{clearableIn, clearableFrom, allowed}
-use Rattle.reductions.specs.declared.ReduceAnswer.the-variants as answer
-use Rattle.reductions.specs.Reductions.{stepsOf, reduction}
-use Rattle.reductions.proofs.Taken.{taken, steps-accepted, lengths-kept}
+use Rattle.answers.specs.declared.Answer.the-variants.{Accepted}
+use Rattle.reduced_table.specs.Reduced.{reducedAnswer}
+use Rattle.reduced_sizes.specs.Leaves.{reduced}
+use Rattle.reduced_marks.specs.Allowed.{clearableIn, clearableFrom, allowed}
+use Rattle.reducer_results.specs.Reductions.{stepsOf, reduction}
+use Rattle.reducer_results.proofs.Taken.{reducer-taken, steps-accepted, lengths-kept}
 use Rattle.claims.proofs.Reduced.{reduced-fits}
 
 -- ---- the places that a step clears
@@ -89,10 +91,10 @@ list-allowed ws p (s ∷ l) ms b h o =
     list-allowed ws p l (marksAfter ws ms s) (omega (arith, length-after ws ms s)) (subst (λ P. So (accepted (getD ws 0 0) P l)) (sym (view-after ws ms p b (getD ws 0 0) s (w .0))) (w .1)) (step-allowed ws ms p b s (w .0) o)
 
 -- The reduced table of the reducer's marks is written wherever it fits.
-pub reducer-compacts : (ws ms ls out : List ℕ) (s : ℕ) → reduction ws ms ls .answer ≡ answer.Accepted s → length (reduced ws (reduction ws ms ls .marks)) ≤ length out
-    → reducedAnswer ws (reduction ws ms ls .marks) out ≡ compacted.Accepted (length (reduced ws (reduction ws ms ls .marks)))
+pub reducer-compacts : (ws ms ls out : List ℕ) (s : ℕ) → reduction ws ms ls .answer ≡ Accepted s → length (reduced ws (reduction ws ms ls .marks)) ≤ length out
+    → reducedAnswer ws (reduction ws ms ls .marks) out ≡ Accepted (length (reduced ws (reduction ws ms ls .marks)))
 reducer-compacts ws ms ls out s h f =
-    let t = taken ws ms ls s h in
+    let t = reducer-taken ws ms ls s h in
     let p = t .passed in
     let a = list-allowed ws p (stepsOf ws) (allKept ws ms) (omega (arith, length-allKept ws ms (t .marked), t .marked))
     (subst (λ P. So (accepted (getD ws 0 0) P (stepsOf ws))) (sym (view-allKept ws ms p)) (steps-accepted ws p)) (λ i b. one-allowed ws (allKept ws ms) i (allKept-one ws ms i b)) in

@@ -3,6 +3,7 @@ use mathlib.Core.Path.{_≡_, refl, sym, ap, subst, _∙_}
 use mathlib.Core.Logic.{_↔_, _≢_, _⊎_, inl, inr, Iff·trans, Iff·rfl}
 use mathlib.Core.Bool.{Bool, true, false, So}
 use mathlib.Core.List.{List}
+use mathlib.Core.Option.{none, some}
 use Prim.Native.Nat.{ℕ, zero, suc, _+_, _-_, _/_, _≤_, _<_}
 use native.Mathlib.Omega.{arith}
 use lib.Dec.{leb}
@@ -13,68 +14,71 @@ use Rattle.semantics.specs.Programs.{Atoms, program, Stable}
 use Rattle.rewriting.specs.Marked.{left}
 use Rattle.rewriting.specs.Steps.{applies}
 use Rattle.rewriting.proofs.Sound.{step-sound}
-use Rattle.table.specs.declared.StepQuestion.{StepQuestion}
-use Rattle.table.specs.declared.StepQuestion.the-variants.{KindKnown, TargetKept, PartnerKept, AtomKnown, ConditionHolds}
-use Rattle.table.specs.declared.CallQuestion.{CallQuestion}
-use Rattle.table.specs.declared.CallQuestion.the-variants.{MarksLength, ListLength}
-use Rattle.table.specs.declared.Refusal.{Refusal}
-use Rattle.table.specs.declared.Refusal.the-variants as refusal
+use Rattle.answers.specs.declared.StepQuestion.{StepQuestion}
+use Rattle.answers.specs.declared.StepQuestion.the-variants.{KindKnown, TargetKept, PartnerKept, AtomKnown, ConditionHolds}
+use Rattle.answers.specs.declared.CallQuestion.{CallQuestion}
+use Rattle.answers.specs.declared.CallQuestion.the-variants.{MarksLength, ListLength}
+use Rattle.answers.specs.declared.Refusal.{Refusal}
+use Rattle.answers.specs.declared.Refusal.the-variants as refusal
 use Rattle.table.specs.declared.Checked.{Checked}
 use Rattle.table.specs.declared.Checked.the-variants as checked
-use Rattle.table.specs.Refusals.{stepNumber, refusalNumber}
-use Rattle.table.specs.Questions.{Passed, tableOf}
+use Rattle.answers.specs.Refusals.{stepNumber, refusalNumber}
+use Rattle.answers.specs.Answers.{ask}
+use Rattle.table.specs.Questions.{Passed, tableOf, onTable}
 use Rattle.table.proofs.Refused.{table-refused}
-use Rattle.table.specs.Places.{programOf}
-use Rattle.table.specs.View.{view, allKept, marksAfter}
+use Rattle.table.specs.Programs.{programOf}
+use Rattle.table.specs.View.{view, allKept}
+use Rattle.table.specs.Effects.{marksAfter}
 use Rattle.table.proofs.Laws.{one-left}
 use Rattle.table.proofs.Encoding.{valid-passed}
 use Rattle.table.proofs.View.{view-after, length-after, clears-lt}
 use Rattle.table.proofs.Parts.{left-allKept, length-allKept}
-use Rattle.conditions.specs.Known.{stepOf}
-use Rattle.checker.specs.declared.CheckAnswer.the-variants.{Accepted, Refused}
-use Rattle.steps.specs.declared.Verdict.{Verdict}
-use Rattle.sizes.specs.Leaves.{leftProgram}
-use Rattle.steps.specs.declared.Verdict.the-variants.{Fine, No}
-use Rattle.checker.specs.Lists.{stepAt, Outcome, refused, onward, stepsFrom, listFits, askCall, checkOn, checkList}
-use Rattle.steps.specs.Verdicts.{stepQuestions}
-use Rattle.steps.proofs.Laws.{fine-applies}
-use Rattle.checker.proofs.Walks.{check-made}
+use Rattle.answers.specs.declared.Answer.the-variants.{Accepted, Refused}
+use Rattle.step_questions.specs.declared.Verdict.{Verdict}
+use Rattle.reduced_sizes.specs.Leaves.{leftProgram}
+use Rattle.step_questions.specs.declared.Verdict.the-variants.{Fine, No}
+use Rattle.step_lists.specs.Lists.{Outcome, leaving, stepsFrom, listFits, checkList}
+use Rattle.table.specs.StepWords.{stepAt}
+use Rattle.step_questions.proofs.Laws.{onVerdict, on-no, fine-applies}
+use Rattle.step_lists.specs.Leaves.{wordsAt}
+use Rattle.step_lists.proofs.Walks.{verdictOn, steps-verdict, check-made}
+use Rattle.claims.proofs.Said.{firstNo}
 
 -- ---- the steps
 
 module _ (ws ls : List ℕ) (passed : Passed ws) where
   -- what holds of the marks and is kept by every applicable step holds of the marks that the steps leave
-  steps-keep : (Q : List ℕ → Type 0) → ((ms : List ℕ) (k : ℕ) → length ws ≤ length ms → So (applies (getD ws 0 0) (view ws ms) (stepOf (stepAt ls k))) → Q (marksAfter ws ms (stepOf (stepAt ls k))) → Q ms)
+  steps-keep : (Q : List ℕ → Type 0) → ((ms : List ℕ) (k : ℕ) → length ws ≤ length ms → So (applies (getD ws 0 0) (view ws ms) (stepAt ls k)) → Q (marksAfter ws ms (stepAt ls k)) → Q ms)
       → (left k : ℕ) (ms : List ℕ) → length ws ≤ length ms → Q (stepsFrom ws ms ls k left .marks) → Q ms
-  unfolding stepsFrom
+  unfolding stepsFrom onVerdict
   steps-keep Q f zero k ms l q = q
-  steps-keep Q f (suc left) k ms l q = go (stepQuestions (getD ws 0 0) (view ws ms) (stepAt ls k)) refl q
-      (λ a. steps-keep Q f left (k + 1) (marksAfter ws ms (stepOf (stepAt ls k))) (omega (arith, length-after ws ms (stepOf (stepAt ls k)))) a)
+  steps-keep Q f (suc left) k ms l q = go (verdictOn ws ms ls k) refl (subst (λ o. Q (o .marks)) (steps-verdict ws ms ls k left) q)
+      (λ a. steps-keep Q f left (k + 1) (marksAfter ws ms (stepAt ls k)) (omega (arith, length-after ws ms (stepAt ls k))) a)
     where
-      go : (v : Verdict) → stepQuestions (getD ws 0 0) (view ws ms) (stepAt ls k) ≡ v
-          → Q (onward v k ms (stepsFrom ws (marksAfter ws ms (stepOf (stepAt ls k))) ls (k + 1) left) .marks)
-          → (Q (stepsFrom ws (marksAfter ws ms (stepOf (stepAt ls k))) ls (k + 1) left .marks) → Q (marksAfter ws ms (stepOf (stepAt ls k)))) → Q ms
-      go Fine e q r = f ms k l (fine-applies (getD ws 0 0) (view ws ms) (stepAt ls k) (sym e)) (r q)
+      go : (v : Verdict) → verdictOn ws ms ls k ≡ v
+          → Q (onVerdict (λ x. leaving ms (refusal.Step x k)) (stepsFrom ws (marksAfter ws ms (stepAt ls k)) ls (k + 1) left) v .marks)
+          → (Q (stepsFrom ws (marksAfter ws ms (stepAt ls k)) ls (k + 1) left .marks) → Q (marksAfter ws ms (stepAt ls k))) → Q ms
+      go Fine e q r = f ms k l (fine-applies (getD ws 0 0) (view ws ms) (wordsAt ls k) (sym e)) (r q)
       go (No x) e q r = q
 
   steps-models : (left k : ℕ) (ms : List ℕ) → length ws ≤ length ms → (M : Atoms) → Stable (leftProgram ws ms) M ↔ Stable (leftProgram ws (stepsFrom ws ms ls k left .marks)) M
   steps-models left k ms l M = steps-keep (λ x. Stable (leftProgram ws x) M ↔ Stable (leftProgram ws (stepsFrom ws ms ls k left .marks)) M)
-      (λ x j b h r. Iff·trans (subst (λ P. Stable (leftProgram ws x) M ↔ Stable (program (getD ws 0 0) (Rattle.rewriting.specs.Marked.left P)) M) (sym (view-after ws x passed b (getD ws 0 0) (stepOf (stepAt ls j)) h)) (step-sound (getD ws 0 0) (view ws x) (stepOf (stepAt ls j)) h M)) r)
+      (λ x j b h r. Iff·trans (subst (λ P. Stable (leftProgram ws x) M ↔ Stable (program (getD ws 0 0) (Rattle.rewriting.specs.Marked.left P)) M) (sym (view-after ws x passed b (getD ws 0 0) (stepAt ls j) h)) (step-sound (getD ws 0 0) (view ws x) (stepAt ls j) h M)) r)
       left k ms l Iff·rfl
 
   steps-past : (left k : ℕ) (ms : List ℕ) → length ws ≤ length ms → drop (length ws) (stepsFrom ws ms ls k left .marks) ≡ drop (length ws) ms
   unfolding marksAfter
   steps-past left k ms l = steps-keep (λ x. drop (length ws) (stepsFrom ws ms ls k left .marks) ≡ drop (length ws) x)
-      (λ x j b h r. r ∙ drop-set-lt (length ws) x _ 0 (clears-lt ws x passed b (getD ws 0 0) (stepOf (stepAt ls j)) h))
+      (λ x j b h r. r ∙ drop-set-lt (length ws) x _ 0 (clears-lt ws x passed b (getD ws 0 0) (stepAt ls j) h))
       left k ms l refl
 
 steps-count : (ws ls : List ℕ) (left k : ℕ) (ms : List ℕ) (s : ℕ) → stepsFrom ws ms ls k left .answer ≡ Accepted s → s ≡ k + left
-unfolding stepsFrom onward
+unfolding stepsFrom onVerdict
 steps-count ws ls zero k ms s e = let q : k ≡ s = cc in omega arith
-steps-count ws ls (suc left) k ms s e = go (stepQuestions (getD ws 0 0) (view ws ms) (stepAt ls k)) e (steps-count ws ls left (k + 1) (marksAfter ws ms (stepOf (stepAt ls k))) s)
+steps-count ws ls (suc left) k ms s e = go (verdictOn ws ms ls k) (ap (λ o. o .answer) (sym (steps-verdict ws ms ls k left)) ∙ e) (steps-count ws ls left (k + 1) (marksAfter ws ms (stepAt ls k)) s)
   where
-    go : (v : Verdict) → onward v k ms (stepsFrom ws (marksAfter ws ms (stepOf (stepAt ls k))) ls (k + 1) left) .answer ≡ Accepted s
-        → (stepsFrom ws (marksAfter ws ms (stepOf (stepAt ls k))) ls (k + 1) left .answer ≡ Accepted s → s ≡ k + 1 + left) → s ≡ k + suc left
+    go : (v : Verdict) → onVerdict (λ x. leaving ms (refusal.Step x k)) (stepsFrom ws (marksAfter ws ms (stepAt ls k)) ls (k + 1) left) v .answer ≡ Accepted s
+        → (stepsFrom ws (marksAfter ws ms (stepAt ls k)) ls (k + 1) left .answer ≡ Accepted s → s ≡ k + 1 + left) → s ≡ k + suc left
     go Fine e f = let q = f e in omega arith
     go (No x) e f = let z : _≡_ {A = ℕ} 0 1 = cc in absurd (omega arith)
 
@@ -91,7 +95,7 @@ list-keeps-models ws ms ls p l f M = subst (λ o. Stable (programOf ws) M ↔ St
 
 -- the outcome of a call: refused with the marks as they were, or the steps from all marks 1
 data Came (ws ms ls : List ℕ) : Outcome → Type 0 where
-  early : (r : Refusal) → ((q : StepQuestion) (k : ℕ) → r ≢ refusal.Step q k) → Came ws ms ls (refused r ms)
+  early : (r : Refusal) → ((q : StepQuestion) (k : ℕ) → r ≢ refusal.Step q k) → Came ws ms ls (leaving ms r)
   stepped : Passed ws → length ws ≤ length ms → So (listFits ls) → Came ws ms ls (stepsFrom ws (allKept ws ms) ls 0 (length ls / 4))
 
 -- the refusals of questions 1 to 9 and 11 are not those of a step
@@ -109,18 +113,21 @@ table-early : (ws : List ℕ) (r : Refusal) → tableOf ws ≡ checked.Refused r
 table-early ws r e q k x = omega (arith, table-refused ws r e .0, step-late q, ap refusalNumber x)
 
 came : (ws ms ls : List ℕ) → Came ws ms ls (checkList ws ms ls)
-unfolding checkList checkOn askCall
+unfolding checkList onTable ask
 came ws ms ls = table (tableOf ws) refl
   where
-    list : (b : Bool) → listFits ls ≡ b → Passed ws → length ws ≤ length ms → Came ws ms ls (askCall b ListLength ms (stepsFrom ws (allKept ws ms) ls 0 (length ls / 4)))
+    made : Outcome
+    made = stepsFrom ws (allKept ws ms) ls 0 (length ls / 4)
+
+    list : (b : Bool) → listFits ls ≡ b → Passed ws → length ws ≤ length ms → Came ws ms ls (ask (leaving ms) b (refusal.Call ListLength) made)
     list true e p l = stepped p l e
     list false e p l = early (refusal.Call ListLength) (call-early ListLength)
 
-    marks : (b : Bool) → leb (length ws) (length ms) ≡ b → Passed ws → Came ws ms ls (askCall b MarksLength ms (askCall (listFits ls) ListLength ms (stepsFrom ws (allKept ws ms) ls 0 (length ls / 4))))
+    marks : (b : Bool) → leb (length ws) (length ms) ≡ b → Passed ws → Came ws ms ls (ask (leaving ms) b (refusal.Call MarksLength) (ask (leaving ms) (listFits ls) (refusal.Call ListLength) made))
     marks true e p = list (listFits ls) refl p (leb-true _ _ e)
     marks false e p = early (refusal.Call MarksLength) (call-early MarksLength)
 
-    table : (c : Checked) → tableOf ws ≡ c → Came ws ms ls (checkOn c ws ms ls)
+    table : (c : Checked) → tableOf ws ≡ c → Came ws ms ls (onTable (leaving ms) c (ask (leaving ms) (leb (length ws) (length ms)) (refusal.Call MarksLength) (ask (leaving ms) (listFits ls) (refusal.Call ListLength) made)))
     table (checked.Refused r) e = early r (table-early ws r e)
     table (checked.Valid t) e = marks (leb (length ws) (length ms)) refl (valid-passed ws t e .0)
 
@@ -143,26 +150,26 @@ pub record RefusedAt (ws ms ls : List ℕ) (k left : ℕ) (o : Outcome) : Type 0
   pub above : k ≤ step
   pub below : step < k + left
   pub before : stepsFrom ws ms ls k (step - k) ≡ record { answer = Accepted step; marks = o .marks }
-  pub no : stepQuestions (getD ws 0 0) (view ws (o .marks)) (stepAt ls step) ≡ No question
+  pub no : firstNo ws (o .marks) ls step ≡ some question
 
-steps-refused : (ws ls : List ℕ) (left k : ℕ) (ms : List ℕ) (r : Refusal) → stepsFrom ws ms ls k left .answer ≡ Refused r → RefusedAt ws ms ls k left (stepsFrom ws ms ls k left)
-unfolding stepsFrom onward
+pub steps-refused : (ws ls : List ℕ) (left k : ℕ) (ms : List ℕ) (r : Refusal) → stepsFrom ws ms ls k left .answer ≡ Refused r → RefusedAt ws ms ls k left (stepsFrom ws ms ls k left)
+unfolding stepsFrom onVerdict
 steps-refused ws ls zero k ms r e = let z : _≡_ {A = ℕ} 0 1 = cc in absurd (omega arith)
-steps-refused ws ls (suc left) k ms r e = go (stepQuestions (getD ws 0 0) (view ws ms) (stepAt ls k)) refl e (λ h. steps-refused ws ls left (k + 1) (marksAfter ws ms (stepOf (stepAt ls k))) r h)
+steps-refused ws ls (suc left) k ms r e = subst (RefusedAt ws ms ls k (suc left)) (sym (steps-verdict ws ms ls k left)) (go (verdictOn ws ms ls k) refl (ap (λ o. o .answer) (sym (steps-verdict ws ms ls k left)) ∙ e) (λ h. steps-refused ws ls left (k + 1) (marksAfter ws ms (stepAt ls k)) r h))
   where
     after : Outcome
-    after = stepsFrom ws (marksAfter ws ms (stepOf (stepAt ls k))) ls (k + 1) left
+    after = stepsFrom ws (marksAfter ws ms (stepAt ls k)) ls (k + 1) left
 
-    go : (v : Verdict) → stepQuestions (getD ws 0 0) (view ws ms) (stepAt ls k) ≡ v → onward v k ms after .answer ≡ Refused r
-        → (after .answer ≡ Refused r → RefusedAt ws (marksAfter ws ms (stepOf (stepAt ls k))) ls (k + 1) left after)
-        → RefusedAt ws ms ls k (suc left) (onward v k ms after)
+    go : (v : Verdict) → verdictOn ws ms ls k ≡ v → onVerdict (λ x. leaving ms (refusal.Step x k)) after v .answer ≡ Refused r
+        → (after .answer ≡ Refused r → RefusedAt ws (marksAfter ws ms (stepAt ls k)) ls (k + 1) left after)
+        → RefusedAt ws ms ls k (suc left) (onVerdict (λ x. leaving ms (refusal.Step x k)) after v)
     go Fine q e f = let w = f e in record {
       step = w .step;
       question = w .question;
       is = w .is;
       above = omega (arith, w .above);
       below = omega (arith, w .below);
-      before = rw (one-left k (w .step) (omega (arith, w .above)), q) (w .before);
+      before = ap (stepsFrom ws ms ls k) (one-left k (w .step) (omega (arith, w .above))) ∙ steps-verdict ws ms ls k (w .step - (k + 1)) ∙ ap (onVerdict (λ x. leaving ms (refusal.Step x k)) (stepsFrom ws (marksAfter ws ms (stepAt ls k)) ls (k + 1) (w .step - (k + 1)))) q ∙ w .before;
       no = w .no;
     }
     go (No x) q e f = record {
@@ -172,7 +179,7 @@ steps-refused ws ls (suc left) k ms r e = go (stepQuestions (getD ws 0 0) (view 
       above = omega arith;
       below = omega arith;
       before = let z : k - k ≡ 0 = omega arith in rw z;
-      no = q;
+      no = on-no some none (getD ws 0 0) (view ws ms) (wordsAt ls k) x q;
     }
 
 -- "A list refused at step k leaves the marks of steps 0 to k-1": where the refusal is one of a step, it is at that step.
@@ -186,19 +193,21 @@ refused-at-step ws ms ls q k = go (checkList ws ms ls) (came ws ms ls)
         let r = steps-refused ws ls (length ls / 4) 0 (allKept ws ms) (refusal.Step q k) e in
         (r, (let z = sym (r .is) ∙ e in let y : r .step ≡ k = cc in y))
 
--- "Where the list is accepted, every set of atoms, of any size, is a stable model of the program as given exactly when it is one of the program as the
--- list leaves it. Where it is refused at a step, the same holds for the program as the steps before that one leave it."
-pub checked-keeps-models : (ws ms ls : List ℕ) → ((s : ℕ) × (checkList ws ms ls .answer ≡ Accepted s)) ⊎ ((q : StepQuestion) × (k : ℕ) × (checkList ws ms ls .answer ≡ Refused (refusal.Step q k)))
-    → (M : Atoms) → Stable (programOf ws) M ↔ Stable (leftProgram ws (checkList ws ms ls .marks)) M
-checked-keeps-models ws ms ls a M = let c = asked a in list-keeps-models ws ms ls (c .0) (c .1) (c .2) M
+-- "That the models stay the same .." needs only that 1 to 9 and 11 are answered yes, which they are where the list is accepted, or refused at a step
+pub checked-asked : (ws ms ls : List ℕ) → ((s : ℕ) × (checkList ws ms ls .answer ≡ Accepted s)) ⊎ ((q : StepQuestion) × (k : ℕ) × (checkList ws ms ls .answer ≡ Refused (refusal.Step q k)))
+    → Passed ws × (length ws ≤ length ms) × So (listFits ls)
+checked-asked ws ms ls = go (checkList ws ms ls) (came ws ms ls)
   where
     go : (o : Outcome) → Came ws ms ls o → ((s : ℕ) × (o .answer ≡ Accepted s)) ⊎ ((q : StepQuestion) × (k : ℕ) × (o .answer ≡ Refused (refusal.Step q k))) → Passed ws × (length ws ≤ length ms) × So (listFits ls)
     go o (stepped p l f) a = (p, l, f)
     go o (early x n) (inl e) = let w = e .1 in let z : _≡_ {A = ℕ} 0 1 = cc in absurd (omega arith)
     go o (early x n) (inr e) = let w = e .2 in absurd (n (e .0) (e .1) (let z : x ≡ refusal.Step (e .0) (e .1) = cc in z))
 
-    asked : ((s : ℕ) × (checkList ws ms ls .answer ≡ Accepted s)) ⊎ ((q : StepQuestion) × (k : ℕ) × (checkList ws ms ls .answer ≡ Refused (refusal.Step q k))) → Passed ws × (length ws ≤ length ms) × So (listFits ls)
-    asked a = go (checkList ws ms ls) (came ws ms ls) a
+-- "Where the list is accepted, every set of atoms, of any size, is a stable model of the program as given exactly when it is one of the program as the
+-- list leaves it. Where it is refused at a step, the same holds for the program as the steps before that one leave it."
+pub checked-keeps-models : (ws ms ls : List ℕ) → ((s : ℕ) × (checkList ws ms ls .answer ≡ Accepted s)) ⊎ ((q : StepQuestion) × (k : ℕ) × (checkList ws ms ls .answer ≡ Refused (refusal.Step q k)))
+    → (M : Atoms) → Stable (programOf ws) M ↔ Stable (leftProgram ws (checkList ws ms ls .marks)) M
+checked-keeps-models ws ms ls a M = let c = checked-asked ws ms ls a in list-keeps-models ws ms ls (c .0) (c .1) (c .2) M
 
 -- what a refused call leaves
 pub data Kept (ws ms ls : List ℕ) (o : Outcome) : Type 0 where

@@ -1,36 +1,36 @@
--- The reduced table is the table of exactly the program as the marks leave it; a refused call changes nothing.
+-- The call for the reduced table: how it goes, question by question; and that it writes the table of exactly the program as the marks leave it.
 use mathlib.Core.Path.{_≡_, refl, sym, ap, subst, _∙_}
 use mathlib.Core.Logic.{_↔_, by-cases}
 use mathlib.Core.Bool.{Bool, true, false, So}
-use mathlib.Core.List.{List, _++_}
+use mathlib.Core.List.{List}
 use Prim.Native.Nat.{ℕ, zero, suc, _+_, _≤_, _<_}
 use native.Mathlib.Omega.{arith}
 use native.Mathlib.Decide.{decLt}
 use lib.Dec.{leb}
 use lib.ListN.{length, take, drop}
-use lib.Seq.{sets, sets-eq, take-at, drop-at}
-use borrow.Author.Tests.{leb-true}
+use lib.Seq.{drop-at}
+use borrow.Author.Tests.{leb-true, leb-false}
 use Rattle.semantics.specs.Programs.{Atoms, Stable}
-use Rattle.table.specs.declared.CallQuestion.the-variants.{TableRoom}
-use Rattle.table.specs.declared.WordQuestion.the-variants.{MarkAllowed}
-use Rattle.table.specs.declared.Refusal.{Refusal}
-use Rattle.table.specs.declared.Refusal.the-variants.{Call, Word}
+use Rattle.semantics.proofs.Tests.{not-so}
+use Rattle.answers.specs.declared.CallQuestion.the-variants.{MarksLength, TableRoom}
+use Rattle.answers.specs.declared.WordQuestion.the-variants.{MarkAllowed}
+use Rattle.answers.specs.declared.Refusal.{Refusal}
+use Rattle.answers.specs.declared.Refusal.the-variants.{Call, Word}
 use Rattle.table.specs.declared.Walk.{Walk}
 use Rattle.table.specs.declared.Walk.the-variants.{To, Stop}
 use Rattle.table.specs.declared.Checked.{Checked}
 use Rattle.table.specs.declared.Checked.the-variants.{Valid, Refused as NoTable}
-use Rattle.table.specs.Refusals.{refusalNumber}
-use Rattle.table.specs.Questions.{ask, tableOf, Passed}
+use Rattle.answers.specs.Answers.{ask, written, writtenIf}
+use Rattle.answers.proofs.Slices.{take-written}
+use Rattle.table.specs.Questions.{onWalk, tableOf, onTable, Passed}
 use Rattle.table.specs.Encoding.{encode}
-use Rattle.table.specs.Places.{programOf}
+use Rattle.table.specs.Programs.{programOf}
 use Rattle.table.proofs.Encoding.{program-encode, valid-passed}
-use Rattle.compaction.specs.declared.CompactAnswer.{CompactAnswer}
-use Rattle.compaction.specs.declared.CompactAnswer.the-variants.{Accepted, Refused}
-use Rattle.compaction.specs.Reduced.{askCall, onMarks, onTable, roomAnswer, markedAnswer, reducedAnswer, written, reducedOut}
-use Rattle.sizes.specs.Leaves.{leftProgram, reduced}
-use Rattle.marks.specs.Allowed.{allowed, marksFrom}
-use Rattle.compaction.proofs.Answers.{answer-few, answer-mark, answer-table, answer-valid, answer-room, answer-accepted}
-use Rattle.table.proofs.Refused.{table-refused}
+use Rattle.answers.specs.declared.Answer.{Answer}
+use Rattle.answers.specs.declared.Answer.the-variants.{Accepted, Refused}
+use Rattle.reduced_table.specs.Reduced.{markedAnswer, reducedAnswer, reducedOut}
+use Rattle.reduced_sizes.specs.Leaves.{leftProgram, reduced}
+use Rattle.reduced_marks.specs.Allowed.{allowed, marksFrom}
 
 -- ---- the reduced table is the table of the program as left, and passes questions 1 to 8: `left-within`, `reduced-passes`
 
@@ -45,71 +45,7 @@ reduced-stable ws ms M = (
   λ s. subst (λ P. Stable P M) (sym (reduced-program ws ms)) s,
 )
 
--- ---- the call
-
--- what an accepted call has done
-pub record Made (ws ms out : List ℕ) (k : ℕ) : Type 0 where
-  pub passed : Passed ws
-  pub count : k ≡ length (reduced ws ms)
-  pub fits : k ≤ length out
-  -- the words written, then those past them
-  pub words : take k (reducedOut ws ms out) ≡ encode (leftProgram ws ms)
-  pub past : drop k (reducedOut ws ms out) ≡ drop k out
-
-call-inv : (t : Bool) (r : Refusal) (a : CompactAnswer) (k : ℕ) → askCall t r a ≡ Accepted k → (t ≡ true) × (a ≡ Accepted k)
-unfolding askCall
-call-inv true r a k h = (refl, h)
-call-inv false r a k h = let z : _≡_ {A = ℕ} 0 1 = cc in absurd (omega arith)
-
-marks-inv : (w : Walk) (a : CompactAnswer) (k : ℕ) → onMarks w a ≡ Accepted k → a ≡ Accepted k
-unfolding onMarks
-marks-inv (To e) a k h = h
-marks-inv (Stop r) a k h = let z : _≡_ {A = ℕ} 0 1 = cc in absurd (omega arith)
-
-table-inv : (ws : List ℕ) (w : Checked) (a : CompactAnswer) (k : ℕ) → tableOf ws ≡ w → onTable w a ≡ Accepted k → Passed ws × (a ≡ Accepted k)
-unfolding onTable
-table-inv ws (Valid t) a k e h = (valid-passed ws t e .0, h)
-table-inv ws (NoTable r) a k e h = let z : _≡_ {A = ℕ} 0 1 = cc in absurd (omega arith)
-
-same-count : (a b : ℕ) → Accepted a ≡ Accepted b → a ≡ b
-same-count a b h = cc
-
--- a list stored from the start of one that is long enough
-stored : (out vs : List ℕ) (k : ℕ) → length vs ≡ k → k ≤ length out → (take k (sets out 0 vs) ≡ vs) × (drop k (sets out 0 vs) ≡ drop k out)
-stored out vs k e l =
-    let q : sets out 0 vs ≡ vs ++ drop k out = sets-eq vs out 0 (omega arith) ∙ ap (λ i. vs ++ drop i out) (let z : 0 + length vs ≡ k = omega arith in z) in
-    (ap (take k) q ∙ take-at vs (drop k out) k e, ap (drop k) q ∙ drop-at vs (drop k out) k e)
-
--- Accepted, the slice holds the table of the program as left, and what lies past it is as it was.
-pub reduced-accepted : (ws ms out : List ℕ) (k : ℕ) → reducedAnswer ws ms out ≡ Accepted k → Made ws ms out k
-unfolding reducedAnswer markedAnswer roomAnswer reducedOut written
-reduced-accepted ws ms out k h =
-    let (p, a) = table-inv ws (tableOf ws) (markedAnswer ws ms out) k refl h in
-    let (l, b) = call-inv (leb (length ws) (length ms)) _ _ k a in
-    let (f, d) = call-inv (leb (length (reduced ws ms)) (length out)) (Call TableRoom) (Accepted (length (reduced ws ms))) k (marks-inv (marksFrom (allowed ws ms) 0 (length ws)) (roomAnswer ws ms out) k b) in
-    let n = same-count (length (reduced ws ms)) k d in
-    let fits = leb-true (length (reduced ws ms)) (length out) f in
-    let o : reducedOut ws ms out ≡ sets out 0 (reduced ws ms) = ap (λ a. written a (reduced ws ms) out) h in
-    let (w, t) = stored out (reduced ws ms) k n (omega arith) in
-    record { passed = p; count = sym n; fits = omega arith; words = ap (take k) o ∙ w; past = ap (drop k) o ∙ t }
-
--- Refused, the slice is as it was.
-pub reduced-refused : (ws ms out : List ℕ) (r : Refusal) → reducedAnswer ws ms out ≡ Refused r → reducedOut ws ms out ≡ out
-unfolding reducedOut written
-reduced-refused ws ms out r h = rw h
-
--- ---- questions 10 and 18
-
--- the questions before 18 are answered yes
-pub record Asked (ws ms : List ℕ) : Type 0 where
-  pub passed : Passed ws
-  pub marked : length ws ≤ length ms
-  pub marks : (i : ℕ) → i < length ws → So (allowed ws ms i)
-
-marks-all : (f : ℕ → Bool) (at k : ℕ) → ((i : ℕ) → at ≤ i → i < at + k → So (f i)) → marksFrom f at k ≡ To (at + k)
-unfolding marksFrom ask
-marks-all f at zero h = ap To (let q : at ≡ at + zero = omega arith in q)
-marks-all f at (suc k) h = rw (h at (omega arith) (omega arith)) (marks-all f (at + 1) k (λ i a b. h i (omega arith) (omega arith)) ∙ ap To (let q : at + 1 + k ≡ at + suc k = omega arith in q))
+-- ---- the first mark that is not allowed
 
 -- i is the first place, of k from `at`, of which the test does not hold
 pub record First (f : ℕ → Bool) (at k i : ℕ) : Type 0 where
@@ -117,13 +53,6 @@ pub record First (f : ℕ → Bool) (at k i : ℕ) : Type 0 where
   pub within : i < at + k
   pub fails : f i ≡ false
   pub before : (j : ℕ) → at ≤ j → j < i → So (f j)
-
-marks-at : (f : ℕ → Bool) (at k i : ℕ) → First f at k i → marksFrom f at k ≡ Stop (Word MarkAllowed i)
-unfolding marksFrom ask
-marks-at f at zero i h = absurd (omega (arith, h .from, h .within))
-marks-at f at (suc k) i h = by-cases (decLt at i)
-    (λ l. rw (h .before at (omega arith) l) (marks-at f (at + 1) k i (record { from = omega arith; within = omega (arith, h .within); fails = h .fails; before = λ j a b. h .before j (omega arith) b })))
-    (λ l. let q : at ≡ i = omega (arith, h .from) in let e : f at ≡ false = ap f q ∙ h .fails in rw e (ap (λ x. Stop (Word MarkAllowed x)) q))
 
 -- what a walk over the marks has found: each allowed, or the first that isn't
 abbrev Found : (ℕ → Bool) → ℕ → ℕ → Walk → Type 0
@@ -146,43 +75,120 @@ marks-found f at (suc k) = go (f at) refl (marksFrom f (at + 1) k) (marks-found 
       q,
     )
 
-    go : (t : Bool) → f at ≡ t → (w : Walk) → Found f (at + 1) k w → Found f at (suc k) (ask t (Word MarkAllowed at) w)
+    go : (t : Bool) → f at ≡ t → (w : Walk) → Found f (at + 1) k w → Found f at (suc k) (ask Stop t (Word MarkAllowed at) w)
     go true q w r = more q w r
     go false q w r = (at, record { from = omega arith; within = omega arith; fails = q; before = λ j a b. absurd (omega arith) }, refl)
+
+-- there is one first place
+first-is : (f : ℕ → Bool) (at k i j : ℕ) → First f at k i → First f at k j → i ≡ j
+first-is f at k i j x y = by-cases (decLt i j)
+    (λ l. absurd (not-so (x .fails) (y .before i (x .from) l)))
+    (λ l. by-cases (decLt j i) (λ m. absurd (not-so (y .fails) (x .before j (y .from) m))) (λ m. omega arith))
+
+-- ---- how the call goes
+
+-- the questions before 18 are answered yes
+pub record Passed10 (ws ms : List ℕ) : Type 0 where
+  pub passed : Passed ws
+  pub marked : length ws ≤ length ms
+  pub marks : (i : ℕ) → i < length ws → So (allowed ws ms i)
+
+-- by the first question that gets a no, or with every question answered yes
+pub data ReducedGoes (ws ms out : List ℕ) : Answer → Type 0 where
+  table : (r : Refusal) → tableOf ws ≡ NoTable r → ReducedGoes ws ms out (Refused r)
+  few : Passed ws → length ms < length ws → ReducedGoes ws ms out (Refused (Call MarksLength))
+  mark : Passed ws → length ws ≤ length ms → (i : ℕ) → First (allowed ws ms) 0 (length ws) i → ReducedGoes ws ms out (Refused (Word MarkAllowed i))
+  room : Passed10 ws ms → length out < length (reduced ws ms) → ReducedGoes ws ms out (Refused (Call TableRoom))
+  made : Passed10 ws ms → length (reduced ws ms) ≤ length out → ReducedGoes ws ms out (Accepted (length (reduced ws ms)))
+
+pub reduced-goes : (ws ms out : List ℕ) → ReducedGoes ws ms out (reducedAnswer ws ms out)
+unfolding reducedAnswer onTable markedAnswer onWalk ask
+reduced-goes ws ms out = by-table (tableOf ws) refl
+  where
+    fits : Answer
+    fits = ask Refused (leb (length (reduced ws ms)) (length out)) (Call TableRoom) (Accepted (length (reduced ws ms)))
+
+    by-room : Passed10 ws ms → (b : Bool) → leb (length (reduced ws ms)) (length out) ≡ b → ReducedGoes ws ms out (ask Refused b (Call TableRoom) (Accepted (length (reduced ws ms))))
+    by-room y true e = made y (leb-true _ _ e)
+    by-room y false e = room y (leb-false _ _ e)
+
+    by-mark : Passed ws → length ws ≤ length ms → (w : Walk) → Found (allowed ws ms) 0 (length ws) w → ReducedGoes ws ms out (onWalk Refused w (λ _. fits))
+    by-mark p l (To e) f = by-room (record { passed = p; marked = l; marks = λ i b. f i (omega arith) (omega arith) }) (leb (length (reduced ws ms)) (length out)) refl
+    by-mark p l (Stop r) (i, f, e) = subst (λ x. ReducedGoes ws ms out (Refused x)) (sym e) (mark p l i f)
+
+    by-few : Passed ws → (b : Bool) → leb (length ws) (length ms) ≡ b → ReducedGoes ws ms out (ask Refused b (Call MarksLength) (onWalk Refused (marksFrom (allowed ws ms) 0 (length ws)) (λ _. fits)))
+    by-few p true e = by-mark p (leb-true _ _ e) (marksFrom (allowed ws ms) 0 (length ws)) (marks-found (allowed ws ms) 0 (length ws))
+    by-few p false e = few p (leb-false _ _ e)
+
+    by-table : (c : Checked) → tableOf ws ≡ c → ReducedGoes ws ms out (onTable Refused c (markedAnswer ws ms out))
+    by-table (Valid t) e = by-few (valid-passed ws t e .0) (leb (length ws) (length ms)) refl
+    by-table (NoTable r) e = table r e
+
+-- a table that passes is not refused
+pub not-both : {ws : List ℕ} {r : Refusal} → Passed ws → tableOf ws ≡ NoTable r → ⊥
+not-both p e = let q = p .valid in let z : _≡_ {A = ℕ} 0 1 = cc in omega arith
 
 module _ (ws ms out : List ℕ) where
   -- "(place of the first that isn't)"
   pub reduced-mark : Passed ws → length ws ≤ length ms → (i : ℕ) → First (allowed ws ms) 0 (length ws) i → reducedAnswer ws ms out ≡ Refused (Word MarkAllowed i)
-  reduced-mark p l i h = answer-valid ws ms out _ (p .valid) ∙ answer-mark ws ms out l _ (marks-at (allowed ws ms) 0 (length ws) i h)
+  reduced-mark p l i h = go (reducedAnswer ws ms out) (reduced-goes ws ms out)
+    where
+      fails : Passed10 ws ms → ⊥
+      fails y = not-so (h .fails) (y .marks i (omega (arith, h .within)))
 
-  module _ (y : Asked ws ms) where
-    pass : marksFrom (allowed ws ms) 0 (length ws) ≡ To (0 + length ws)
-    pass = marks-all (allowed ws ms) 0 (length ws) (λ i a b. y .marks i (omega arith))
+      go : (a : Answer) → ReducedGoes ws ms out a → a ≡ Refused (Word MarkAllowed i)
+      go a (table r e) = absurd (not-both p e)
+      go a (few q m) = absurd (omega arith)
+      go a (mark q m j f) = ap (λ x. Refused (Word MarkAllowed x)) (first-is (allowed ws ms) 0 (length ws) j i f h)
+      go a (room y m) = absurd (fails y)
+      go a (made y m) = absurd (fails y)
 
-    -- A slice as long as the words is long enough.
-    pub reduced-fits : length (reduced ws ms) ≤ length out → reducedAnswer ws ms out ≡ Accepted (length (reduced ws ms))
-    reduced-fits l = answer-valid ws ms out _ (y .passed .valid) ∙ answer-accepted ws ms out (y .marked) _ pass l
+  -- A slice as long as the words is long enough.
+  pub reduced-fits : Passed10 ws ms → length (reduced ws ms) ≤ length out → reducedAnswer ws ms out ≡ Accepted (length (reduced ws ms))
+  reduced-fits y l = go (reducedAnswer ws ms out) (reduced-goes ws ms out)
+    where
+      go : (a : Answer) → ReducedGoes ws ms out a → a ≡ Accepted (length (reduced ws ms))
+      go a (table r e) = absurd (not-both (y .passed) e)
+      go a (few q m) = absurd (omega (arith, y .marked))
+      go a (mark q m j f) = absurd (not-so (f .fails) (y .marks j (omega (arith, f .within))))
+      go a (room z m) = absurd (omega arith)
+      go a (made z m) = refl
 
-    reduced-short : length out < length (reduced ws ms) → reducedAnswer ws ms out ≡ Refused (Call TableRoom)
-    reduced-short l = answer-valid ws ms out _ (y .passed .valid) ∙ answer-room ws ms out (y .marked) _ pass l
+-- ---- what the call leaves
 
-  no-room-marked : Passed ws → length ws ≤ length ms → (w : Walk) → marksFrom (allowed ws ms) 0 (length ws) ≡ w → Found (allowed ws ms) 0 (length ws) w
-      → markedAnswer ws ms out ≡ Refused (Call TableRoom) → Asked ws ms × (length out < length (reduced ws ms))
-  no-room-marked p l (To e) q f h = by-cases (decLt (length out) (length (reduced ws ms)))
-      (λ s. (record { passed = p; marked = l; marks = λ i b. f i (omega arith) (omega arith) }, s))
-      (λ s. let a = answer-accepted ws ms out l e q (omega arith) in let z : _≡_ {A = ℕ} 0 1 = cc in absurd (omega arith))
-  no-room-marked p l (Stop r) q (i, f, e) h = let a = answer-mark ws ms out l r q in let z : _≡_ {A = ℕ} 0 1 = cc in absurd (omega arith)
+-- what an accepted call has done
+pub record Made (ws ms out : List ℕ) (k : ℕ) : Type 0 where
+  pub passed : Passed ws
+  pub count : k ≡ length (reduced ws ms)
+  pub fits : k ≤ length out
+  -- the words written, then those past them
+  pub words : take k (reducedOut ws ms out) ≡ encode (leftProgram ws ms)
+  pub past : drop k (reducedOut ws ms out) ≡ drop k out
 
-  no-room : (c : Checked) → tableOf ws ≡ c → reducedAnswer ws ms out ≡ Refused (Call TableRoom) → Asked ws ms × (length out < length (reduced ws ms))
-  no-room (Valid t) q h = by-cases (decLt (length ms) (length ws))
-      (λ s. let a = answer-few ws ms out s in let b = answer-valid ws ms out t q in let z : _≡_ {A = ℕ} 0 1 = cc in absurd (omega arith))
-      (λ s. no-room-marked (valid-passed ws t q .0) (omega arith) (marksFrom (allowed ws ms) 0 (length ws)) refl (marks-found (allowed ws ms) 0 (length ws)) (sym (answer-valid ws ms out t q) ∙ h))
-  no-room (NoTable r) q h =
-      let a = answer-table ws ms out r q in
-      let e : r ≡ Call TableRoom = cc in
-      let n : refusalNumber r ≡ 18 = ap refusalNumber e in
-      absurd (omega (arith, table-refused ws r q .0))
+-- Accepted, the slice holds the table of the program as left, and what lies past it is as it was.
+pub reduced-accepted : (ws ms out : List ℕ) (k : ℕ) → reducedAnswer ws ms out ≡ Accepted k → Made ws ms out k
+unfolding reducedOut writtenIf
+reduced-accepted ws ms out k h = go (reducedAnswer ws ms out) (reduced-goes ws ms out) h
+  where
+    done : Passed10 ws ms → length (reduced ws ms) ≤ length out → length (reduced ws ms) ≡ k → Made ws ms out k
+    done y l n =
+        let o : reducedOut ws ms out ≡ written (reduced ws ms) out = ap (λ a. writtenIf a (reduced ws ms) out) h in
+        record {
+          passed = y .passed;
+          count = sym n;
+          fits = omega arith;
+          words = ap (take k) o ∙ take-written (reduced ws ms) out k (sym n);
+          past = ap (drop k) o ∙ drop-at (reduced ws ms) (drop (length (reduced ws ms)) out) k n ∙ ap (λ i. drop i out) n;
+        }
 
-  -- "Does not fit" is said exactly when all before it is answered yes and the slice is shorter than the words.
-  pub reduced-room : (reducedAnswer ws ms out ≡ Refused (Call TableRoom)) ↔ (Asked ws ms × (length out < length (reduced ws ms)))
-  reduced-room = (no-room (tableOf ws) refl, λ h. reduced-short (h .0) (h .1))
+    go : (a : Answer) → ReducedGoes ws ms out a → a ≡ Accepted k → Made ws ms out k
+    go a (table r e) q = let z : _≡_ {A = ℕ} 0 1 = cc in absurd (omega arith)
+    go a (few p m) q = let z : _≡_ {A = ℕ} 0 1 = cc in absurd (omega arith)
+    go a (mark p m j f) q = let z : _≡_ {A = ℕ} 0 1 = cc in absurd (omega arith)
+    go a (room y m) q = let z : _≡_ {A = ℕ} 0 1 = cc in absurd (omega arith)
+    go a (made y m) q = done y m (cc)
+
+-- Refused, the slice is as it was.
+pub reduced-refused : (ws ms out : List ℕ) (r : Refusal) → reducedAnswer ws ms out ≡ Refused r → reducedOut ws ms out ≡ out
+unfolding reducedOut writtenIf
+reduced-refused ws ms out r h = rw h

@@ -7,37 +7,42 @@ use Prim.Native.Nat.{ℕ, suc, _+_, _-_, _*_, _/_, _%_, _≤_, _<_}
 use native.Mathlib.Omega.{arith}
 use native.Mathlib.Nat.{add-zero, mul-div-right, mul-mod-right}
 use lib.ListN.{length, getD, take, drop, length-append}
-use lib.Seq.{drop-at}
+use lib.Seq.{drop-at, ext-getD, getD-take, length-take-le}
 use borrow.Author.Tests.{eq-eqb, le-leb}
 use Rattle.semantics.proofs.Tests.{and-iff}
 use Rattle.rewriting.specs.Marked.{Marked, whole}
-use Rattle.rewriting.specs.Steps.{Step, step, number, applies, accepted, leaves}
-use Rattle.rewriting.proofs.Search.{kindOf-number, number-bounds}
-use Rattle.rewriting.proofs.Greedy.{greedy-end, accepted-measure}
-use Rattle.table.specs.declared.StepQuestion.{StepQuestion}
-use Rattle.table.specs.declared.Refusal.the-variants as refusal
+use Rattle.rewriting.specs.Steps.{Step, step, applies}
+use Rattle.rewriting.specs.Runs.{accepted, leaves}
+use Rattle.rewriting.specs.Kinds.{number}
+use Rattle.rewriting.proofs.Rows.{kindOf-number, number-bounds}
+use Rattle.rewriting.proofs.Greedy.{greedy-end}
+use Rattle.answers.specs.declared.StepQuestion.{StepQuestion}
+use Rattle.answers.specs.declared.Refusal.the-variants as refusal
 use Rattle.table.specs.Questions.{Passed}
-use Rattle.table.specs.Places.{programOf}
-use Rattle.table.specs.View.{view, allKept, marksAfter, marksAfterAll, zeros}
+use Rattle.table.specs.Programs.{programOf}
+use Rattle.table.specs.View.{view, allKept, zeros}
+use Rattle.table.specs.Effects.{marksAfter, marksAfterAll}
 use Rattle.table.proofs.Stands.{past, word-at}
-use Rattle.table.proofs.Encoding.{passed-within}
-use Rattle.table.proofs.Measures.{measure-within}
 use Rattle.table.proofs.View.{view-after, view-afterAll, length-after}
 use Rattle.table.proofs.Parts.{allKept-one, view-allKept, length-allKept}
-use Rattle.conditions.specs.declared.Step as words
-use Rattle.conditions.specs.Known.{stepOf}
-use Rattle.reductions.specs.declared.ReduceAnswer.{ReduceAnswer}
-use Rattle.reductions.specs.declared.ReduceAnswer.the-variants as answer
-use Rattle.reductions.specs.Reductions.{wordsOf, stepsOf, reduction}
-use Rattle.reductions.proofs.Taken.{taken, whole-tidy, steps-greedy, steps-accepted, steps-room, zeros-allKept, length-words}
-use Rattle.checker.specs.declared.CheckAnswer.the-variants.{Accepted, Refused}
-use Rattle.steps.specs.declared.Verdict.{Verdict}
-use Rattle.steps.specs.declared.Verdict.the-variants.{Fine, No}
-use Rattle.checker.specs.Lists.{stepAt, onward, stepsFrom, listFits, checkList}
-use Rattle.steps.specs.Verdicts.{ask, shapeQuestions, stepQuestions}
-use Rattle.steps.proofs.Laws.{known-kind, fine-applies}
-use Rattle.checker.proofs.Walks.{check-made}
-use Rattle.text.proofs.Slices.{sets-written, take-written}
+use Rattle.step_conditions.specs.declared.Step as words
+use Rattle.step_conditions.specs.Known.{stepOf}
+use Rattle.answers.specs.declared.Answer.{Answer}
+use Rattle.answers.specs.declared.Answer.the-variants.{Accepted, Refused}
+use Rattle.reducer_results.specs.Reductions.{stepsOf, reduction}
+use Rattle.table.specs.StepWords.{wordsOf}
+use Rattle.reducer_results.proofs.Taken.{reducer-taken, steps-greedy, steps-accepted, steps-few, zeros-allKept, length-words, length-afterAll}
+use Rattle.step_questions.specs.declared.Verdict.{Verdict}
+use Rattle.step_questions.specs.declared.Verdict.the-variants.{Fine, No}
+use Rattle.step_lists.specs.Lists.{leaving, stepsFrom, listFits, checkList}
+use Rattle.table.specs.StepWords.{stepAt}
+use Rattle.answers.specs.Answers.{ask}
+use Rattle.step_questions.specs.Questions.{shapeQuestions, stepQuestions}
+use Rattle.step_questions.specs.Verdicts.{verdictAt}
+use Rattle.step_questions.proofs.Laws.{onVerdict, known-kind, fine-applies}
+use Rattle.step_lists.specs.Leaves.{wordsAt}
+use Rattle.step_lists.proofs.Walks.{verdictOn, steps-verdict, check-made}
+use Rattle.answers.proofs.Slices.{take-written}
 use Rattle.claims.proofs.Lists.{marks-past-table}
 use Rattle.claims.proofs.Reductions.{reducer-refused}
 use Rattle.claims.proofs.Agree.{afterAll-agree}
@@ -50,7 +55,7 @@ wordsStep s = record { kind = number (s .kind); target = s .target; partner = s 
 step-words : (s : Step) → stepOf (wordsStep s) ≡ s
 step-words s = ap (λ k. step k (s .target) (s .partner) (s .atom)) (kindOf-number (s .kind))
 
-step-at : (ls r : List ℕ) (k : ℕ) (s : Step) (l : List Step) → drop (4 * k) ls ≡ wordsOf (s ∷ l) ++ r → stepAt ls k ≡ wordsStep s
+step-at : (ls r : List ℕ) (k : ℕ) (s : Step) (l : List Step) → drop (4 * k) ls ≡ wordsOf (s ∷ l) ++ r → wordsAt ls k ≡ wordsStep s
 unfolding wordsOf
 step-at ls r k s l e = rw (
   ap (λ i. getD ls i 0) (sym (add-zero (4 * k))) ∙ word-at ls (4 * k) 0 (number (s .kind)) _ e refl,
@@ -66,7 +71,7 @@ next-words ls r k s l e =
     let f : 4 * (k + 1) ≡ 4 * k + 4 = omega arith in
     ap (λ i. drop i ls) f ∙ past ls (number (s .kind) ∷ s .target ∷ s .partner ∷ s .atom ∷ []) (wordsOf l ++ r) (4 * k) e
 
-applies-fine : (n : ℕ) (P : Marked) (s : Step) → So (applies n P s) → stepQuestions n P (wordsStep s) ≡ Fine
+applies-fine : (n : ℕ) (P : Marked) (s : Step) → So (applies n P s) → verdictAt n P (wordsStep s) ≡ Fine
 unfolding stepQuestions shapeQuestions ask applies
 applies-fine n P s h =
     let b = number-bounds (s .kind) in
@@ -76,20 +81,19 @@ applies-fine n P s h =
 -- ---- the steps of a list, one after the other
 
 -- an applicable step is taken
-step-made : (ws ms ls : List ℕ) (k x : ℕ) (s : Step) → stepAt ls k ≡ wordsStep s → So (applies (getD ws 0 0) (view ws ms) s)
+step-made : (ws ms ls : List ℕ) (k x : ℕ) (s : Step) → wordsAt ls k ≡ wordsStep s → So (applies (getD ws 0 0) (view ws ms) s)
     → stepsFrom ws ms ls k (suc x) ≡ stepsFrom ws (marksAfter ws ms s) ls (k + 1) x
-unfolding stepsFrom onward
+unfolding onVerdict
 step-made ws ms ls k x s q h =
     let n = getD ws 0 0 in
-    ap (λ (u : words.Step). onward (stepQuestions n (view ws ms) u) k ms (stepsFrom ws (marksAfter ws ms (stepOf u)) ls (k + 1) x)) q
-    ∙ ap (λ v. onward v k ms (stepsFrom ws (marksAfter ws ms (stepOf (wordsStep s))) ls (k + 1) x)) (applies-fine n (view ws ms) s h)
-    ∙ ap (λ u. stepsFrom ws (marksAfter ws ms u) ls (k + 1) x) (step-words s)
+    steps-verdict ws ms ls k x
+    ∙ ap (onVerdict (λ x. leaving ms (refusal.Step x k)) (stepsFrom ws (marksAfter ws ms (stepAt ls k)) ls (k + 1) x)) (ap (verdictAt n (view ws ms)) q ∙ applies-fine n (view ws ms) s h)
+    ∙ ap (λ u. stepsFrom ws (marksAfter ws ms u) ls (k + 1) x) (ap stepOf q ∙ step-words s)
 
 -- a step that is refused
-step-refused : (ws ms ls : List ℕ) (k : ℕ) (q : StepQuestion) → stepQuestions (getD ws 0 0) (view ws ms) (stepAt ls k) ≡ No q
-    → stepsFrom ws ms ls k 1 ≡ record { answer = Refused (refusal.Step q k); marks = ms }
-unfolding stepsFrom onward
-step-refused ws ms ls k q e = ap (λ v. onward v k ms (stepsFrom ws (marksAfter ws ms (stepOf (stepAt ls k))) ls (k + 1) 0)) e
+step-refused : (ws ms ls : List ℕ) (k : ℕ) (q : StepQuestion) → verdictOn ws ms ls k ≡ No q → stepsFrom ws ms ls k 1 ≡ record { answer = Refused (refusal.Step q k); marks = ms }
+unfolding onVerdict
+step-refused ws ms ls k q e = steps-verdict ws ms ls k 0 ∙ ap (onVerdict (λ x. leaving ms (refusal.Step x k)) (stepsFrom ws (marksAfter ws ms (stepAt ls k)) ls (k + 1) 0)) e
 
 -- an accepted list of steps is taken whole, whatever words stand behind it
 follow : (ws : List ℕ) → Passed ws → (l : List Step) (ls r : List ℕ) (k x : ℕ) (ms : List ℕ) → length ws ≤ length ms → drop (4 * k) ls ≡ wordsOf l ++ r
@@ -118,11 +122,6 @@ fits-of ls k e h = (
 )
 
 -- ---- the reducer's list
-
--- It has at most 8,188 steps, so that the list with one step more never meets question 11.
-pub steps-few : (ws : List ℕ) → Passed ws → length (stepsOf ws) ≤ 8188
-steps-few ws p =
-    omega (arith, accepted-measure (getD ws 0 0) (whole (programOf ws .clauses)) (stepsOf ws) (whole-tidy ws p) (steps-accepted ws p), measure-within (programOf ws) (passed-within ws p))
 
 module _ (ws ms : List ℕ) (p : Passed ws) (l : length ws ≤ length ms) where
   -- the marks that the reducer's list leaves, from all marks 1
@@ -155,7 +154,7 @@ module _ (ws ms : List ℕ) (p : Passed ws) (l : length ws ≤ length ms) where
   further-refused a b c d =
       let ls = wordsOf (stepsOf ws) ++ a ∷ b ∷ c ∷ d ∷ [] in
       let k = length (stepsOf ws) in
-      let r = no (stepQuestions (getD ws 0 0) (view ws marksLeft) (stepAt ls k)) refl in
+      let r = no (verdictOn ws marksLeft ls k) refl in
       (r .0, behind (a ∷ b ∷ c ∷ d ∷ []) 1 refl (omega arith) ∙ step-refused ws marksLeft ls k (r .0) (r .1))
     where
       left-is : view ws marksLeft ≡ leaves (getD ws 0 0) (whole (programOf ws .clauses)) (stepsOf ws)
@@ -170,9 +169,22 @@ module _ (ws ms : List ℕ) (p : Passed ws) (l : length ws ≤ length ms) where
       ls : List ℕ
       ls = wordsOf (stepsOf ws) ++ a ∷ b ∷ c ∷ d ∷ []
 
-      no : (v : Verdict) → stepQuestions (getD ws 0 0) (view ws marksLeft) (stepAt ls (length (stepsOf ws))) ≡ v → (q : StepQuestion) × (stepQuestions (getD ws 0 0) (view ws marksLeft) (stepAt ls (length (stepsOf ws))) ≡ No q)
-      no Fine e = absurd (none-open (stepOf (stepAt ls (length (stepsOf ws)))) (fine-applies (getD ws 0 0) (view ws marksLeft) (stepAt ls (length (stepsOf ws))) (sym e)))
+      no : (v : Verdict) → verdictOn ws marksLeft ls (length (stepsOf ws)) ≡ v → (q : StepQuestion) × (verdictOn ws marksLeft ls (length (stepsOf ws)) ≡ No q)
+      no Fine e = absurd (none-open (stepAt ls (length (stepsOf ws))) (fine-applies (getD ws 0 0) (view ws marksLeft) (wordsAt ls (length (stepsOf ws))) (sym e)))
       no (No q) e = (q, e)
+
+-- the marks of the table's words that the reducer's list leaves don't depend on the marks before
+left-agree : (ws ks ms : List ℕ) → Passed ws → length ws ≤ length ks → length ws ≤ length ms
+    → take (length ws) (marksAfterAll ws (allKept ws ks) (stepsOf ws)) ≡ take (length ws) (marksAfterAll ws (allKept ws ms) (stepsOf ws))
+left-agree ws ks ms p a b =
+    let x = marksAfterAll ws (allKept ws ks) (stepsOf ws) in
+    let y = marksAfterAll ws (allKept ws ms) (stepsOf ws) in
+    let u : length (take (length ws) x) ≡ length ws = length-take-le (length ws) x (omega (arith, length-afterAll ws (stepsOf ws) (allKept ws ks), length-allKept ws ks a)) in
+    let v : length (take (length ws) y) ≡ length ws = length-take-le (length ws) y (omega (arith, length-afterAll ws (stepsOf ws) (allKept ws ms), length-allKept ws ms b)) in
+    ext-getD 0 (take (length ws) x) (take (length ws) y) (u ∙ sym v) (λ i h.
+    getD-take (length ws) x i 0 (omega arith)
+    ∙ afterAll-agree ws p (stepsOf ws) (allKept ws ks) (allKept ws ms) (omega (arith, length-allKept ws ks a)) (omega (arith, length-allKept ws ms b)) (λ j _ k. allKept-one ws ks j k ∙ sym (allKept-one ws ms j k)) i (omega arith) (omega arith)
+    ∙ sym (getD-take (length ws) y i 0 (omega arith)))
 
 -- the marks at 0 that the reducer's list leaves are its steps
 zeros-left : (ws ms : List ℕ) → Passed ws → length ws ≤ length ms → zeros ws (marksAfterAll ws (allKept ws ms) (stepsOf ws)) ≡ length (stepsOf ws)
@@ -183,39 +195,37 @@ zeros-left ws ms p l =
 -- ---- the reducer's call, and the checker's on its list
 
 -- the reducer's list: "the 4s words of a call that passes 9 and 17"
-pub list-words : (ws ms ls : List ℕ) (s : ℕ) → reduction ws ms ls .answer ≡ answer.Accepted s → take (4 * s) (reduction ws ms ls .list) ≡ wordsOf (stepsOf ws)
+pub list-words : (ws ms ls : List ℕ) (s : ℕ) → reduction ws ms ls .answer ≡ Accepted s → take (4 * s) (reduction ws ms ls .list) ≡ wordsOf (stepsOf ws)
 list-words ws ms ls s h =
-    let t = taken ws ms ls s h in
-    let e : length (wordsOf (stepsOf ws)) ≤ length ls = omega (arith, length-words (stepsOf ws), t .roomy, steps-room ws (t .passed)) in
-    rw (t .list, sets-written (wordsOf (stepsOf ws)) ls e) (take-written (wordsOf (stepsOf ws)) ls (4 * s) (omega (arith, length-words (stepsOf ws), t .count)))
+    let t = reducer-taken ws ms ls s h in
+    rw (t .list) (take-written (wordsOf (stepsOf ws)) ls (4 * s) (omega (arith, length-words (stepsOf ws), t .count)))
 
-module _ (ws ms ls ks : List ℕ) (s : ℕ) (h : reduction ws ms ls .answer ≡ answer.Accepted s) (l : length ws ≤ length ks) where
+module _ (ws ms ls ks : List ℕ) (s : ℕ) (h : reduction ws ms ls .answer ≡ Accepted s) (l : length ws ≤ length ks) where
   -- The reducer's list is accepted with any marks that pass 9, with its number of steps,
   pub reducer-accepted : checkList ws ks (take (4 * s) (reduction ws ms ls .list)) .answer ≡ Accepted s
   reducer-accepted =
-      let t = taken ws ms ls s h in
+      let t = reducer-taken ws ms ls s h in
       ap (λ x. checkList ws ks x .answer) (list-words ws ms ls s h) ∙ ap (λ o. o .answer) (list-accepted ws ks (t .passed) l) ∙ ap Accepted (sym (t .count))
 
   -- and leaves the marks of the table's words as the reducer did.
-  pub same-marks : (i : ℕ) → i < length ws → getD (checkList ws ks (take (4 * s) (reduction ws ms ls .list)) .marks) i 0 ≡ getD (reduction ws ms ls .marks) i 0
-  same-marks i b =
-      let t = taken ws ms ls s h in
-      ap (λ x. getD (checkList ws ks x .marks) i 0) (list-words ws ms ls s h)
-      ∙ ap (λ o. getD (o .marks) i 0) (list-accepted ws ks (t .passed) l)
-      ∙ afterAll-agree ws (t .passed) (stepsOf ws) (allKept ws ks) (allKept ws ms) (omega (arith, length-allKept ws ks l)) (omega (arith, length-allKept ws ms (t .marked), t .marked))
-      (λ j x y. allKept-one ws ks j y ∙ sym (allKept-one ws ms j y)) i (omega arith) b
-      ∙ ap (λ m. getD m i 0) (sym (t .marks))
+  pub same-marks : take (length ws) (checkList ws ks (take (4 * s) (reduction ws ms ls .list)) .marks) ≡ take (length ws) (reduction ws ms ls .marks)
+  same-marks =
+      let t = reducer-taken ws ms ls s h in
+      ap (λ x. take (length ws) (checkList ws ks x .marks)) (list-words ws ms ls s h)
+      ∙ ap (λ o. take (length ws) (o .marks)) (list-accepted ws ks (t .passed) l)
+      ∙ left-agree ws ks ms (t .passed) l (t .marked)
+      ∙ ap (take (length ws)) (sym (t .marks))
 
   -- "s is exactly the marks at 0 among the table's words after that list is checked."
   pub checked-counts : s ≡ zeros ws (checkList ws ks (take (4 * s) (reduction ws ms ls .list)) .marks)
   checked-counts =
-      let t = taken ws ms ls s h in
+      let t = reducer-taken ws ms ls s h in
       t .count ∙ sym (ap (λ x. zeros ws (checkList ws ks x .marks)) (list-words ws ms ls s h) ∙ ap (λ o. zeros ws (o .marks)) (list-accepted ws ks (t .passed) l) ∙ zeros-left ws ks (t .passed) l)
 
   -- With any four words behind it, it is refused at step s.
   pub reducer-further : (a b c d : ℕ) → (q : StepQuestion) × (checkList ws ks (take (4 * s) (reduction ws ms ls .list) ++ a ∷ b ∷ c ∷ d ∷ []) .answer ≡ Refused (refusal.Step q s))
   reducer-further a b c d =
-      let t = taken ws ms ls s h in
+      let t = reducer-taken ws ms ls s h in
       let r = further-refused ws ks (t .passed) l a b c d in
       (r .0, ap (λ x. checkList ws ks (x ++ a ∷ b ∷ c ∷ d ∷ []) .answer) (list-words ws ms ls s h) ∙ ap (λ o. o .answer) (r .1) ∙ ap (λ k. Refused (refusal.Step (r .0) k)) (sym (t .count)))
 
@@ -225,17 +235,16 @@ module _ (ws ms ls ks : List ℕ) (s : ℕ) (h : reduction ws ms ls .answer ≡ 
 pub reducer-marks-past : (ws ms ls : List ℕ) → drop (length ws) (reduction ws ms ls .marks) ≡ drop (length ws) ms
 reducer-marks-past ws ms ls = go (reduction ws ms ls .answer) refl
   where
-    go : (a : ReduceAnswer) → reduction ws ms ls .answer ≡ a → drop (length ws) (reduction ws ms ls .marks) ≡ drop (length ws) ms
-    go (answer.Refused r) e = ap (drop (length ws)) (reducer-refused ws ms ls r e .0)
-    go (answer.Accepted s) e =
-        let t = taken ws ms ls s e in
+    go : (a : Answer) → reduction ws ms ls .answer ≡ a → drop (length ws) (reduction ws ms ls .marks) ≡ drop (length ws) ms
+    go (Refused r) e = ap (drop (length ws)) (reducer-refused ws ms ls r e .0)
+    go (Accepted s) e =
+        let t = reducer-taken ws ms ls s e in
         ap (drop (length ws)) (t .marks) ∙ sym (ap (λ o. drop (length ws) (o .marks)) (list-accepted ws ms (t .passed) (t .marked))) ∙ marks-past-table ws ms (wordsOf (stepsOf ws))
 
 -- "the list's first 4s words are written, later words don't change"
-pub reducer-list-past : (ws ms ls : List ℕ) (s : ℕ) → reduction ws ms ls .answer ≡ answer.Accepted s → drop (4 * s) (reduction ws ms ls .list) ≡ drop (4 * s) ls
+pub reducer-list-past : (ws ms ls : List ℕ) (s : ℕ) → reduction ws ms ls .answer ≡ Accepted s → drop (4 * s) (reduction ws ms ls .list) ≡ drop (4 * s) ls
 reducer-list-past ws ms ls s h =
-    let t = taken ws ms ls s h in
+    let t = reducer-taken ws ms ls s h in
     let w = wordsOf (stepsOf ws) in
     let n : length w ≡ 4 * s = omega (arith, length-words (stepsOf ws), t .count) in
-    let e : length w ≤ length ls = omega (arith, length-words (stepsOf ws), t .roomy, steps-room ws (t .passed)) in
-    ap (drop (4 * s)) (t .list ∙ sets-written w ls e) ∙ drop-at w (drop (length w) ls) (4 * s) n ∙ ap (λ k. drop k ls) n
+    ap (drop (4 * s)) (t .list) ∙ drop-at w (drop (length w) ls) (4 * s) n ∙ ap (λ k. drop k ls) n

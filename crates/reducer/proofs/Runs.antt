@@ -10,23 +10,28 @@ use native.Mathlib.Numerals.{add-one}
 use lib.ListN.{length, getD, set}
 use lib.Seq.{sets, length-sets}
 use Rattle.rewriting.specs.Marked.{Marked, whole}
-use Rattle.rewriting.specs.Steps.{number, Step, applies, effect}
-use Rattle.rewriting.specs.Reducer.{reduce, measure, firstStep}
-use Rattle.rewriting.proofs.Search.{firstStep-some, kindOf-number, number-bounds}
+use Rattle.rewriting.specs.Steps.{Step, applies, effect}
+use Rattle.rewriting.specs.Kinds.{number}
+use Rattle.rewriting.specs.Search.{reduce, firstStep}
+use Rattle.rewriting.specs.Measure.{measure}
+use Rattle.rewriting.proofs.Search.{firstStep-some}
+use Rattle.rewriting.proofs.Rows.{kindOf-number, number-bounds}
 use Rattle.rewriting.proofs.Measure.{step-measure}
 use Rattle.table.specs.Questions.{Passed}
-use Rattle.table.specs.View.{view, marksAfter, marksAfterAll, zeros}
+use Rattle.table.specs.View.{view, zeros}
+use Rattle.table.specs.Effects.{marksAfter, marksAfterAll}
 use Rattle.table.proofs.View.{view-after, zeros-after, length-after}
 use Rattle.table.proofs.Parts.{view-tidy}
-use Rattle.conditions.specs.declared.Step as row
-use Rattle.conditions.specs.Known.{stepOf}
-use Rattle.targets.specs.declared.Found.the-variants.{One}
-use Rattle.targets.specs.Searches.{foundOf}
-use Rattle.kinds.proofs.Numbers.{kind-number}
-use Rattle.reductions.specs.Reductions.{room, stepsOf, wordsOf}
-use Rattle.openings.specs.Opened.{Taken}
+use Rattle.step_conditions.specs.declared.Step as row
+use Rattle.step_conditions.specs.Known.{stepOf}
+use Rattle.search_targets.specs.declared.Found.the-variants.{One}
+use Rattle.search_targets.specs.Searches.{foundOf}
+use Rattle.step_kinds.proofs.Numbers.{kind-number}
+use Rattle.reducer_results.specs.Reductions.{room, stepsOf}
+use Rattle.table.specs.StepWords.{wordsOf}
+use Rattle.search_openings.specs.Opened.{StepMade}
 use Rattle.reducer.specs.Runs.{Begun, Reduced}
-use Rattle.reductions.proofs.Room.{room-measure}
+use Rattle.reducer_results.proofs.Room.{room-measure}
 
 -- what is left to do after s steps
 unfoldable pub rest : List ℕ → List ℕ → ℕ → List Step
@@ -57,11 +62,11 @@ running-none ws ms ls l b = record {
     same = rw (sub-zero, b .whole)
 
 -- a step that was found
-pub taken : (ws ms : List ℕ) (s : row.Step) → One s ≡ foundOf (firstStep (getD ws 0 0) (view ws ms)) → Taken ws ms s × (firstStep (getD ws 0 0) (view ws ms) ≡ some (stepOf s))
+pub found-made : (ws ms : List ℕ) (s : row.Step) → One s ≡ foundOf (firstStep (getD ws 0 0) (view ws ms)) → StepMade ws ms s × (firstStep (getD ws 0 0) (view ws ms) ≡ some (stepOf s))
 unfolding foundOf
-taken ws ms s e = go (firstStep (getD ws 0 0) (view ws ms)) refl e
+found-made ws ms s e = go (firstStep (getD ws 0 0) (view ws ms)) refl e
   where
-    go : (x : Option Step) → firstStep (getD ws 0 0) (view ws ms) ≡ x → One s ≡ foundOf x → Taken ws ms s × (firstStep (getD ws 0 0) (view ws ms) ≡ some (stepOf s))
+    go : (x : Option Step) → firstStep (getD ws 0 0) (view ws ms) ≡ x → One s ≡ foundOf x → StepMade ws ms s × (firstStep (getD ws 0 0) (view ws ms) ≡ some (stepOf s))
     go none q h = absurd (let z : _≡_ {A = ℕ} 0 1 = cc in omega arith)
     go (some u) q h =
         let r : s ≡ record { kind = number (u .kind); target = u .target; partner = u .partner; atom = u .atom } = cc in
@@ -130,7 +135,7 @@ four-words ls at a b c d =
     rw (x, y, z)
 
 -- a step that was found, written and made
-pub running-step : (ws ms₀ ls₀ ms ls : List ℕ) (s : ℕ) → Passed ws → Running ws ms₀ ls₀ ms ls s → (u : row.Step) → Taken ws ms u → firstStep (getD ws 0 0) (view ws ms) ≡ some (stepOf u)
+pub running-step : (ws ms₀ ls₀ ms ls : List ℕ) (s : ℕ) → Passed ws → Running ws ms₀ ls₀ ms ls s → (u : row.Step) → StepMade ws ms u → firstStep (getD ws 0 0) (view ws ms) ≡ some (stepOf u)
     → Running ws ms₀ ls₀ (marksAfter ws ms (stepOf u)) (sets ls (4 * s) (u .kind ∷ u .target ∷ u .partner ∷ u .atom ∷ [])) (s + 1)
 running-step ws ms₀ ls₀ ms ls s p r u t e =
     subst (λ k. Running ws ms₀ ls₀ (marksAfter ws ms (stepOf u)) (sets ls (4 * s) (k ∷ u .target ∷ u .partner ∷ u .atom ∷ [])) (s + 1)) (kind-number (u .kind) (t .low) (t .high))

@@ -5,23 +5,25 @@ use mathlib.Core.List.{List}
 use Prim.Native.Nat.{ℕ, _*_, _≤_, _<_}
 use lib.ListN.{length}
 use lib.Seq.{sets}
-use Rattle.rewriting.specs.Reach.{reach}
+use Rattle.rewriting.specs.Reaches.{reach}
 use Rattle.rewriting.specs.Marked.{whole}
-use Rattle.table.specs.Places.{programOf}
-use Rattle.table.specs.View.{view, marksAfterAll, zeros}
-use Rattle.flags.specs.Flags.{flags, next, Rows, AllFlagged}
-use Rattle.reductions.specs.Reductions.{room, stepsOf, wordsOf}
-use Rattle.openings.specs.Opened.{AtomFresh, PartnerFresh}
+use Rattle.table.specs.Programs.{programOf}
+use Rattle.table.specs.View.{view, zeros}
+use Rattle.table.specs.Effects.{marksAfterAll}
+use Rattle.search_flags.specs.Flags.{flagAt, next, Rows, AllFlagged}
+use Rattle.reducer_results.specs.Reductions.{room, stepsOf}
+use Rattle.table.specs.StepWords.{wordsOf}
+use Rattle.search_openings.specs.Opened.{AtomFresh, PartnerFresh}
 
 -- Every target of kinds 1 and 2 is flagged, every key of the others is fresh, the reach is not known, and no clause is known to be gone.
-pub record AllOpen (may : List ℕ) (m : ℕ) : Type 0 where
-  pub rows : Rows m may
-  pub reach : flags may 0 0 ≢ 0
-  pub tautology : AllFlagged may 1 m
-  pub contradiction : AllFlagged may 2 m
-  pub partner : (t : ℕ) → t < 2048 → PartnerFresh may t
-  pub atom : (a : ℕ) → a < 2048 → AtomFresh may a
-  pub none : (i : ℕ) → i < 2048 → next may i ≡ 0
+pub record AllOpen (flags : List ℕ) (m : ℕ) : Type 0 where
+  pub rows : Rows m flags
+  pub reach : flagAt flags 0 0 ≢ 0
+  pub tautology : AllFlagged flags 1 m
+  pub contradiction : AllFlagged flags 2 m
+  pub partner : (t : ℕ) → t < 2048 → PartnerFresh flags t
+  pub atom : (a : ℕ) → a < 2048 → AtomFresh flags a
+  pub none : (i : ℕ) → i < 2048 → next flags i ≡ 0
 
 -- All marks are 1, and the list has room.
 pub record Begun (ws ms ls : List ℕ) : Type 0 where

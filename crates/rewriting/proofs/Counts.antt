@@ -8,9 +8,10 @@ use lib.ListN.{length, set}
 use Rattle.semantics.specs.Lists.{mem, count, bit}
 use Rattle.semantics.specs.Programs.{Clause}
 use Rattle.rewriting.specs.Marked.{Entry, Marked, entry, left}
-use Rattle.rewriting.specs.Steps.{Step, Kind, tautology, contradiction, success, noHead, blocked, failure, loop, subsumed, applies, rewritten, effect}
+use Rattle.rewriting.specs.Steps.{Step, applies, rewritten, leftBy, dropped, effect}
+use Rattle.rewriting.specs.Kinds.{Deed, deletes, dropsPos, dropsNeg, rowOf}
+use Rattle.rewriting.specs.Uses.{dropping, drops}
 use Rattle.rewriting.proofs.Left.{kept-lt}
-use Rattle.rewriting.specs.Kinds.{drops}
 use Rattle.rewriting.proofs.Effect.{target-kept}
 
 -- ---- kept heads of an atom
@@ -41,15 +42,10 @@ unfolding heads effect
 heads-effect n P s h a =
     let c = entry P (s .target) in
     let e = rewritten (s .kind) (c .clause) (entry P (s .partner) .clause) (s .atom) in
-    omega (arith, count-left (λ d. mem a (d .head)) P (s .target) e (kept-lt P (s .target) (target-kept n P s h)), at (s .kind) c (entry P (s .partner) .clause) (s .atom) (target-kept n P s h))
+    omega (arith, count-left (λ d. mem a (d .head)) P (s .target) e (kept-lt P (s .target) (target-kept n P s h)), at (rowOf (s .kind) .deed) (dropped (s .kind) (entry P (s .partner) .clause) (s .atom)) c (target-kept n P s h))
   where
-    at : (k : Kind) (c : Entry) (d : Clause) (b : ℕ) → So (c .kept)
-        → bit (rewritten k (c .clause) d b .kept && mem a (rewritten k (c .clause) d b .clause .head)) + bit (not (drops k) && mem a (c .clause .head)) ≡ bit (c .kept && mem a (c .clause .head))
-    at success c d b q = rw q (omega arith)
-    at noHead c d b q = rw q (omega arith)
-    at tautology c d b q = rw q (omega arith)
-    at contradiction c d b q = rw q (omega arith)
-    at blocked c d b q = rw q (omega arith)
-    at failure c d b q = rw q (omega arith)
-    at loop c d b q = rw q (omega arith)
-    at subsumed c d b q = rw q (omega arith)
+    at : (x : Deed) (b : ℕ) (c : Entry) → So (c .kept)
+        → bit (leftBy x b (c .clause) .kept && mem a (leftBy x b (c .clause) .clause .head)) + bit (not (dropping x) && mem a (c .clause .head)) ≡ bit (c .kept && mem a (c .clause .head))
+    at deletes b c q = rw q (omega arith)
+    at dropsPos b c q = rw q (omega arith)
+    at dropsNeg b c q = rw q (omega arith)

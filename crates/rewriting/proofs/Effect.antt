@@ -1,7 +1,7 @@
 -- One step: what it leaves of each clause, of the heads and of the reach.
 use mathlib.Core.Path.{_≡_, refl, sym, ap, subst, _∙_}
 use mathlib.Core.Logic.{_↔_, _≢_, by-cases}
-use mathlib.Core.Bool.{not, cond, _&&_, So, false≢true}
+use mathlib.Core.Bool.{not, cond, _&&_, So}
 use mathlib.Core.List.{List·Memᴰ·head, List·Memᴰ·not-nil}
 use Prim.Native.Nat.{ℕ}
 use native.Mathlib.Decide.{ℕ-discrete}
@@ -13,13 +13,15 @@ use Rattle.semantics.specs.Programs.{Clause, Atoms}
 use Rattle.semantics.proofs.Tests.{without-keeps, and-iff, null-iff}
 use Rattle.semantics.proofs.Models.{All}
 use Rattle.rewriting.specs.Marked.{Entry, Marked, gone, entry, left}
-use Rattle.rewriting.specs.Reach.{reach}
-use Rattle.rewriting.specs.Steps.{Step, Kind, tautology, contradiction, success, noHead, blocked, failure, loop, subsumed, usesPartner, fact, single, inNoHead, condition, applies, rewritten, effect}
+use Rattle.rewriting.specs.Reaches.{reach}
+use Rattle.rewriting.specs.Steps.{dropped, Step, fact, single, inNoHead, condition, applies, rewritten, effect}
+use Rattle.rewriting.specs.Kinds.{Kind, rowOf, usesPartner}
+use Rattle.rewriting.specs.Uses.{drops}
 use Rattle.rewriting.proofs.Left.{left-each, kept-lt, closed-left}
 use Rattle.rewriting.proofs.Reach.{inNoHead-iff, reach-closed, reach-least}
 use Rattle.rewriting.proofs.Sound.{single-elim, partner-other, applies-ask}
-use Rattle.rewriting.specs.Kinds.{drops}
-use Rattle.rewriting.proofs.Subclauses.{Below, below-same, below-rewritten, rewritten-kept}
+use Rattle.rewriting.proofs.Rows.{kinds-drop}
+use Rattle.rewriting.proofs.Subclauses.{Subclause, below-same, below-left, left-kept}
 
 -- ---- heads and the reach of what is left, by the clauses' numbers
 
@@ -63,14 +65,14 @@ module _ (n : ℕ) (P : Marked) (s : Step) (h : So (applies n P s)) where
   unfolding effect
   at-target = getD-set-same P (s .target) _ gone (kept-lt P (s .target) target-kept)
 
-  pub effect-below : (i : ℕ) → Below (entry (effect P s) i) (entry P i)
+  pub effect-below : (i : ℕ) → Subclause (entry (effect P s) i) (entry P i)
   effect-below i = by-cases (ℕ-discrete i (s .target))
-      (λ e. subst (λ j. Below (entry (effect P s) j) (entry P j)) (sym e)
-      (subst (λ c. Below c (entry P (s .target))) (sym at-target) (below-rewritten (s .kind) (entry P (s .target)) (entry P (s .partner) .clause) (s .atom) target-kept)))
+      (λ e. subst (λ j. Subclause (entry (effect P s) j) (entry P j)) (sym e)
+      (subst (λ c. Subclause c (entry P (s .target))) (sym at-target) (below-left (rowOf (s .kind) .deed) (dropped (s .kind) (entry P (s .partner) .clause) (s .atom)) (entry P (s .target)) target-kept)))
       (λ d. below-same (at-other i d))
 
   kept-after : entry (effect P s) (s .target) .kept ≡ drops (s .kind)
-  kept-after = ap (λ c. c .kept) at-target ∙ rewritten-kept (s .kind) the (entry P (s .partner) .clause) (s .atom)
+  kept-after = ap (λ c. c .kept) at-target ∙ left-kept (rowOf (s .kind) .deed) (dropped (s .kind) (entry P (s .partner) .clause) (s .atom)) the
 
   pub is-deleted : ¬ So (drops (s .kind)) → ¬ So (entry (effect P s) (s .target) .kept)
   is-deleted d k = d (subst So kept-after k)
@@ -132,26 +134,20 @@ module _ (n : ℕ) (P : Marked) (s : Step) (h : So (applies n P s)) where
       (λ e. subst (λ j. FiresAt before (entry (effect P s) j)) (sym e) at k g)
       (λ d. subst (FiresAt before) (sym (at-other i d)) (reach-fires P i) k g))
     where
-      fires : (k : Kind) (c d : Clause) (b : ℕ) → So (drops k) → So (condition k (left P) c d b) → (So (usesPartner k) → So (fact d) → All before (d .head)) → All before (rewritten k c d b .clause .pos) → All before (c .pos)
-      fires success c d b y q f g e m =
-          let w = and-iff (fact d) (single (λ x. mem x (c .pos)) (d .head)) .0 q in
+      fires : (c d : Clause) (b : ℕ) (k : Kind) → So (drops k) → So (condition k (left P) c d b) → (So (usesPartner k) → So (fact d) → All before (d .head)) → All before (rewritten k c d b .clause .pos) → All before (c .pos)
+      fires c d b = kinds-drop (λ k. So (condition k (left P) c d b) → (So (usesPartner k) → So (fact d) → All before (d .head)) → All before (rewritten k c d b .clause .pos) → All before (c .pos))
+          (λ q f g e m. let w = and-iff (fact d) (single (λ x. mem x (c .pos)) (d .head)) .0 q in
           by-cases (ℕ-discrete e (getD (d .head) 0 0))
           (λ z. f refl (w .0) e (subst (λ l. e ∈ l) (sym (single-elim (λ x. mem x (c .pos)) (d .head) (w .1))) (List·Memᴰ·head z)))
-          (λ z. g e (without-keeps (getD (d .head) 0 0) e (c .pos) m z))
-      fires noHead c d b y q f g e m = g e m
-      fires tautology c d b y q f g e m = absurd (false≢true y)
-      fires contradiction c d b y q f g e m = absurd (false≢true y)
-      fires blocked c d b y q f g e m = absurd (false≢true y)
-      fires failure c d b y q f g e m = absurd (false≢true y)
-      fires loop c d b y q f g e m = absurd (false≢true y)
-      fires subsumed c d b y q f g e m = absurd (false≢true y)
+          (λ z. g e (without-keeps (getD (d .head) 0 0) e (c .pos) m z)))
+          (λ q f g e m. g e m)
 
       fact-fires : (p : ℕ) → So (entry P p .kept) → So (fact (entry P p .clause)) → All before (entry P p .clause .head)
       fact-fires p k f = reach-fires P p k (λ b m. absurd (List·Memᴰ·not-nil (subst (λ l. b ∈ l) (null-iff _ .0 (and-iff _ _ .0 f .0)) m)))
 
       at : So (entry (effect P s) (s .target) .kept) → All before (entry (effect P s) (s .target) .clause .pos) → All before (entry (effect P s) (s .target) .clause .head)
       at k g = subst (All before) (sym (effect-below (s .target) .head)) (reach-fires P (s .target) target-kept
-          (fires (s .kind) the (entry P (s .partner) .clause) (s .atom) x asks (λ y f. fact-fires (s .partner) (partner-asked y .0) f) (subst (λ c. All before (c .clause .pos)) at-target g)))
+          (fires the (entry P (s .partner) .clause) (s .atom) (s .kind) x asks (λ y f. fact-fires (s .partner) (partner-asked y .0) f) (subst (λ c. All before (c .clause .pos)) at-target g)))
 
   -- The reach does not change when a literal is dropped.
   pub drop-reach : So (drops (s .kind)) → (a : ℕ) → So (before a) ↔ So (after a)

@@ -9,8 +9,11 @@ use native.Mathlib.Omega.{arith}
 use lib.ListN.{length}
 use Rattle.semantics.proofs.Tests.{and-iff}
 use Rattle.rewriting.specs.Marked.{Marked, entry}
-use Rattle.rewriting.specs.Steps.{Step, applies, effect, accepted, leaves}
-use Rattle.rewriting.specs.Reducer.{measure, firstStep, reduce, Greedy, stop, take}
+use Rattle.rewriting.specs.Steps.{Step, applies, effect}
+use Rattle.rewriting.specs.Runs.{accepted, leaves}
+use Rattle.rewriting.specs.Reducer.{Greedy, stop, take}
+use Rattle.rewriting.specs.Search.{firstStep, reduce}
+use Rattle.rewriting.specs.Measure.{measure}
 use Rattle.rewriting.proofs.Measure.{Tidy, step-measure, tidy-effect}
 use Rattle.rewriting.proofs.Search.{firstStep-none, firstStep-some}
 

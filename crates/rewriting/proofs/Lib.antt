@@ -1,6 +1,8 @@
+pub mod Open
 pub mod Left
 pub mod ByKind
 pub mod Reach
+pub mod Rows
 pub mod Sound
 pub mod Measure
 pub mod Search

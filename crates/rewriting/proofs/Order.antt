@@ -2,7 +2,7 @@
 -- partner asks once a partner; targets and kinds are passed in order.
 use mathlib.Core.Path.{_≡_, refl, sym, ap, subst, _∙_}
 use mathlib.Core.Logic.{_↔_, _≢_, _⊎_, inl, inr, ⊎-elim}
-use mathlib.Core.Bool.{Bool, true, false, not, cond, _&&_, So, false≢true}
+use mathlib.Core.Bool.{Bool, true, false, not, cond, _&&_, So, true≢false}
 use mathlib.Core.List.{List, [], _∷_, List·Memᴰ·head, List·Memᴰ·tail, List·Memᴰ·cases-cons, List·Memᴰ·not-nil}
 use mathlib.Core.Option.{Option, none, some}
 use Prim.Native.Nat.{ℕ, suc, _<_}
@@ -12,12 +12,14 @@ use lib.ListN.{length}
 use borrow.Author.Tests.{ltb-true, lt-ltb}
 use Rattle.semantics.specs.Lists.{_∈_, all, mem, ascending}
 use Rattle.semantics.specs.Programs.{Clause}
-use Rattle.semantics.proofs.Tests.{and-iff, not-iff, all-iff, mem-iff, so-false, not-so}
+use Rattle.semantics.proofs.Tests.{and-iff, all-iff, mem-iff, so-false, not-so}
 use Rattle.rewriting.specs.Marked.{Marked, entry, left}
-use Rattle.rewriting.specs.Reach.{reach}
-use Rattle.rewriting.specs.Steps.{Step, step, Kind, tautology, contradiction, success, noHead, blocked, failure, loop, subsumed, kindOf, usesPartner, usesAtom, inNoHead, condition, conditionHolds, applies}
-use Rattle.rewriting.specs.Reducer.{least, given, firstAtom, firstPartner, firstTarget, firstStep}
+use Rattle.rewriting.specs.Reaches.{reach}
+use Rattle.rewriting.specs.Steps.{Step, step, inNoHead, condition, conditionHolds, applies}
+use Rattle.rewriting.specs.Kinds.{Kind, tautology, contradiction, success, noHead, blocked, failure, loop, subsumed, kindOf, usesPartner, usesAtom}
+use Rattle.rewriting.specs.Search.{least, given, firstAtom, firstPartner, firstTarget, firstStep}
 use Rattle.rewriting.proofs.Quiet.{least-none, least-some}
+use Rattle.rewriting.proofs.Rows.{alone-atom, partner-alone}
 
 -- ---- the first atom of an ascending part that passes a test is the first atom below n that is in it and passes
 
@@ -80,39 +82,22 @@ asked success cs c a = false
 asked blocked cs c a = false
 asked subsumed cs c a = false
 
-pub condition-is : (k : Kind) (cs : List Clause) (c d : Clause) (a : ℕ) → So (usesAtom k) → condition k cs c d a ≡ (mem a (walked k c) && asked k cs c a)
+pub condition-is : (k : Kind) (cs : List Clause) (c d : Clause) (a : ℕ) → usesPartner k ≡ false → condition k cs c d a ≡ (mem a (walked k c) && asked k cs c a)
 unfolding condition
 condition-is tautology cs c d a u = refl
 condition-is contradiction cs c d a u = refl
 condition-is noHead cs c d a u = refl
 condition-is failure cs c d a u = refl
 condition-is loop cs c d a u = refl
-condition-is success cs c d a u = absurd (false≢true u)
-condition-is blocked cs c d a u = absurd (false≢true u)
-condition-is subsumed cs c d a u = absurd (false≢true u)
-
--- "Kinds 1, 2, 4, 6, 7 have no partner word, kinds 3, 5, 8 no atom word": a kind has one of the two
-pub one-word : (k : Kind) → usesAtom k ≡ not (usesPartner k)
-one-word tautology = refl
-one-word contradiction = refl
-one-word success = refl
-one-word noHead = refl
-one-word blocked = refl
-one-word failure = refl
-one-word loop = refl
-one-word subsumed = refl
-
-pub atom-alone : (k : Kind) → So (usesAtom k) → usesPartner k ≡ false
-atom-alone k u = so-false _ (not-iff _ .0 (subst So (one-word k) u))
-
-pub partner-alone : (k : Kind) → So (usesPartner k) → usesAtom k ≡ false
-partner-alone k u = one-word k ∙ ap not u
+condition-is success cs c d a u = absurd (true≢false u)
+condition-is blocked cs c d a u = absurd (true≢false u)
+condition-is subsumed cs c d a u = absurd (true≢false u)
 
 -- The inner search at a kept target: the first atom of the part that passes.
-pub atom-first : (n : ℕ) (P : Marked) (k : Kind) (t : ℕ) → So (usesAtom k) → So (entry P t .kept) → So (ascending (walked k (entry P t .clause))) → ((a : ℕ) → a ∈ walked k (entry P t .clause) → a < n)
+pub atom-first : (n : ℕ) (P : Marked) (k : Kind) (t : ℕ) → usesPartner k ≡ false → So (entry P t .kept) → So (ascending (walked k (entry P t .clause))) → ((a : ℕ) → a ∈ walked k (entry P t .clause) → a < n)
     → firstPartner n P k t ≡ firstIn (λ a. step k t 0 a) (asked k (left P) (entry P t .clause)) (walked k (entry P t .clause))
 unfolding firstPartner firstAtom applies conditionHolds least
-atom-first n P k t u h o s = rw (atom-alone k u, u) (part-first n (λ a. step k t 0 a) (asked k (left P) c) (λ a. entry P t .kept && (ltb a n && condition k (left P) c d a)) (walked k c) o s (λ a. (
+atom-first n P k t u h o s = rw (u, alone-atom k u) (part-first n (λ a. step k t 0 a) (asked k (left P) c) (λ a. entry P t .kept && (ltb a n && condition k (left P) c d a)) (walked k c) o s (λ a. (
   λ y. let w = and-iff (entry P t .kept) (ltb a n && condition k (left P) c d a) .0 y in
       let v = and-iff (ltb a n) (condition k (left P) c d a) .0 (w .1) in
       let z = and-iff (mem a (walked k c)) (asked k (left P) c a) .0 (subst So (condition-is k (left P) c d a u) (v .1)) in

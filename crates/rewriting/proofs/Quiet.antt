@@ -10,8 +10,9 @@ use native.Mathlib.Decide.{ℕ-discrete, decLt}
 use lib.ListN.{length}
 use Rattle.semantics.proofs.Tests.{so-false}
 use Rattle.rewriting.specs.Marked.{Marked}
-use Rattle.rewriting.specs.Steps.{Step, step, Kind, usesPartner, usesAtom, applies}
-use Rattle.rewriting.specs.Reducer.{least, given, firstAtom, firstPartner}
+use Rattle.rewriting.specs.Steps.{Step, step, applies}
+use Rattle.rewriting.specs.Kinds.{Kind, usesPartner, usesAtom}
+use Rattle.rewriting.specs.Search.{least, given, firstAtom, firstPartner}
 use Rattle.rewriting.proofs.Search.{no-step}
 
 -- ---- the search's answer

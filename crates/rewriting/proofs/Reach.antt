@@ -9,10 +9,11 @@ use lib.Dec.{eqb}
 use lib.ListN.{length}
 use borrow.Author.Tests.{eqb-true, eq-eqb}
 use Rattle.semantics.specs.Lists.{_∈_, all, mem, within, count}
-use Rattle.semantics.specs.Programs.{Clause, Atoms, Stable, program}
+use Rattle.semantics.specs.Programs.{Clause, Atoms, Stable, program, among}
 use Rattle.semantics.proofs.Tests.{and-iff, not-iff, or-iff, all-iff, any-iff, mem-iff, so-by, not-so, count-bound, count-none, count-lt}
 use Rattle.semantics.proofs.Models.{All, Same, same-stable, same-sym, Closed, stable-within}
-use Rattle.rewriting.specs.Reach.{closed, IsReach, ready, fire, reachFrom, reach}
+use Rattle.rewriting.specs.Reach.{closed, IsReach}
+use Rattle.rewriting.specs.Reaches.{ready, fire, reachFrom, reach}
 use Rattle.rewriting.specs.Steps.{inNoHead}
 
 pub closed-iff : (R : Atoms) (cs : List Clause) → So (closed R cs) ↔ Closed R cs
@@ -38,13 +39,13 @@ inNoHead-iff cs a = (
     test c = mem a (c .head)
 
 -- everything but one atom
-abbrev pub others : ℕ → Atoms
-others a b = not (eqb b a)
+abbrev pub allBut : ℕ → Atoms
+allBut a b = not (eqb b a)
 
-pub others-closed : (cs : List Clause) (a : ℕ) → So (inNoHead cs a) → Closed (others a) cs
+pub others-closed : (cs : List Clause) (a : ℕ) → So (inNoHead cs a) → Closed (allBut a) cs
 others-closed cs a h c m p b k = not-iff _ .1 (λ e. inNoHead-iff _ _ .0 h c m (Memᴰ·cast (sym (eqb-true _ _ e)) k))
 
-pub others-not : (a : ℕ) → ¬ So (others a a)
+pub others-not : (a : ℕ) → ¬ So (allBut a a)
 others-not a h = not-iff _ .0 h (eq-eqb a a refl)
 
 -- equal models below every set without the atom are enough where neither program has a stable model with it
@@ -56,10 +57,6 @@ same-without n cs ds M R a p q r e = (
 )
 
 -- ---- the computed reach
-
--- the list as a set
-abbrev pub among : List ℕ → Atoms
-among S a = mem a S
 
 -- one round: nothing is ready and nothing is added, or a ready clause's head is
 data Fired (S : List ℕ) (cs : List Clause) (r : List ℕ) : Type 0 where

@@ -2,21 +2,22 @@
 -- Kinds 1 and 2 are never opened. A drop opens only steps whose partner is the clause that lost the literal; of kinds 3 and 5 only
 -- where it is now a fact. A deletion opens only kinds 4 and 6, for an atom of the clause's head that is in no kept head now, and kind 7,
 -- where the clause fired in the reach and no kept clause fires in its place.
-use mathlib.Core.Path.{_≡_, refl, sym, subst}
+use mathlib.Core.Path.{_≡_, refl, sym, ap, subst, _∙_}
 use mathlib.Core.Logic.{_⊎_, inl, inr, by-cases, ⊎-elim}
 use mathlib.Core.Bool.{Bool, true, false, So}
 use Prim.Native.Nat.{ℕ}
 use native.Mathlib.Decide.{ℕ-discrete}
-use native.Mathlib.Omega.{arith}
 use Rattle.semantics.specs.Lists.{_∈_, all, mem, within}
 use Rattle.semantics.specs.Programs.{Clause}
 use Rattle.semantics.proofs.Tests.{and-iff, all-iff, mem-iff, within-iff, so-dec}
 use Rattle.semantics.proofs.Models.{All}
 use Rattle.rewriting.specs.Marked.{Marked, entry, left}
-use Rattle.rewriting.specs.Reach.{reach}
-use Rattle.rewriting.specs.Steps.{Step, step, Kind, tautology, contradiction, success, noHead, blocked, failure, loop, subsumed, usesPartner, fact, inNoHead, condition, conditionHolds, applies, effect}
+use Rattle.rewriting.specs.Reaches.{reach}
+use Rattle.rewriting.specs.Steps.{Step, step, fact, inNoHead, condition, conditionHolds, applies, effect}
+use Rattle.rewriting.specs.Kinds.{Kind, tautology, contradiction, success, noHead, blocked, failure, loop, subsumed, number, kindOf, usesPartner}
+use Rattle.rewriting.specs.Uses.{drops, asksHeads}
+use Rattle.rewriting.proofs.Rows.{kindOf-number}
 use Rattle.rewriting.proofs.Subclauses.{Keeps, back}
-use Rattle.rewriting.specs.Kinds.{drops, asksHeads}
 use Rattle.rewriting.proofs.Effect.{asks, at-other, partner-asked, effect-below, is-deleted, heads-back, reach-drop, reach-idle, reach-twin}
 
 -- of a partner that lost a literal: what kinds 3, 5 and 8 ask of it alone
@@ -70,14 +71,9 @@ module _ (n : ℕ) (P : Marked) (s : Step) (h : So (applies n P s)) where
       (λ f. inl (reach-idle n P s h d (λ g. f (all-iff _ _ .1 g)))))
     where
       kind-dec : (k : Kind) → (k ≡ subsumed) ⊎ ¬ (k ≡ subsumed)
-      kind-dec subsumed = inl refl
-      kind-dec tautology = inr (λ e. let z : _≡_ {A = ℕ} 0 1 = cc in omega arith)
-      kind-dec contradiction = inr (λ e. let z : _≡_ {A = ℕ} 0 1 = cc in omega arith)
-      kind-dec success = inr (λ e. let z : _≡_ {A = ℕ} 0 1 = cc in omega arith)
-      kind-dec noHead = inr (λ e. let z : _≡_ {A = ℕ} 0 1 = cc in omega arith)
-      kind-dec blocked = inr (λ e. let z : _≡_ {A = ℕ} 0 1 = cc in omega arith)
-      kind-dec failure = inr (λ e. let z : _≡_ {A = ℕ} 0 1 = cc in omega arith)
-      kind-dec loop = inr (λ e. let z : _≡_ {A = ℕ} 0 1 = cc in omega arith)
+      kind-dec k = by-cases (ℕ-discrete (number k) 8)
+          (λ e. inl (sym (kindOf-number k) ∙ ap kindOf e))
+          (λ d. inr (λ e. d (ap number e)))
 
       twin-dec : Twin P s ⊎ ¬ Twin P s
       twin-dec = ⊎-elim

@@ -3,7 +3,7 @@ use mathlib.Core.Path.{Path, _≡_, refl, sym, subst, _∙_}
 use mathlib.Core.Logic.{by-cases}
 use mathlib.Core.Bool.{Bool, true, false, not, cond, _&&_, So, false≢true}
 use mathlib.Core.Option.{Option, none, some}
-use Prim.Native.Nat.{ℕ, zero, suc, _≤_, _<_}
+use Prim.Native.Nat.{ℕ, zero, suc, _<_}
 use native.Mathlib.Omega.{arith}
 use native.Mathlib.Decide.{decLt}
 use lib.Dec.{eqb, ltb}
@@ -11,9 +11,12 @@ use lib.ListN.{length}
 use borrow.Author.Tests.{eqb-true, ltb-true}
 use Rattle.semantics.proofs.Tests.{and-iff}
 use Rattle.rewriting.specs.Marked.{Marked, entry}
-use Rattle.rewriting.specs.Steps.{Kind, tautology, contradiction, success, noHead, blocked, failure, loop, subsumed, number, kindOf, Step, step, usesPartner, usesAtom, applies}
-use Rattle.rewriting.specs.Reducer.{least, given, firstAtom, firstPartner, firstTarget, firstStep, Less, lessKind, lessTarget, lessPartner, lessAtom, IsFirst}
+use Rattle.rewriting.specs.Steps.{Step, step, applies}
+use Rattle.rewriting.specs.Kinds.{Kind, number, kindOf, usesPartner, usesAtom}
+use Rattle.rewriting.specs.Reducer.{Less, lessKind, lessTarget, lessPartner, lessAtom, IsFirst}
+use Rattle.rewriting.specs.Search.{least, given, firstAtom, firstPartner, firstTarget, firstStep}
 use Rattle.rewriting.proofs.Left.{kept-lt}
+use Rattle.rewriting.proofs.Rows.{kind-index, number-kindOf}
 
 none≢some : {B : Type 0} {b : B} → Path (Option B) none (some b) → ⊥
 none≢some p = let z : _≡_ {A = ℕ} 0 1 = cc in omega arith
@@ -64,47 +67,6 @@ partner-lt false P t p h = omega (arith, eqb-true p 0 h)
 pub atom-lt : (b : Bool) (n a : ℕ) → So (cond b (ltb a n) (eqb a 0)) → a < cond b n 1
 atom-lt true n a h = ltb-true _ _ h
 atom-lt false n a h = omega (arith, eqb-true a 0 h)
-
-pub kindOf-number : (k : Kind) → kindOf (number k) ≡ k
-kindOf-number tautology = refl
-kindOf-number contradiction = refl
-kindOf-number success = refl
-kindOf-number noHead = refl
-kindOf-number blocked = refl
-kindOf-number failure = refl
-kindOf-number loop = refl
-kindOf-number subsumed = refl
-
-pub number-bounds : (k : Kind) → (1 ≤ number k) × (number k ≤ 8)
-number-bounds tautology = (omega arith, omega arith)
-number-bounds contradiction = (omega arith, omega arith)
-number-bounds success = (omega arith, omega arith)
-number-bounds noHead = (omega arith, omega arith)
-number-bounds blocked = (omega arith, omega arith)
-number-bounds failure = (omega arith, omega arith)
-number-bounds loop = (omega arith, omega arith)
-number-bounds subsumed = (omega arith, omega arith)
-
--- a kind's place in the search
-kind-index : (k : Kind) → (i : ℕ) × (i < 8) × (number k ≡ suc i) × (kindOf (suc i) ≡ k)
-kind-index tautology = (0, omega arith, refl, refl)
-kind-index contradiction = (1, omega arith, refl, refl)
-kind-index success = (2, omega arith, refl, refl)
-kind-index noHead = (3, omega arith, refl, refl)
-kind-index blocked = (4, omega arith, refl, refl)
-kind-index failure = (5, omega arith, refl, refl)
-kind-index loop = (6, omega arith, refl, refl)
-kind-index subsumed = (7, omega arith, refl, refl)
-
-pub number-kindOf : (i : ℕ) → i < 8 → number (kindOf (suc i)) ≡ suc i
-number-kindOf zero h = refl
-number-kindOf (suc zero) h = refl
-number-kindOf (suc (suc zero)) h = refl
-number-kindOf (suc (suc (suc zero))) h = refl
-number-kindOf (suc (suc (suc (suc zero)))) h = refl
-number-kindOf (suc (suc (suc (suc (suc zero))))) h = refl
-number-kindOf (suc (suc (suc (suc (suc (suc zero)))))) h = refl
-number-kindOf (suc (suc (suc (suc (suc (suc (suc i))))))) h = omega arith
 
 module _ (n : ℕ) (P : Marked) where
   Atom : Kind → ℕ → ℕ → ℕ → Type 0

@@ -12,11 +12,13 @@ use Rattle.semantics.specs.Programs.{Clause, Atoms, Stable, program}
 use Rattle.semantics.proofs.Tests.{and-iff, not-iff, mem-iff, within-iff, null-iff}
 use Rattle.semantics.proofs.Models.{Same, same-iff, same-trans, Closed}
 use Rattle.rewriting.specs.Marked.{Entry, Marked, entry, left}
-use Rattle.rewriting.specs.Reach.{reach}
-use Rattle.rewriting.specs.Steps.{Kind, tautology, contradiction, success, noHead, blocked, failure, loop, subsumed, Step, usesPartner, single, inNoHead, condition, conditionHolds, applies, deleted, dropNeg, rewritten, effect, leaves}
+use Rattle.rewriting.specs.Reaches.{reach}
+use Rattle.rewriting.specs.Steps.{Step, single, inNoHead, condition, conditionHolds, applies, deleted, dropNeg, rewritten, effect}
+use Rattle.rewriting.specs.Runs.{leaves}
+use Rattle.rewriting.specs.Kinds.{Kind, tautology, contradiction, success, noHead, blocked, failure, loop, subsumed, usesPartner}
 use Rattle.rewriting.proofs.Left.{each-set, ClosedAt, closed-left}
 use Rattle.rewriting.proofs.ByKind.{same-tautology, same-contradiction, same-outside, same-dropNeg, same-blocked, same-subsumed, same-success}
-use Rattle.rewriting.proofs.Reach.{others, others-closed, others-not, reach-closed, same-without}
+use Rattle.rewriting.proofs.Reach.{allBut, others-closed, others-not, reach-closed, same-without}
 
 -- a closed set stays closed where an entry asks no more
 closed-set : (R : Atoms) (P : Marked) (t : ℕ) (e : Entry) → (ClosedAt R (entry P t) → ClosedAt R e) → Closed R (left P) → Closed R (left (set P t e))
@@ -79,10 +81,10 @@ module _ (P : Marked) (t p a : ℕ) where
   by-kind subsumed h n M = same-iff _ _ _ _ (strong-same subsumed refl h M)
   by-kind noHead (kt, u, h) n M =
       let w = and-iff (mem a (entry P t .clause .neg)) (inNoHead (left P) a) .0 h in let c = others-closed (left P) a (w .1) in
-      same-without n (left P) (After noHead) M (others a) a c (closed-set (others a) P t (dropNeg a (entry P t .clause)) (λ f k. f kt) c) (others-not a) (λ o. same-dropNeg M P t a kt o)
+      same-without n (left P) (After noHead) M (allBut a) a c (closed-set (allBut a) P t (dropNeg a (entry P t .clause)) (λ f k. f kt) c) (others-not a) (λ o. same-dropNeg M P t a kt o)
   by-kind failure (kt, u, h) n M =
       let w = and-iff _ _ .0 h in let c = others-closed (left P) a (w .1) in
-      same-without n (left P) (After failure) M (others a) a c (closed-deleted (others a) P t c) (others-not a) (λ o. same-outside M P t a o (mem-iff _ _ .0 (w .0)))
+      same-without n (left P) (After failure) M (allBut a) a c (closed-deleted (allBut a) P t c) (others-not a) (λ o. same-outside M P t a o (mem-iff _ _ .0 (w .0)))
   by-kind loop (kt, u, h) n M =
       let w = and-iff _ _ .0 h in
       same-without n (left P) (After loop) M (reach (left P)) a (reach-closed (left P)) (closed-deleted (reach (left P)) P t (reach-closed (left P))) (not-iff _ .0 (w .1)) (λ o. same-outside M P t a o (mem-iff _ _ .0 (w .0)))

@@ -10,42 +10,33 @@ use Rattle.semantics.specs.Lists.{_∈_, mem, within}
 use Rattle.semantics.specs.Programs.{Clause}
 use Rattle.semantics.proofs.Tests.{without-sub, and-iff, not-iff, mem-iff, within-iff}
 use Rattle.rewriting.specs.Marked.{Entry, Marked, entry, left}
-use Rattle.rewriting.specs.Reach.{reach}
-use Rattle.rewriting.specs.Steps.{Step, Kind, tautology, contradiction, success, noHead, blocked, failure, loop, subsumed, usesPartner, fact, single, inNoHead, condition, conditionHolds, applies, deleted, rewritten}
-use Rattle.rewriting.specs.Kinds.{drops}
+use Rattle.rewriting.specs.Reaches.{reach}
+use Rattle.rewriting.specs.Steps.{Step, fact, single, inNoHead, condition, conditionHolds, applies, deleted, leftBy}
+use Rattle.rewriting.specs.Kinds.{Kind, tautology, contradiction, success, noHead, blocked, failure, loop, subsumed, Deed, deletes, dropsPos, dropsNeg, usesPartner}
+use Rattle.rewriting.specs.Uses.{dropping}
 
 -- a clause that is no more than another, with the same head
-pub record Below (d c : Entry) : Type 0 where
+pub record Subclause (d c : Entry) : Type 0 where
   pub kept : So (d .kept) → So (c .kept)
   pub head : d .clause .head ≡ c .clause .head
   pub pos : (a : ℕ) → a ∈ d .clause .pos → a ∈ c .clause .pos
   pub neg : (a : ℕ) → a ∈ d .clause .neg → a ∈ c .clause .neg
 
-pub below-same : {d c : Entry} → d ≡ c → Below d c
-below-same {c = c} e = subst (λ d. Below d c) (sym e) (record { kept = λ h. h; head = refl; pos = λ a m. m; neg = λ a m. m })
+pub below-same : {d c : Entry} → d ≡ c → Subclause d c
+below-same {c = c} e = subst (λ d. Subclause d c) (sym e) (record { kept = λ h. h; head = refl; pos = λ a m. m; neg = λ a m. m })
 
-below-deleted : (e : Entry) → Below (deleted (e .clause)) e
+below-deleted : (e : Entry) → Subclause (deleted (e .clause)) e
 below-deleted e = record { kept = λ h. absurd (false≢true h); head = refl; pos = λ a m. m; neg = λ a m. m }
 
-pub below-rewritten : (k : Kind) (e : Entry) (d : Clause) (a : ℕ) → So (e .kept) → Below (rewritten k (e .clause) d a) e
-below-rewritten tautology e d a k = below-deleted e
-below-rewritten contradiction e d a k = below-deleted e
-below-rewritten success e d a k = record { kept = λ h. k; head = refl; pos = λ b m. without-sub _ b _ m; neg = λ b m. m }
-below-rewritten noHead e d a k = record { kept = λ h. k; head = refl; pos = λ b m. m; neg = λ b m. without-sub _ b _ m }
-below-rewritten blocked e d a k = below-deleted e
-below-rewritten failure e d a k = below-deleted e
-below-rewritten loop e d a k = below-deleted e
-below-rewritten subsumed e d a k = below-deleted e
+pub below-left : (x : Deed) (a : ℕ) (e : Entry) → So (e .kept) → Subclause (leftBy x a (e .clause)) e
+below-left deletes a e k = below-deleted e
+below-left dropsPos a e k = record { kept = λ h. k; head = refl; pos = λ b m. without-sub _ b _ m; neg = λ b m. m }
+below-left dropsNeg a e k = record { kept = λ h. k; head = refl; pos = λ b m. m; neg = λ b m. without-sub _ b _ m }
 
-pub rewritten-kept : (k : Kind) (c d : Clause) (a : ℕ) → rewritten k c d a .kept ≡ drops k
-rewritten-kept tautology c d a = refl
-rewritten-kept contradiction c d a = refl
-rewritten-kept success c d a = refl
-rewritten-kept noHead c d a = refl
-rewritten-kept blocked c d a = refl
-rewritten-kept failure c d a = refl
-rewritten-kept loop c d a = refl
-rewritten-kept subsumed c d a = refl
+pub left-kept : (x : Deed) (a : ℕ) (c : Clause) → leftBy x a c .kept ≡ dropping x
+left-kept deletes a c = refl
+left-kept dropsPos a c = refl
+left-kept dropsNeg a c = refl
 
 -- what the condition of a kind asks of the other clauses, carried back from Q to P
 abbrev pub Keeps : Kind → Marked → Marked → ℕ → ℕ → Type 0
@@ -69,7 +60,7 @@ mem-more a k l f h = mem-iff a l .1 (f a (mem-iff a k .0 h))
 within-more : (j k l : List ℕ) → ((b : ℕ) → b ∈ k → b ∈ l) → So (within j k) → So (within j l)
 within-more j k l f h = within-iff j l .1 (λ a m. f a (within-iff j k .0 h a m))
 
-module _ (P Q : Marked) (t p a : ℕ) (b : Below (entry Q t) (entry P t)) where
+module _ (P Q : Marked) (t p a : ℕ) (b : Subclause (entry Q t) (entry P t)) where
   abbrev old : Clause
   old = entry P t .clause
 
@@ -101,13 +92,13 @@ module _ (P Q : Marked) (t p a : ℕ) (b : Below (entry Q t) (entry P t)) where
             (within-more (by .pos) (new .pos) (old .pos) (b .pos) (w .1 .0), within-more (by .neg) (new .neg) (old .neg) (b .neg) (w .1 .1)),
       )
 
-partner-back : (u : Bool) (P Q : Marked) (p t : ℕ) → Below (entry Q p) (entry P p)
+partner-back : (u : Bool) (P Q : Marked) (p t : ℕ) → Subclause (entry Q p) (entry P p)
     → So (cond u (entry Q p .kept && not (eqb p t)) (eqb p 0)) → So (cond u (entry P p .kept && not (eqb p t)) (eqb p 0))
 partner-back true P Q p t b h = let w = and-iff _ _ .0 h in and-iff _ _ .1 (b .kept (w .0), w .1)
 partner-back false P Q p t b h = h
 
 -- A step that applies in a program whose clauses are below those of P applies in P, where its kind's question carries back.
-pub back : (n : ℕ) (P Q : Marked) → ((i : ℕ) → Below (entry Q i) (entry P i)) → (u : Step) → Keeps (u .kind) P Q (u .partner) (u .atom) → So (applies n Q u) → So (applies n P u)
+pub back : (n : ℕ) (P Q : Marked) → ((i : ℕ) → Subclause (entry Q i) (entry P i)) → (u : Step) → Keeps (u .kind) P Q (u .partner) (u .atom) → So (applies n Q u) → So (applies n P u)
 unfolding applies conditionHolds
 back n P Q b u e h =
     let w = simp and-iff at h in

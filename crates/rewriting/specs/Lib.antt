@@ -1,5 +1,10 @@
 pub mod Marked
 pub mod Reach
-pub mod Steps
+pub mod Reaches
 pub mod Kinds
+pub mod Uses
+pub mod Steps
+pub mod Runs
 pub mod Reducer
+pub mod Search
+pub mod Measure

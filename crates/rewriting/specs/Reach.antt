@@ -1,9 +1,7 @@
--- The reach of clauses: what it has to be, and how it is computed.
-use mathlib.Core.Bool.{Bool, not, cond, _&&_, _||_, So}
-use mathlib.Core.List.{List, [], _∷_, _++_}
-use Prim.Native.Nat.{ℕ, zero, suc}
-use lib.ListN.{length}
-use Rattle.semantics.specs.Lists.{all, mem, within}
+-- The reach of clauses: what it has to be.
+use mathlib.Core.Bool.{Bool, not, _||_, So}
+use mathlib.Core.List.{List}
+use Rattle.semantics.specs.Lists.{all}
 use Rattle.semantics.specs.Programs.{Clause, Atoms, Subset}
 
 -- The set holds all head atoms of every clause whose positive atoms it holds. "Negative atoms don't count."
@@ -14,23 +12,3 @@ closed R cs = all (λ c. not (all R (c .pos)) || all R (c .head)) cs
 pub record IsReach (cs : List Clause) (R : Atoms) : Type 0 where
   pub holds : So (closed R cs)
   pub least : (S : Atoms) → So (closed S cs) → Subset R S
-
--- the clause's positive atoms are all in S, and its head is not
-abbrev pub ready : List ℕ → Clause → Bool
-ready S c = within (c .pos) S && not (within (c .head) S)
-
--- the head of the first clause that is ready, or nothing
-unfoldable pub fire : List ℕ → List Clause → List ℕ
-fire S [] = []
-fire S (c ∷ cs) = cond (ready S c) (c .head) (fire S cs)
-
--- S after k such additions
-unfoldable pub reachFrom : List Clause → ℕ → List ℕ → List ℕ
-unfolding fire
-reachFrom cs zero S = S
-reachFrom cs (suc k) S = reachFrom cs k (fire S cs ++ S)
-
--- the reach, computed: each clause adds its head at most once
-unfoldable pub reach : List Clause → Atoms
-unfolding reachFrom
-reach cs a = mem a (reachFrom cs (length cs) [])

@@ -1,39 +1,14 @@
--- The eight steps, after document 01, "Eight steps", and lists of them.
+-- The eight steps, after document 01, "Eight steps".
 use mathlib.Core.Bool.{Bool, true, false, not, cond, _&&_}
 use mathlib.Core.List.{List, [], _∷_}
-use Prim.Native.Nat.{ℕ, zero, suc}
+use Prim.Native.Nat.{ℕ}
 use lib.Dec.{eqb, ltb}
 use lib.ListN.{getD, set}
 use Rattle.semantics.specs.Lists.{any, null, mem, within, without}
 use Rattle.semantics.specs.Programs.{Clause}
 use Rattle.rewriting.specs.Marked.{Entry, Marked, entry, left}
-use Rattle.rewriting.specs.Reach.{reach}
-
-pub data Kind : Type 0 where
-  tautology contradiction success noHead blocked failure loop subsumed : Kind
-
--- document 01's number of each kind
-abbrev pub number : Kind → ℕ
-number tautology = 1
-number contradiction = 2
-number success = 3
-number noHead = 4
-number blocked = 5
-number failure = 6
-number loop = 7
-number subsumed = 8
-
--- the kind of a number from 1 to 8; what other numbers give is never asked
-abbrev pub kindOf : ℕ → Kind
-kindOf zero = tautology
-kindOf (suc zero) = tautology
-kindOf (suc (suc zero)) = contradiction
-kindOf (suc (suc (suc zero))) = success
-kindOf (suc (suc (suc (suc zero)))) = noHead
-kindOf (suc (suc (suc (suc (suc zero))))) = blocked
-kindOf (suc (suc (suc (suc (suc (suc zero)))))) = failure
-kindOf (suc (suc (suc (suc (suc (suc (suc zero))))))) = loop
-kindOf (suc (suc (suc (suc (suc (suc (suc (suc w)))))))) = subsumed
+use Rattle.rewriting.specs.Reaches.{reach}
+use Rattle.rewriting.specs.Kinds.{Kind, tautology, contradiction, success, noHead, blocked, failure, loop, subsumed, Deed, deletes, dropsPos, dropsNeg, rowOf, usesPartner, usesAtom}
 
 -- "A list is a slice of words, four a step: kind, target, partner, atom."
 pub record Step : Type 0 where
@@ -44,27 +19,6 @@ pub record Step : Type 0 where
 
 abbrev pub step : Kind → ℕ → ℕ → ℕ → Step
 step k t p a = record { kind = k; target = t; partner = p; atom = a }
-
--- "Kinds 1, 2, 4, 6, 7 have no partner word, kinds 3, 5, 8 no atom word"
-abbrev pub usesPartner : Kind → Bool
-usesPartner tautology = false
-usesPartner contradiction = false
-usesPartner success = true
-usesPartner noHead = false
-usesPartner blocked = true
-usesPartner failure = false
-usesPartner loop = false
-usesPartner subsumed = true
-
-abbrev pub usesAtom : Kind → Bool
-usesAtom tautology = true
-usesAtom contradiction = true
-usesAtom success = false
-usesAtom noHead = true
-usesAtom blocked = false
-usesAtom failure = true
-usesAtom loop = true
-usesAtom subsumed = false
 
 -- "one with p = q = 0 is a fact, even where h is 0 or above 1"
 abbrev pub fact : Clause → Bool
@@ -131,28 +85,19 @@ dropPos a c = record { kept = true; clause = record { head = c .head; pos = with
 abbrev pub dropNeg : ℕ → Clause → Entry
 dropNeg a c = record { kept = true; clause = record { head = c .head; pos = c .pos; neg = without a (c .neg) } }
 
--- what a step of each kind leaves of its target c, with the partner d and the atom a
+-- what a deed leaves of its target c, with the atom a
+abbrev pub leftBy : Deed → ℕ → Clause → Entry
+leftBy deletes a c = deleted c
+leftBy dropsPos a c = dropPos a c
+leftBy dropsNeg a c = dropNeg a c
+
+-- the atom that a step drops: the one that it names, or else the partner's one head atom
+abbrev pub dropped : Kind → Clause → ℕ → ℕ
+dropped k d a = cond (usesAtom k) a (getD (d .head) 0 0)
+
+-- what a step leaves of its target c, with the partner d and the atom a
 abbrev pub rewritten : Kind → Clause → Clause → ℕ → Entry
-rewritten tautology c d a = deleted c
-rewritten contradiction c d a = deleted c
-rewritten success c d a = dropPos (getD (d .head) 0 0) c
-rewritten noHead c d a = dropNeg a c
-rewritten blocked c d a = deleted c
-rewritten failure c d a = deleted c
-rewritten loop c d a = deleted c
-rewritten subsumed c d a = deleted c
+rewritten k c d a = leftBy (rowOf k .deed) (dropped k d a) c
 
 unfoldable pub effect : Marked → Step → Marked
 effect P s = set P (s .target) (rewritten (s .kind) (entry P (s .target) .clause) (entry P (s .partner) .clause) (s .atom))
-
--- "each step is asked and made on the marks that the step before it left"
-unfoldable pub accepted : ℕ → Marked → List Step → Bool
-unfolding applies effect
-accepted n P [] = true
-accepted n P (s ∷ l) = applies n P s && accepted n (effect P s) l
-
--- what a list leaves, up to the first step that is refused
-unfoldable pub leaves : ℕ → Marked → List Step → Marked
-unfolding applies effect
-leaves n P [] = P
-leaves n P (s ∷ l) = cond (applies n P s) (leaves n (effect P s) l) P

@@ -8,7 +8,8 @@ use lib.Dec.{ltb}
 use borrow.Author.Tests.{ltb-true, lt-ltb}
 use Rattle.semantics.specs.Lists.{_∈_, all, keep, mem, within}
 use Rattle.semantics.specs.Programs.{Program, Atoms, reduct, models, Subset, Stable}
-use Rattle.semantics.specs.Decide.{among, sublists, stableTest}
+use Rattle.semantics.specs.Decide.{sublists, stableTest}
+use Rattle.semantics.specs.Programs.{among}
 use Rattle.semantics.proofs.Tests.{and-iff, not-iff, or-iff, all-iff, mem-iff, within-iff, keep-iff, so-ext, not-so}
 use Rattle.semantics.proofs.Models.{models-iff, stable-iff}
 

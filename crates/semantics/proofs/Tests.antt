@@ -68,6 +68,12 @@ pub bit-false : (s : Bool) → ¬ So s → bit s ≡ 0
 bit-false true h = absurd (h refl)
 bit-false false h = refl
 
+pub bit-same : (s t : Bool) → bit s ≡ bit t → s ≡ t
+bit-same true true h = refl
+bit-same true false h = absurd (omega arith)
+bit-same false true h = absurd (omega arith)
+bit-same false false h = refl
+
 pub bit-bound : (s : Bool) → bit s ≤ 1
 bit-bound true = omega arith
 bit-bound false = omega arith

@@ -3,12 +3,8 @@ use mathlib.Core.Bool.{Bool, not, _&&_, _||_}
 use mathlib.Core.List.{List, [], _∷_, _++_, map}
 use Prim.Native.Nat.{ℕ}
 use lib.Dec.{ltb}
-use Rattle.semantics.specs.Lists.{all, mem, within}
-use Rattle.semantics.specs.Programs.{Program, Atoms, reduct, models}
-
--- the set of a list's atoms
-abbrev pub among : List ℕ → Atoms
-among l a = mem a l
+use Rattle.semantics.specs.Lists.{all, within}
+use Rattle.semantics.specs.Programs.{Program, among, reduct, models}
 
 -- what is left of a list when some of its elements are taken out, in every way
 unfoldable pub sublists : List ℕ → List (List ℕ)

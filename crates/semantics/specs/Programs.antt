@@ -3,7 +3,7 @@ use mathlib.Core.Path.{_≡_}
 use mathlib.Core.Bool.{Bool, false, not, cond, _||_, So}
 use mathlib.Core.List.{List, [], _∷_}
 use Prim.Native.Nat.{ℕ, _<_}
-use Rattle.semantics.specs.Lists.{any, all}
+use Rattle.semantics.specs.Lists.{any, all, mem}
 
 -- "0|1 <- 2, ~3" has head 0 and 1, positive body 2, negative body 3.
 pub record Clause : Type 0 where
@@ -22,6 +22,10 @@ program n cs = record { atoms = n; clauses = cs }
 -- A set of atoms, of any size.
 abbrev pub Atoms : Type 0
 Atoms = ℕ → Bool
+
+-- the set of a list's atoms
+abbrev pub among : List ℕ → Atoms
+among l a = mem a l
 
 -- "A set satisfies a clause when some positive atom is outside the set or some head atom is inside."
 unfoldable pub satisfies : Atoms → Clause → Bool

@@ -17,12 +17,14 @@ use Rattle.table.specs.declared.Walk.{Walk}
 use Rattle.table.specs.declared.Walk.the-variants.{To, Stop}
 use Rattle.table.specs.declared.Table.{Table}
 use Rattle.table.specs.declared.Checked.the-variants.{Valid}
-use Rattle.table.specs.Questions.{ask, andThen, onTo, partFrom, partsFrom, clauseFrom, clausesFrom, askTable, allUsed, numbers, tableOf, Passed}
+use Rattle.table.specs.Questions.{onWalk, partFrom, partsFrom, clauseFrom, clausesFrom, allUsed, tableNumbers, tableOf, Passed}
+use Rattle.answers.specs.Answers.{ask}
 use Rattle.table.specs.Encoding.{clauseWords, clausesWords, encode, OrderedClause, Within}
-use Rattle.table.specs.Places.{cut, nextAt, clauseOf, clausesOf, programOf}
-use Rattle.table.specs.declared.WordQuestion.the-variants.{AtomBelow, Ascending}
-use Rattle.table.specs.declared.Refusal.the-variants.{Word}
-use Rattle.table.proofs.Laws.{ask-inv, askTable-inv, and-inv}
+use Rattle.table.specs.Places.{cut, nextAt}
+use Rattle.table.specs.Programs.{clauseOf, clausesOf, programOf}
+use Rattle.answers.specs.declared.WordQuestion.the-variants.{AtomBelow, Ascending}
+use Rattle.answers.specs.declared.Refusal.the-variants.{Word}
+use Rattle.table.proofs.Laws.{ask-inv, askTable-inv}
 use Rattle.table.proofs.Rising.{rising-iff, atoms-of, atoms-inv}
 use Rattle.table.proofs.Stands.{stands, clauses-stand}
 pub use Rattle.table.proofs.Laws.{on-inv}
@@ -36,7 +38,7 @@ program-encode P = ap (program (P .atoms)) (clauses-stand (encode P) 2 (P .claus
 
 pub clause-of : (ws : List ℕ) (n at : ℕ) (c : Clause) (r : List ℕ) → drop at ws ≡ clauseWords c ++ r → OrderedClause n c
     → clauseFrom ws n at ≡ To (at + 3 + length (c .head) + length (c .pos) + length (c .neg))
-unfolding clauseFrom partsFrom andThen ask
+unfolding clauseFrom partsFrom onWalk ask
 clause-of ws n at c r e g =
     let s = stands ws at c r e in
     let H = length (c .head) in
@@ -52,7 +54,7 @@ clause-of ws n at c r e g =
 
 clauses-of : (ws : List ℕ) (n at : ℕ) (cs : List Clause) (r : List ℕ) → drop at ws ≡ clausesWords cs ++ r → ((c : Clause) → c ∈ cs → OrderedClause n c)
     → (e : ℕ) × (clausesFrom ws n (length cs) at ≡ To e) × (drop e ws ≡ r) × (e ≡ at + length (clausesWords cs))
-unfolding clausesFrom clausesWords onTo
+unfolding clausesFrom clausesWords onWalk
 clauses-of ws n at [] r e g = (at, refl, e, sym (add-zero at))
 clauses-of ws n at (c ∷ cs) r e g =
     let f = e ∙ append-assoc (clauseWords c) (clausesWords cs) r in
@@ -62,7 +64,7 @@ clauses-of ws n at (c ∷ cs) r e g =
 
 -- The words of a program within the limits pass questions 1 to 8.
 pub encode-passes : (P : Program) → Within P → Passed (encode P)
-unfolding tableOf askTable allUsed encode
+unfolding tableOf ask onWalk allUsed encode
 encode-passes P g =
     let ws = encode P in
     let (e, a, d, w) = clauses-of ws (P .atoms) 2 (P .clauses) [] (sym (append-nil (clausesWords (P .clauses)))) (g .ordered) in
@@ -91,8 +93,8 @@ unfolding clauseFrom partsFrom
 clause-inv ws n at e in-range h =
     let (t1, h1) = ask-inv _ _ _ e h in
     let (t2, h2) = ask-inv _ _ _ e h1 in
-    let (x1, w1, h3) = and-inv _ _ e h2 in
-    let (x2, w2, h4) = and-inv _ _ e h3 in
+    let (x1, w1, h3) = on-inv _ _ e h2 in
+    let (x2, w2, h4) = on-inv _ _ e h3 in
     let H = getD ws at 0 in
     let P = getD ws (at + 1) 0 in
     let Q = getD ws (at + 2) 0 in
@@ -141,8 +143,8 @@ clauses-inv ws n (suc m) at e l h =
     each g gs c (List·Memᴰ·head e) = rw e g
     each g gs c (List·Memᴰ·tail k) = gs c k
 
-used-inv : (ws : List ℕ) (w : Walk) (t : Table) → allUsed ws w ≡ Valid t → (e : ℕ) × (w ≡ To e) × (length ws ≤ e) × (t ≡ numbers ws)
-unfolding allUsed
+used-inv : (ws : List ℕ) (w : Walk) (t : Table) → allUsed ws w ≡ Valid t → (e : ℕ) × (w ≡ To e) × (length ws ≤ e) × (t ≡ tableNumbers ws)
+unfolding allUsed onWalk
 used-inv ws (To e) t h = let (a, h1) = askTable-inv _ _ _ t h in (e, refl, leb-true (length ws) e a, cc)
 used-inv ws (Stop r) t h = let z : _≡_ {A = ℕ} 0 1 = cc in absurd (omega arith)
 
@@ -156,7 +158,7 @@ pub record Limits (ws : List ℕ) : Type 0 where
   pub clauses : clausesFrom ws (getD ws 0 0) (getD ws 1 0) 2 ≡ To end
   pub used : length ws ≤ end
 
-pub valid-inv : (ws : List ℕ) (t : Table) → tableOf ws ≡ Valid t → Limits ws × (t ≡ numbers ws)
+pub valid-inv : (ws : List ℕ) (t : Table) → tableOf ws ≡ Valid t → Limits ws × (t ≡ tableNumbers ws)
 unfolding tableOf
 valid-inv ws t h =
     let (s1, h1) = askTable-inv _ _ _ t h in
@@ -167,11 +169,11 @@ valid-inv ws t h =
     (record { long = leb-true _ _ x; short = leb-true _ _ y; fewAtoms = leb-true _ _ s2; fewClauses = leb-true _ _ s3; end = e; clauses = a; used = l }, q)
 
 -- A table that the check takes has passed.
-pub valid-passed : (ws : List ℕ) (t : Table) → tableOf ws ≡ Valid t → Passed ws × (t ≡ numbers ws)
+pub valid-passed : (ws : List ℕ) (t : Table) → tableOf ws ≡ Valid t → Passed ws × (t ≡ tableNumbers ws)
 valid-passed ws t h = let q = valid-inv ws t h .1 in (record { valid = h ∙ ap Valid q }, q)
 
 pub passed-limits : (ws : List ℕ) → Passed ws → Limits ws
-passed-limits ws p = valid-inv ws (numbers ws) (p .valid) .0
+passed-limits ws p = valid-inv ws (tableNumbers ws) (p .valid) .0
 
 -- The words of a table that passes are those of its program, which is within the limits.
 pub passed-encode : (ws : List ℕ) → Passed ws → encode (programOf ws) ≡ ws

@@ -5,7 +5,7 @@ use native.Mathlib.Omega.{arith}
 use lib.ListN.{length, length-append}
 use Rattle.semantics.specs.Programs.{Clause, Program}
 use Rattle.rewriting.specs.Marked.{whole}
-use Rattle.rewriting.specs.Reducer.{measure, weight}
+use Rattle.rewriting.specs.Measure.{measure, weight}
 use Rattle.table.specs.Encoding.{clauseWords, clausesWords, encode, Within}
 
 measure-words : (cs : List Clause) → measure (whole cs) + 2 * length cs ≤ length (clausesWords cs)

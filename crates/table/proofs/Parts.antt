@@ -18,8 +18,10 @@ use Rattle.rewriting.specs.Marked.{gone, entry, left, whole}
 use Rattle.rewriting.proofs.Left.{left-whole}
 use Rattle.rewriting.proofs.Measure.{Tidy}
 use Rattle.table.specs.Questions.{Passed}
-use Rattle.table.specs.Places.{cut, headAt, posAt, negAt, nextAt, startFrom, startOf, clauseOf, clausesOf, programOf}
-use Rattle.table.specs.View.{part, kept-of, entryAt, entriesFrom, view, allKept}
+use Rattle.table.specs.Places.{cut, headAt, posAt, negAt, nextAt, startFrom, startOf}
+use Rattle.table.specs.Programs.{clauseOf, clausesOf, programOf}
+use Rattle.table.specs.View.{part, entryAt, entriesFrom, view, allKept}
+use Rattle.table.specs.Slices.{kept-of}
 use Rattle.table.proofs.Places.{Rises, Good, passed-good}
 use Rattle.table.proofs.View.{part-mem, entry-view, length-view}
 

@@ -8,15 +8,19 @@ use native.Mathlib.Omega.{arith}
 use lib.Dec.{leb}
 use lib.ListN.{length, getD}
 use Rattle.semantics.proofs.Tests.{and-iff}
-use Rattle.table.specs.declared.WordQuestion.the-variants.{AtomBelow, Ascending}
-use Rattle.table.specs.declared.Refusal.{Refusal}
-use Rattle.table.specs.declared.Refusal.the-variants.{Word}
+use Rattle.answers.specs.declared.WordQuestion.the-variants.{AtomBelow, Ascending}
+use Rattle.answers.specs.declared.Refusal.{Refusal}
+use Rattle.answers.specs.declared.Refusal.the-variants.{Word}
 use Rattle.table.specs.declared.Walk.{Walk}
 use Rattle.table.specs.declared.Walk.the-variants.{To, Stop}
 use Rattle.table.specs.declared.Checked.{Checked}
 use Rattle.table.specs.declared.Checked.the-variants.{Valid, Refused}
-use Rattle.table.specs.Refusals.{refusalNumber, refusalPlace}
-use Rattle.table.specs.Questions.{ask, andThen, onTo, atomsFrom, partFrom, partsFrom, clauseFrom, clausesFrom, askTable, allUsed, tableOf}
+use Rattle.answers.specs.Refusals.{refusalNumber, refusalPlace}
+use Rattle.table.specs.Questions.{onWalk, atomsFrom, partFrom, partsFrom, clauseFrom, clausesFrom, allUsed, tableOf, onTable, Passed}
+use Rattle.answers.specs.Answers.{ask, Small}
+use Rattle.answers.specs.declared.Answer.{Answer}
+use Rattle.answers.specs.declared.Answer.the-variants as answer
+use Rattle.table.proofs.Encoding.{valid-passed}
 
 -- ---- walks over words, whatever is said of a refusal
 
@@ -26,18 +30,13 @@ module _ (Q : Refusal → Type 0) (b : ℕ) where
   Near (To e) = e ≤ b
   Near (Stop r) = Q r
 
-  pub near-ask : (t : Bool) (r : Refusal) (w : Walk) → Q r → (t ≡ true → Near w) → Near (ask t r w)
+  pub near-ask : (t : Bool) (r : Refusal) (w : Walk) → Q r → (t ≡ true → Near w) → Near (ask Stop t r w)
   unfolding ask
   near-ask true r w h y = y refl
   near-ask false r w h y = h
 
-  near-then : (w v : Walk) → Near w → Near v → Near (andThen w v)
-  unfolding andThen
-  near-then (To e) v h k = k
-  near-then (Stop r) v h k = h
-
-  near-on : (w : Walk) (f : ℕ → Walk) → Near w → ((e : ℕ) → e ≤ b → Near (f e)) → Near (onTo w f)
-  unfolding onTo
+  near-on : (w : Walk) (f : ℕ → Walk) → Near w → ((e : ℕ) → e ≤ b → Near (f e)) → Near (onWalk Stop w f)
+  unfolding onWalk
   near-on (To e) f h k = k e h
   near-on (Stop r) f h k = h
 
@@ -65,7 +64,7 @@ module _ (ws : List ℕ) where
   clause-near n at h =
       near-ask _ _ _ _ _ (omega arith, h) (λ t. let l = leb-true 3 (length ws - at) t in
       near-ask _ _ _ _ _ (omega arith, h) (λ u. let k = leb-true (getD ws at 0 + getD ws (at + 1) 0 + getD ws (at + 2) 0) (length ws - at - 3) u in
-      near-then _ _ _ _ (part-near n _ _ (omega arith)) (near-then _ _ _ _ (part-near n _ _ (omega arith)) (part-near n _ _ (omega arith)))))
+      near-on _ _ _ _ (part-near n _ _ (omega arith)) (λ _ _. near-on _ _ _ _ (part-near n _ _ (omega arith)) (λ _ _. part-near n _ _ (omega arith)))))
 
   clauses-near : (n m at : ℕ) → at ≤ length ws → Walks (clausesFrom ws n m at)
   unfolding clausesFrom
@@ -76,13 +75,13 @@ module _ (ws : List ℕ) where
   Checks (Valid t) = Unit {0}
   Checks (Refused r) = Among 8192 r
 
-  checks-ask : (t : Bool) (r : Refusal) (c : Checked) → Among 8192 r → (t ≡ true → Checks c) → Checks (askTable t r c)
-  unfolding askTable
+  checks-ask : (t : Bool) (r : Refusal) (c : Checked) → Among 8192 r → (t ≡ true → Checks c) → Checks (ask Refused t r c)
+  unfolding ask
   checks-ask true r c h y = y refl
   checks-ask false r c h y = h
 
   used-checks : (w : Walk) → length ws ≤ 8192 → Walks w → Checks (allUsed ws w)
-  unfolding allUsed
+  unfolding allUsed onWalk
   used-checks (To e) l h = checks-ask _ _ _ (omega arith, omega arith) (λ _. tt)
   used-checks (Stop r) l h = (h .0, omega (arith, h .1))
 
@@ -95,3 +94,22 @@ module _ (ws : List ℕ) where
 
   pub table-refused : (r : Refusal) → tableOf ws ≡ Refused r → (refusalNumber r ≤ 8) × (refusalPlace r ≤ 8192)
   table-refused r q = rw q at table-checks
+
+-- ---- values and places that leave room for a number
+
+-- a walk comes to a place of at most b, or is refused at one
+abbrev pub NearBy : ℕ → Walk → Type 0
+NearBy b w = Near (λ r. refusalPlace r ≤ b) b w
+
+pub small-walk : (b : ℕ) → b ≤ 65536 → (w : Walk) (f : ℕ → Answer) → NearBy b w → ((e : ℕ) → Small (f e)) → Small (onWalk answer.Refused w f)
+unfolding onWalk
+small-walk b l (To e) f h k = k e
+small-walk b l (Stop r) f h k = omega arith
+
+pub small-table : (ws : List ℕ) (a : Answer) → (Passed ws → Small a) → Small (onTable answer.Refused (tableOf ws) a)
+unfolding onTable
+small-table ws a k = go (tableOf ws) refl
+  where
+    go : (c : Checked) → tableOf ws ≡ c → Small (onTable answer.Refused c a)
+    go (Valid t) q = k (valid-passed ws t q .0)
+    go (Refused r) q = omega (arith, table-refused ws r q .1)

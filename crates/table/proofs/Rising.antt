@@ -12,9 +12,10 @@ use lib.Dec.{ltb}
 use borrow.Author.Tests.{le-leb, leb-true, lt-ltb, ltb-true}
 use Rattle.semantics.specs.Lists.{_∈_, all, ascending}
 use Rattle.semantics.proofs.Tests.{and-iff, all-iff}
-use Rattle.table.specs.declared.Refusal.{Refusal}
+use Rattle.answers.specs.declared.Refusal.{Refusal}
 use Rattle.table.specs.declared.Walk.the-variants.{To}
-use Rattle.table.specs.Questions.{ask, atomsFrom}
+use Rattle.table.specs.Questions.{atomsFrom}
+use Rattle.answers.specs.Answers.{ask}
 use Rattle.table.specs.Encoding.{Ordered}
 use Rattle.table.specs.Places.{cut}
 use Rattle.table.proofs.Laws.{ask-inv}

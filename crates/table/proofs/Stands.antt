@@ -7,7 +7,8 @@ use lib.ListN.{length, getD, drop}
 use lib.Seq.{drop-drop, getD-drop, take-append-seam, drop-append-seam}
 use Rattle.semantics.specs.Programs.{Clause}
 use Rattle.table.specs.Encoding.{clauseWords, clausesWords}
-use Rattle.table.specs.Places.{cut, clauseOf, clausesOf}
+use Rattle.table.specs.Places.{cut}
+use Rattle.table.specs.Programs.{clauseOf, clausesOf}
 
 -- past the first of two parts
 pub past : (ws xs r : List ℕ) (at : ℕ) → drop at ws ≡ xs ++ r → drop (at + length xs) ws ≡ r
@@ -19,7 +20,7 @@ word-at ws at i x l e h = sym (getD-drop at ws i 0) ∙ ap (λ l. getD l i 0) e 
 cut-is : (ws xs r : List ℕ) (at : ℕ) → drop at ws ≡ xs ++ r → cut ws at (length xs) ≡ xs
 cut-is ws xs r at e = rw e (take-append-seam xs r)
 
-pub record Stands (ws : List ℕ) (at : ℕ) (c : Clause) (r : List ℕ) : Type 0 where
+pub record ClauseStands (ws : List ℕ) (at : ℕ) (c : Clause) (r : List ℕ) : Type 0 where
   pub h : getD ws at 0 ≡ length (c .head)
   pub p : getD ws (at + 1) 0 ≡ length (c .pos)
   pub q : getD ws (at + 2) 0 ≡ length (c .neg)
@@ -28,7 +29,7 @@ pub record Stands (ws : List ℕ) (at : ℕ) (c : Clause) (r : List ℕ) : Type 
   pub neg : drop (at + 3 + length (c .head) + length (c .pos)) ws ≡ c .neg ++ r
   pub next : drop (at + 3 + length (c .head) + length (c .pos) + length (c .neg)) ws ≡ r
 
-pub stands : (ws : List ℕ) (at : ℕ) (c : Clause) (r : List ℕ) → drop at ws ≡ clauseWords c ++ r → Stands ws at c r
+pub stands : (ws : List ℕ) (at : ℕ) (c : Clause) (r : List ℕ) → drop at ws ≡ clauseWords c ++ r → ClauseStands ws at c r
 stands ws at c r e =
     let d : drop at ws ≡ length (c .head) ∷ length (c .pos) ∷ length (c .neg) ∷ (c .head ++ (c .pos ++ (c .neg ++ r))) =
     e ∙ ap (λ l. length (c .head) ∷ length (c .pos) ∷ length (c .neg) ∷ l) (append-assoc (c .head) (c .pos ++ c .neg) r ∙ ap (λ l. c .head ++ l) (append-assoc (c .pos) (c .neg) r)) in
@@ -45,7 +46,7 @@ stands ws at c r e =
       next = past ws (c .neg) r (at + 3 + length (c .head) + length (c .pos)) f;
     }
 
-pub clause-stands : (ws : List ℕ) (at : ℕ) (c : Clause) (r : List ℕ) → Stands ws at c r → clauseOf ws at ≡ c
+pub clause-stands : (ws : List ℕ) (at : ℕ) (c : Clause) (r : List ℕ) → ClauseStands ws at c r → clauseOf ws at ≡ c
 clause-stands ws at c r s =
     rw (s .h, s .p, s .q, cut-is ws (c .head) _ _ (s .head), cut-is ws (c .pos) _ _ (s .pos), cut-is ws (c .neg) _ _ (s .neg))
 

@@ -11,17 +11,19 @@ use lib.Dec.{eqb}
 use lib.ListN.{length, getD, set, take, length-set, length-take}
 use lib.Seq.{getD-set-same, getD-set-other, take-set-lt, getD-take}
 use borrow.Author.Tests.{eqb-true, eqb-false, eq-eqb, ne-eqb}
-use Rattle.semantics.specs.Lists.{_∈_, count, bit, without, mem}
-use Rattle.semantics.specs.Programs.{Clause}
-use Rattle.semantics.proofs.Tests.{and-iff, mem-iff, without-none}
+use Rattle.semantics.specs.Lists.{_∈_, count, bit, without}
+use Rattle.semantics.proofs.Tests.{and-iff, without-none}
 use Rattle.rewriting.specs.Marked.{Entry, entry, left}
-use Rattle.rewriting.specs.Steps.{Kind, tautology, contradiction, success, noHead, blocked, failure, loop, subsumed, Step, fact, single, condition, applies, deleted, dropPos, dropNeg, rewritten, effect, accepted, leaves}
+use Rattle.rewriting.specs.Steps.{Step, condition, applies, deleted, dropPos, dropNeg, leftBy, dropped, rewritten, effect}
+use Rattle.rewriting.specs.Runs.{accepted, leaves}
+use Rattle.rewriting.specs.Kinds.{Deed, deletes, dropsPos, dropsNeg, rowOf}
 use Rattle.rewriting.proofs.Left.{kept-lt}
-use Rattle.rewriting.proofs.Measure.{single-at}
+use Rattle.rewriting.proofs.Rows.{There, drops-there}
 use Rattle.rewriting.proofs.Sound.{applies-ask}
 use Rattle.table.specs.Questions.{Passed}
 use Rattle.table.specs.Places.{headAt, posAt, negAt, nextAt, startFrom, startOf}
-use Rattle.table.specs.View.{part, entryAt, entriesFrom, view, find, clears, marksAfter, marksAfterAll, zeros}
+use Rattle.table.specs.View.{part, entryAt, entriesFrom, view, zeros}
+use Rattle.table.specs.Effects.{find, clearedBy, clears, marksAfter, marksAfterAll}
 use Rattle.table.proofs.Places.{Rises, Good, passed-good}
 
 -- ---- one mark, one clause
@@ -182,18 +184,10 @@ module _ (w k : List ℕ) (n o : ℕ) (g : Good w n o) (long : length w ≤ leng
         v,
       )
 
-  cleared : (h : Kind) (cs : List Clause) (d : Clause) (a : ℕ) → So (condition h cs (entryAt w k o .clause) d a) → Cleared (clears w h o d a) (rewritten h (entryAt w k o .clause) d a)
-  unfolding condition clears
-  cleared tautology cs d a c = cleared-first
-  cleared contradiction cs d a c = cleared-first
-  cleared success cs d a c =
-      let v = and-iff (fact d) (single (λ b. mem b (entryAt w k o .clause .pos)) (d .head)) .0 c in
-      cleared-pos (getD (d .head) 0 0) (mem-iff _ _ .0 (single-at (λ b. mem b (entryAt w k o .clause .pos)) (d .head) (v .1)))
-  cleared noHead cs d a c = cleared-neg a ((simp (and-iff, mem-iff) at c) .0)
-  cleared blocked cs d a c = cleared-first
-  cleared failure cs d a c = cleared-first
-  cleared loop cs d a c = cleared-first
-  cleared subsumed cs d a c = cleared-first
+  cleared : (x : Deed) (b : ℕ) → There x b (entryAt w k o .clause) → Cleared (clearedBy w x o b) (leftBy x b (entryAt w k o .clause))
+  cleared deletes b m = cleared-first
+  cleared dropsPos b m = cleared-pos b m
+  cleared dropsNeg b m = cleared-neg b m
 
 -- ---- a step on the marks
 
@@ -211,14 +205,15 @@ module _ (w k : List ℕ) (p : Passed w) (long : length w ≤ length k) where
       → let o = startOf w (s .target) in let d = entry (view w k) (s .partner) .clause in
       (s .target < getD w 1 0) × (entry (view w k) (s .target) ≡ entryAt w k o) × (o ≤ clears w (s .kind) o d (s .atom)) × (clears w (s .kind) o d (s .atom) < nextAt w o)
       × (entryAt w (set k (clears w (s .kind) o d (s .atom)) 0) o ≡ rewritten (s .kind) (entryAt w k o .clause) d (s .atom)) × (getD k (clears w (s .kind) o d (s .atom)) 0 ≡ 1)
+  unfolding clears
   at-step n s h =
       let (x, y, z) = applies-ask n (view w k) s h in
       let t = s .target in
       let d = entry (view w k) (s .partner) .clause in
       let l : t < getD w 1 0 = omega (arith, kept-lt (view w k) t x, length-view w k) in
       let e = entry-view w k t l in
-      let r = cleared w k (getD w 0 0) (startOf w t) (passed-good w p t l) long (subst (λ c. So (c .kept)) e x) (s .kind) (left (view w k)) d (s .atom)
-      (subst (λ c. So (condition (s .kind) (left (view w k)) (c .clause) d (s .atom))) e z) in
+      let r = cleared w k (getD w 0 0) (startOf w t) (passed-good w p t l) long (subst (λ c. So (c .kept)) e x) (rowOf (s .kind) .deed) (dropped (s .kind) d (s .atom))
+      (drops-there (left (view w k)) _ d (s .atom) (s .kind) (subst (λ c. So (condition (s .kind) (left (view w k)) (c .clause) d (s .atom))) e z)) in
       (l, e, r .0, r .1, r .2, r .3)
 
   -- Clearing a step's mark is the step's effect on the program.

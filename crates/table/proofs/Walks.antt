@@ -9,7 +9,8 @@ use lib.ListN.{length, getD}
 use Rattle.table.specs.declared.Walk.the-variants.{To}
 use Rattle.table.specs.Questions.{clausesFrom, Passed}
 use Rattle.table.specs.Encoding.{OrderedClause}
-use Rattle.table.specs.Places.{nextAt, startFrom, startOf, clauseOf, clausesOf, programOf}
+use Rattle.table.specs.Places.{nextAt, startFrom, startOf}
+use Rattle.table.specs.Programs.{clauseOf, clausesOf, programOf}
 use Rattle.table.proofs.Laws.{one-left, on-inv}
 use Rattle.table.proofs.Encoding.{clause-inv, passed-limits}
 use Rattle.table.proofs.Places.{passed-sound, start-suc}

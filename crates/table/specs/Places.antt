@@ -1,8 +1,7 @@
--- Where the clauses and their parts stand in a table's words, and the program that the words are.
+-- Where the clauses and their parts stand in a table's words.
 use Prim.Native.Nat.{ℕ, zero, suc, _+_}
-use mathlib.Core.List.{List, [], _∷_}
+use mathlib.Core.List.{List}
 use lib.ListN.{getD, take, drop}
-use Rattle.semantics.specs.Programs.{Clause, Program, program}
 
 -- A clause is given by the place of its first word. Its head starts three words on, then its positive and its negative body;
 -- then the next clause.
@@ -30,19 +29,3 @@ startOf ws t = startFrom ws 2 t
 -- k words from `at`
 abbrev pub cut : List ℕ → ℕ → ℕ → List ℕ
 cut ws at k = take k (drop at ws)
-
-abbrev pub clauseOf : List ℕ → ℕ → Clause
-clauseOf ws at = record {
-  head = cut ws (headAt at) (getD ws at 0);
-  pos = cut ws (posAt ws at) (getD ws (at + 1) 0);
-  neg = cut ws (negAt ws at) (getD ws (at + 2) 0);
-}
-
-unfoldable pub clausesOf : List ℕ → ℕ → ℕ → List Clause
-clausesOf ws zero at = []
-clausesOf ws (suc m) at = clauseOf ws at ∷ clausesOf ws m (nextAt ws at)
-
--- the program of a table
-unfoldable pub programOf : List ℕ → Program
-unfolding clausesOf
-programOf ws = program (getD ws 0 0) (clausesOf ws (getD ws 1 0) 2)

@@ -1,7 +1,7 @@
 //! Lists of steps, right, half-right and random.
-use crate::paper::reduce::{applicable, smallest};
-use crate::paper::steps::{Left, Step};
-use crate::paper::table::Table;
+use crate::independent::reduce::{applicable, smallest};
+use crate::independent::steps::{Left, Step};
+use crate::independent::table::Table;
 use crate::random::Random;
 
 /// A list for a table, which need not be sound.

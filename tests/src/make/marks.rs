@@ -1,5 +1,5 @@
 //! Marks, sound and damaged.
-use crate::paper::table::Table;
+use crate::independent::table::Table;
 use crate::random::Random;
 
 /// Bytes of any value: as many as the table's words, rarely one too few, often some more.

@@ -1,5 +1,5 @@
 //! Random programs.
-use crate::paper::program::{Clause, Program, Set};
+use crate::independent::program::{Clause, Program, Set};
 use crate::random::Random;
 
 /// At most so many atoms, clauses and atoms a part.

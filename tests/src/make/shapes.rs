@@ -1,6 +1,6 @@
 //! Programs of given shapes, up to the largest that a table holds. Each shape is hard for some way of reducing.
 use super::programs::part;
-use crate::paper::program::{words, Clause, Program};
+use crate::independent::program::{words, Clause, Program};
 use crate::random::Random;
 
 /// A shape: `program(size)` for a size from 1 to `full`.

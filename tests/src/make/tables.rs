@@ -1,6 +1,6 @@
 //! Tables, sound and damaged.
 use super::programs::{program, Size};
-use crate::paper::program::words;
+use crate::independent::program::words;
 use crate::random::Random;
 
 /// The words of a random program.

@@ -1,8 +1,8 @@
 //! Texts, sound and damaged.
 use super::programs::{program, Size};
-use crate::paper::program::{words, Clause, Program};
-use crate::paper::table::Table;
-use crate::paper::text::render;
+use crate::independent::program::{words, Clause, Program};
+use crate::independent::table::Table;
+use crate::independent::text::render;
 use crate::random::Random;
 
 /// The text of a random program, most often damaged in one to three places.

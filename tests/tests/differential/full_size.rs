@@ -2,9 +2,9 @@
 use gambrolt_tests::compare::Tally;
 use gambrolt_tests::library;
 use gambrolt_tests::make::shapes::Shape;
-use gambrolt_tests::paper::reduce::smallest;
-use gambrolt_tests::paper::steps::Left;
-use gambrolt_tests::paper::table::Table;
+use gambrolt_tests::independent::reduce::smallest;
+use gambrolt_tests::independent::steps::Left;
+use gambrolt_tests::independent::table::Table;
 use std::time::Instant;
 
 /// Small tables of a shape step by step; larger ones at some of their steps.

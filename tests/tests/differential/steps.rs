@@ -2,7 +2,7 @@
 use gambrolt_tests::compare::Tally;
 use gambrolt_tests::make::programs::{any_size, Size, MIDDLE};
 use gambrolt_tests::make::{lists, marks, tables};
-use gambrolt_tests::paper::table::Table;
+use gambrolt_tests::independent::table::Table;
 use gambrolt_tests::random::Random;
 
 pub fn checked(random: &mut Random, tally: &mut Tally) {

@@ -1,18 +1,16 @@
--- The answer is the call's definition as one number; a refusal's place leaves room for the number.
+-- The answer of the call as one number; what the call may answer leaves room for it.
 use borrow.Author.Needs.{needs}
-use Rattle.codes.proofs.CallPlaces.{cycle-place}
+use mathlib.Core.Path.{sym, subst}
+use Rattle.answers.specs.Answers.{Small}
+use Rattle.gambrolt.proofs.Small.{cycle-small}
 use Rattle.gambrolt.proofs.gambrolt_cycle.Statement.{statement}
 use Rattle.gambrolt.proofs.gambrolt_cycle.Tie as tie
 
-refusal-code-requires : tie.Need-refusal-code-requires
-refusal-code-requires c κs = cycle-place (c .before .before .before .before .before .args .words .now) (c .before .r .given .0 .0) (cc (c .before .before .before .has-cycle .ensures, c .before .r .given .1))
+answer-code-requires : tie.Need-answer-code-requires
+answer-code-requires c κs = subst Small (sym (c .has-cycle .ensures)) (cycle-small (c .before .before .args .words .now))
 
 returns : tie.Need-returns
-returns c = rw (← c .before .before .before .before .has-cycle .ensures, c .before .before .yes .given .1) (c .one-if .ensures)
-
-returns-2 : tie.Need-returns-2
-returns-2 c = rw (← c .before .before .before .before .has-cycle .ensures, c .before .before .r .given .1) (c .refusal-code .ensures)
+returns c = cc (c .answer-code .ensures, c .before .has-cycle .ensures)
 
 pub gambrolt-cycle-spec : {M : Type 1} → statement M
-gambrolt-cycle-spec =
-    tie.close (tie.spec (λ c κs. search needs) (λ c. search needs) (λ c κs. search needs) (λ c. search needs) refusal-code-requires returns returns-2)
+gambrolt-cycle-spec = tie.close (tie.spec (λ c κs. search needs) answer-code-requires returns)

@@ -1,20 +1,18 @@
--- The answer is the call's definition as one number; a refusal's place leaves room for the number.
+-- The answer of the call as one number; what the call may answer leaves room for it.
 use borrow.Author.Needs.{needs}
-use Rattle.codes.proofs.StepPlaces.{reduce-place}
+use mathlib.Core.Path.{sym, subst}
+use Rattle.answers.specs.Answers.{Small}
+use Rattle.gambrolt.proofs.Small.{reduce-small}
 use Rattle.gambrolt.proofs.gambrolt_reduce.Statement.{statement}
 use Rattle.gambrolt.proofs.gambrolt_reduce.Tie as tie
 
-refusal-code-requires : tie.Need-refusal-code-requires
-refusal-code-requires c κs =
-    reduce-place (c .before .before .before .before .before .before .before .before .before .before .before .before .before .args .words .now) (c .before .before .before .before .before .before .before .before .before .before .before .before .before .args .marks .now) (c .before .before .before .before .before .before .before .before .before .before .before .before .before .args .list .now) (c .before .r .given .0 .0) (cc (c .before .before .before .before .before .before .before .reduce-table .ensures .answer, c .before .r .given .1))
+answer-code-requires : tie.Need-answer-code-requires
+answer-code-requires c κs = subst Small (sym (c .before .before .before .before .reduce-table .ensures .answer)) (reduce-small (c .before .before .before .before .before .before .before .before .before .before .args .words .now) (c .before .before .before .before .before .before .before .before .before .before .args .marks .now) (c .before .before .before .before .before .before .before .before .before .before .args .list .now))
 
 returns : tie.Need-returns
-returns c = (rw (← c .before .before .before .before .before .before .before .reduce-table .ensures .answer, c .before .k .given .1), (c .before .before .before .before .before .before .before .reduce-table .ensures .marks, c .before .before .before .before .before .before .before .reduce-table .ensures .list))
-
-returns-2 : tie.Need-returns-2
-returns-2 c =
-    (rw (← c .before .before .before .before .before .before .before .before .reduce-table .ensures .answer, c .before .before .r .given .1) (c .refusal-code .ensures), (c .before .before .before .before .before .before .before .before .reduce-table .ensures .marks, c .before .before .before .before .before .before .before .before .reduce-table .ensures .list))
+returns c = (cc (c .answer-code .ensures, c .before .before .before .before .before .reduce-table .ensures .answer), (c .before .before .before .before .before .reduce-table .ensures .marks, c .before .before .before .before .before .reduce-table .ensures .list))
 
 pub gambrolt-reduce-spec : {M : Type 1} → statement M
 gambrolt-reduce-spec =
-    tie.close (tie.spec (λ c κs. search needs) (λ c. search needs) (λ c. search needs) refusal-code-requires (λ c. search needs) (λ c. search needs) returns (λ c. search needs) (λ c. search needs) returns-2)
+    tie.close
+    (tie.spec (λ c κs. search needs) answer-code-requires (λ c. search needs) (λ c. search needs) returns)

@@ -1,18 +1,16 @@
--- The answer is the call's definition as one number; a refusal's place leaves room for the number.
+-- The answer of the call as one number; what the call may answer leaves room for it.
 use borrow.Author.Needs.{needs}
-use Rattle.codes.proofs.CallPlaces.{test-place}
+use mathlib.Core.Path.{sym, subst}
+use Rattle.answers.specs.Answers.{Small}
+use Rattle.gambrolt.proofs.Small.{test-small}
 use Rattle.gambrolt.proofs.gambrolt_test.Statement.{statement}
 use Rattle.gambrolt.proofs.gambrolt_test.Tie as tie
 
-refusal-code-requires : tie.Need-refusal-code-requires
-refusal-code-requires c κs = test-place (c .before .before .before .before .before .before .args .words .now) (c .before .before .before .before .before .before .args .set .now) (c .before .r .given .0 .0) (cc (c .before .before .before .test-set .ensures, c .before .r .given .1))
+answer-code-requires : tie.Need-answer-code-requires
+answer-code-requires c κs = subst Small (sym (c .test-set .ensures)) (test-small (c .before .before .before .args .words .now) (c .before .before .before .args .set .now))
 
 returns : tie.Need-returns
-returns c = rw (← c .before .before .before .before .test-set .ensures, c .before .before .yes .given .1) (c .one-if .ensures)
-
-returns-2 : tie.Need-returns-2
-returns-2 c = rw (← c .before .before .before .before .test-set .ensures, c .before .before .r .given .1) (c .refusal-code .ensures)
+returns c = cc (c .answer-code .ensures, c .before .test-set .ensures)
 
 pub gambrolt-test-spec : {M : Type 1} → statement M
-gambrolt-test-spec =
-    tie.close (tie.spec (λ c κs. search needs) (λ c. search needs) (λ c κs. search needs) (λ c. search needs) refusal-code-requires returns returns-2)
+gambrolt-test-spec = tie.close (tie.spec (λ c κs. search needs) answer-code-requires returns)

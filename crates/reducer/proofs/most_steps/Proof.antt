@@ -5,7 +5,7 @@ use native.Mathlib.Omega.{arith}
 use lib.ListN.{length, getD}
 use Rattle.table.specs.Places.{nextAt}
 use Rattle.table.proofs.Encoding.{passed-limits}
-use Rattle.reductions.proofs.Room.{Summed, summed-none, summed-fits, summed-on, summed-all}
+use Rattle.reducer_results.proofs.Room.{Summed, summed-none, summed-fits, summed-on, summed-all}
 use borrow.Author.Needs.{needs}
 use Rattle.reducer.proofs.most_steps.Statement.{statement}
 use Rattle.reducer.proofs.most_steps.Tie as tie

@@ -13,15 +13,15 @@ use Rattle.reducer.proofs.reduce_kept.Tie as tie
 shared-slice-read-wide : tie.Need-shared-slice-read-wide
 shared-slice-read-wide c = omega (arith, passed-limits _ (c .before .before .before .before .pre .0) .long)
 
-clause-starts-requires : tie.Need-clause-starts-requires
-clause-starts-requires c κs =
+build-index-requires : tie.Need-build-index-requires
+build-index-requires c κs =
     let l = length-replicate {A = ℕ} 21505 0 in
     (c .before .before .before .before .before .before .pre .0, omega (arith, l))
 
 count-heads-requires : tie.Need-count-heads-requires
 count-heads-requires c κs =
     let l = length-replicate {A = ℕ} 1024 0 in
-    (record { placed = c .before .before .before .before .clause-starts .ensures; marks = c .before .before .before .before .before .before .before .before .before .before .before .pre .1 .0 }, omega (arith, l, passed-limits _ (c .before .before .before .before .before .before .before .before .before .before .before .pre .0) .fewAtoms))
+    (record { placed = c .before .before .before .before .build-index .ensures; marks = c .before .before .before .before .before .before .before .before .before .before .before .pre .1 .0 }, omega (arith, l, passed-limits _ (c .before .before .before .before .before .before .before .before .before .before .before .pre .0) .fewAtoms))
 
 flag-kinds-requires : tie.Need-flag-kinds-requires
 flag-kinds-requires c κs = (refl, omega (arith, c .before .before .before .before .before .before .before .before .before .wide .ensures .0, passed-limits _ (c .before .before .before .before .before .before .before .before .before .before .before .before .before .before .pre .0) .fewClauses))
@@ -30,7 +30,7 @@ run-steps-requires : tie.Need-run-steps-requires
 run-steps-requires c κs =
     let l = passed-limits _ (c .before .before .before .before .before .before .before .before .before .before .before .before .before .before .before .before .before .before .before .before .before .before .pre .0) .fewAtoms in
     let h = length-replicate {A = ℕ} 1024 0 in (
-      state-begun _ _ _ _ _ _ (record { placed = c .before .before .before .before .before .before .before .before .before .before .before .before .before .before .before .clause-starts .ensures; marks = c .before .before .before .before .before .before .before .before .before .before .before .before .before .before .before .before .before .before .before .before .before .before .pre .1 .0 }) (c .before .before .before .before .before .before .before .before .before .before .count-heads .ensures) (omega (arith, c .before .before .before .before .before .before .before .before .before .before .count-heads .kept .1 .1 .1 .0)) (omega (arith, h))
+      state-begun _ _ _ _ _ _ (record { placed = c .before .before .before .before .before .before .before .before .before .before .before .before .before .before .before .build-index .ensures; marks = c .before .before .before .before .before .before .before .before .before .before .before .before .before .before .before .before .before .before .before .before .before .before .pre .1 .0 }) (c .before .before .before .before .before .before .before .before .before .before .count-heads .ensures) (omega (arith, c .before .before .before .before .before .before .before .before .before .before .count-heads .kept .1 .1 .1 .0)) (omega (arith, h))
           (subst (λ x. AllOpen (c .before .before .before .before .before .before .before .flag-kinds .last .0) x) (c .before .before .before .before .before .before .before .before .before .before .before .before .before .before .before .before .before .wide .ensures .0) (c .before .before .before .before .before .before .before .flag-kinds .ensures)),
       (c .before .before .before .before .before .before .before .before .before .before .before .before .before .before .before .before .before .wide .ensures .0, c .before .before .before .before .before .before .before .before .before .before .before .before .before .before .before .before .before .before .before .before .before .before .pre .1 .1),
     )
@@ -41,4 +41,4 @@ returns c = c .before .before .before .before .before .before .before .run-steps
 pub reduce-kept-spec : {M : Type 1} → statement M
 reduce-kept-spec =
     tie.close
-    (tie.spec shared-slice-read-wide (λ c κs. search needs) (λ c. search needs) clause-starts-requires (λ c. search needs) (λ c. search needs) count-heads-requires (λ c. search needs) flag-kinds-requires (λ c. search needs) (λ c. search needs) (λ c. search needs) (λ c. search needs) run-steps-requires (λ c. search needs) (λ c. search needs) returns)
+    (tie.spec shared-slice-read-wide (λ c κs. search needs) (λ c. search needs) build-index-requires (λ c. search needs) (λ c. search needs) count-heads-requires (λ c. search needs) flag-kinds-requires (λ c. search needs) (λ c. search needs) (λ c. search needs) (λ c. search needs) run-steps-requires (λ c. search needs) (λ c. search needs) returns)

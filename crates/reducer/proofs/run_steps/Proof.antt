@@ -3,20 +3,20 @@ use Prim.Native.Nat.{_-_}
 use mathlib.Core.Path.{_≡_, refl, sym, _∙_}
 use native.Mathlib.Omega.{arith}
 use lib.ListN.{length}
-use Rattle.keys.specs.State.{State}
-use Rattle.search.proofs.Searches.{found-nothing}
-use Rattle.reductions.specs.Reductions.{room}
-use Rattle.reductions.proofs.Room.{room-few}
-use Rattle.reducer.proofs.Runs.{Running, running-none, running-end, running-room, running-step, taken}
+use Rattle.search_keys.specs.State.{State}
+use Rattle.search_first.proofs.Searches.{found-nothing}
+use Rattle.reducer_results.specs.Reductions.{room}
+use Rattle.reducer_results.proofs.Room.{room-few}
+use Rattle.reducer.proofs.Runs.{Running, running-none, running-end, running-room, running-step, found-made}
 use borrow.Author.Needs.{needs}
 use Rattle.reducer.proofs.run_steps.Statement.{statement}
 use Rattle.reducer.proofs.run_steps.Tie as tie
 
 abbrev Inv-loop : tie.InvT-loop
-Inv-loop words marks₀ list₀ start heads₀ reach₀ may₀ m s₀ marks list heads reach may s = ((length marks ≡ length marks₀) × ((length list ≡ length list₀) × ((length heads ≡ length heads₀) × ((length reach ≡ length reach₀) × (length may ≡ length may₀))))) × (State words marks start heads reach may × Running words marks₀ list₀ marks list s)
+Inv-loop words marks₀ list₀ index heads₀ reach₀ flags₀ m s₀ marks list heads reach flags s = ((length marks ≡ length marks₀) × ((length list ≡ length list₀) × ((length heads ≡ length heads₀) × ((length reach ≡ length reach₀) × (length flags ≡ length flags₀))))) × (State words marks index heads reach flags × Running words marks₀ list₀ marks list s)
 
 abbrev μ-loop : tie.MeasureT-loop
-μ-loop words marks₀ list₀ start heads₀ reach₀ may₀ m s₀ marks list heads reach may s = room words - s
+μ-loop words marks₀ list₀ index heads₀ reach₀ flags₀ m s₀ marks list heads reach flags s = room words - s
 
 loop-holds : tie.Need-loop-holds Inv-loop μ-loop
 loop-holds c = ((refl, (refl, (refl, (refl, refl)))), (c .before .before .before .before .before .before .before .pre .0, running-none _ _ _ (c .before .before .before .before .before .before .before .pre .0 .ready .marks) (c .before .before .before .before .before .before .before .pre .1 .1)))
@@ -45,33 +45,33 @@ returns c = running-end _ _ _ _ _ _ (c .before .before .before .before .before .
 write-step-requires : tie.Need-write-step-requires Inv-loop μ-loop
 write-step-requires c κs =
     let e = sym (c .before .before .found .given .1) ∙ c .before .before .before .before .before .before .before .before .first-step .ensures .0 in
-    let t = taken (c .before .before .before .before .before .before .before .before .before .before .before .before .before .before .before .before .before .before .before .before .before .args .words .now) (c .before .before .before .before .before .before .before .before .before .before .before .before .before .loop .marks) _ e in
+    let t = found-made (c .before .before .before .before .before .before .before .before .before .before .before .before .before .before .before .before .before .before .before .before .before .args .words .now) (c .before .before .before .before .before .before .before .before .before .before .before .before .before .loop .marks) _ e in
     running-room _ _ _ _ _ _ (c .before .before .before .before .before .before .before .before .before .before .before .before .before .before .before .before .before .before .before .before .before .pre .0 .ready .placed .passed) (c .before .before .before .before .before .before .before .before .before .before .before .before .before .loop .inv .1 .1) _ (t .0 .applies) .1
 
 apply-step-requires : tie.Need-apply-step-requires Inv-loop μ-loop
 apply-step-requires c κs =
     let e = sym (c .before .before .before .before .before .before .before .before .before .found .given .1) ∙ c .before .before .before .before .before .before .before .before .before .before .before .before .before .before .before .first-step .ensures .0 in
-    let t = taken (c .before .before .before .before .before .before .before .before .before .before .before .before .before .before .before .before .before .before .before .before .before .before .before .before .before .before .before .before .args .words .now) (c .before .before .before .before .before .before .before .before .before .before .before .before .before .before .before .before .before .before .before .before .loop .marks) _ e in
+    let t = found-made (c .before .before .before .before .before .before .before .before .before .before .before .before .before .before .before .before .before .before .before .before .before .before .before .before .before .before .before .before .args .words .now) (c .before .before .before .before .before .before .before .before .before .before .before .before .before .before .before .before .before .before .before .before .loop .marks) _ e in
     (c .before .before .before .before .before .before .before .before .before .before .before .before .before .before .before .first-step .ensures .1, t .0)
 
 add-s : tie.Need-add-s Inv-loop μ-loop
 add-s c =
     let e = sym (c .before .before .before .before .before .before .before .before .before .before .before .before .before .before .before .before .found .given .1) ∙ c .before .before .before .before .before .before .before .before .before .before .before .before .before .before .before .before .before .before .before .before .before .before .first-step .ensures .0 in
-    let t = taken (c .before .before .before .before .before .before .before .before .before .before .before .before .before .before .before .before .before .before .before .before .before .before .before .before .before .before .before .before .before .before .before .before .before .before .before .args .words .now) (c .before .before .before .before .before .before .before .before .before .before .before .before .before .before .before .before .before .before .before .before .before .before .before .before .before .before .before .loop .marks) _ e in
+    let t = found-made (c .before .before .before .before .before .before .before .before .before .before .before .before .before .before .before .before .before .before .before .before .before .before .before .before .before .before .before .before .before .before .before .before .before .before .before .args .words .now) (c .before .before .before .before .before .before .before .before .before .before .before .before .before .before .before .before .before .before .before .before .before .before .before .before .before .before .before .loop .marks) _ e in
     let r = running-room _ _ _ _ _ _ (c .before .before .before .before .before .before .before .before .before .before .before .before .before .before .before .before .before .before .before .before .before .before .before .before .before .before .before .before .before .before .before .before .before .before .before .pre .0 .ready .placed .passed) (c .before .before .before .before .before .before .before .before .before .before .before .before .before .before .before .before .before .before .before .before .before .before .before .before .before .before .before .loop .inv .1 .1) _ (t .0 .applies) in
     omega (arith, r, room-few (c .before .before .before .before .before .before .before .before .before .before .before .before .before .before .before .before .before .before .before .before .before .before .before .before .before .before .before .before .before .before .before .before .before .before .before .args .words .now) (c .before .before .before .before .before .before .before .before .before .before .before .before .before .before .before .before .before .before .before .before .before .before .before .before .before .before .before .before .before .before .before .before .before .before .before .pre .0 .ready .placed .passed))
 
 loop-less : tie.Need-loop-less Inv-loop μ-loop
 loop-less c =
     let e = sym (c .before .before .before .before .before .before .before .before .before .before .before .before .before .before .before .before .found .given .1) ∙ c .before .before .before .before .before .before .before .before .before .before .before .before .before .before .before .before .before .before .before .before .before .before .first-step .ensures .0 in
-    let t = taken (c .before .before .before .before .before .before .before .before .before .before .before .before .before .before .before .before .before .before .before .before .before .before .before .before .before .before .before .before .before .before .before .before .before .before .before .args .words .now) (c .before .before .before .before .before .before .before .before .before .before .before .before .before .before .before .before .before .before .before .before .before .before .before .before .before .before .before .loop .marks) _ e in
+    let t = found-made (c .before .before .before .before .before .before .before .before .before .before .before .before .before .before .before .before .before .before .before .before .before .before .before .before .before .before .before .before .before .before .before .before .before .before .before .args .words .now) (c .before .before .before .before .before .before .before .before .before .before .before .before .before .before .before .before .before .before .before .before .before .before .before .before .before .before .before .loop .marks) _ e in
     let r = running-room _ _ _ _ _ _ (c .before .before .before .before .before .before .before .before .before .before .before .before .before .before .before .before .before .before .before .before .before .before .before .before .before .before .before .before .before .before .before .before .before .before .before .pre .0 .ready .placed .passed) (c .before .before .before .before .before .before .before .before .before .before .before .before .before .before .before .before .before .before .before .before .before .before .before .before .before .before .before .loop .inv .1 .1) _ (t .0 .applies) in
     omega arith
 
 loop-again : tie.Need-loop-again Inv-loop μ-loop
 loop-again c =
     let e = sym (c .before .before .before .before .before .before .before .before .before .before .before .before .before .before .before .before .found .given .1) ∙ c .before .before .before .before .before .before .before .before .before .before .before .before .before .before .before .before .before .before .before .before .before .before .first-step .ensures .0 in
-    let t = taken (c .before .before .before .before .before .before .before .before .before .before .before .before .before .before .before .before .before .before .before .before .before .before .before .before .before .before .before .before .before .before .before .before .before .before .before .args .words .now) (c .before .before .before .before .before .before .before .before .before .before .before .before .before .before .before .before .before .before .before .before .before .before .before .before .before .before .before .loop .marks) _ e in
+    let t = found-made (c .before .before .before .before .before .before .before .before .before .before .before .before .before .before .before .before .before .before .before .before .before .before .before .before .before .before .before .before .before .before .before .before .before .before .before .args .words .now) (c .before .before .before .before .before .before .before .before .before .before .before .before .before .before .before .before .before .before .before .before .before .before .before .before .before .before .before .loop .marks) _ e in
     let i = c .before .before .before .before .before .before .before .before .before .before .before .before .before .before .before .before .before .before .before .before .before .before .before .before .before .before .before .loop .inv .0 in (
       (c .before .before .before .before .before .before .apply-step .kept .1 .0 ∙ i .0, (c .before .before .before .before .before .before .before .before .before .before .before .before .before .write-step .kept .0 ∙ i .1 .0, (c .before .before .before .before .before .before .apply-step .kept .1 .1 .1 .0 ∙ i .1 .1 .0, (c .before .before .before .before .before .before .before .before .before .before .before .before .before .before .before .before .before .before .before .before .before .before .first-step .kept .1 .1 .1 .1 .0 ∙ i .1 .1 .1 .0, c .before .before .before .before .before .before .apply-step .kept .1 .1 .1 .1 .1 .0 ∙ c .before .before .before .before .before .before .before .before .before .before .before .before .before .before .before .before .before .before .before .before .before .before .first-step .kept .1 .1 .1 .1 .1 .0 ∙ i .1 .1 .1 .1)))),
       (c .before .before .before .before .before .before .apply-step .ensures .1, rw (c .before .before .before .before .before .before .apply-step .ensures .0, c .before .before .before .before .before .before .before .before .before .before .before .before .before .write-step .ensures) (running-step _ _ _ _ _ _ (c .before .before .before .before .before .before .before .before .before .before .before .before .before .before .before .before .before .before .before .before .before .before .before .before .before .before .before .before .before .before .before .before .before .before .before .pre .0 .ready .placed .passed) (c .before .before .before .before .before .before .before .before .before .before .before .before .before .before .before .before .before .before .before .before .before .before .before .before .before .before .before .loop .inv .1 .1) _ (t .0) (t .1))),

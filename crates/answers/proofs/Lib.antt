@@ -1,0 +1,4 @@
+pub mod Numbers
+pub mod Halves
+pub mod Asked
+pub mod Slices

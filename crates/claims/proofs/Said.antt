@@ -1,0 +1,84 @@
+-- The calls, and what each says in document 01's numbers: the value of a call that is taken, or the number and place of the first question that gets a no.
+use mathlib.Core.Path.{_≡_}
+use mathlib.Core.List.{List, [], _∷_}
+use mathlib.Core.Option.{Option, none, some}
+use Prim.Native.Nat.{ℕ, _/_}
+use lib.ListN.{length, getD, replicate}
+use Rattle.answers.specs.declared.StepQuestion.{StepQuestion}
+use Rattle.answers.specs.declared.Answer.{Answer}
+use Rattle.answers.specs.declared.Answer.the-variants.{Accepted, Refused}
+use Rattle.answers.specs.Refusals.{refusalNumber, refusalPlace}
+use Rattle.answers.specs.Answers.{written}
+use Rattle.table.specs.Questions.{tableOf, onTable}
+use Rattle.table.specs.StepWords.{kindAt, stepAt}
+use Rattle.table.specs.View.{view}
+use Rattle.step_questions.specs.Questions.{stepQuestions}
+use Rattle.step_lists.specs.Lists.{checkList}
+use Rattle.reducer_results.specs.Reductions.{Reduction, reduction}
+use Rattle.reduced_table.specs.Reduced.{reducedAnswer}
+use Rattle.models_test.specs.Answer.{testOf}
+use Rattle.cycle.specs.Answer.{cycleOf}
+use Rattle.text_form.specs.Reader.{readAnswer}
+use Rattle.text_form.specs.Writer.{writeAnswer}
+
+pub data Said : Type 0 where
+  value : ℕ → Said
+  refusal : ℕ → ℕ → Said
+
+-- "The first no gives its number. The place is 0 unless named."
+abbrev pub saidBy : Answer → Said
+saidBy (Accepted k) = value k
+saidBy (Refused r) = refusal (refusalNumber r) (refusalPlace r)
+
+-- a call with what is lent to it: words, then marks, a list of steps or a slice; reading and writing text, the length of the slice
+pub data Call : Type 0 where
+  tableCall : List ℕ → Call
+  checkCall : List ℕ → List ℕ → List ℕ → Call
+  reduceCall : List ℕ → List ℕ → List ℕ → Call
+  reducedCall : List ℕ → List ℕ → List ℕ → Call
+  testCall : List ℕ → List ℕ → Call
+  cycleCall : List ℕ → Call
+  readCall : List ℕ → ℕ → Call
+  writeCall : List ℕ → ℕ → Call
+
+-- by the definitions that the exports' contracts cite
+abbrev pub answered : Call → Answer
+answered (tableCall ws) = onTable Refused (tableOf ws) (Accepted 0)
+answered (checkCall ws ms ls) = checkList ws ms ls .answer
+answered (reduceCall ws ms ls) = reduction ws ms ls .answer
+answered (reducedCall ws ms out) = reducedAnswer ws ms out
+answered (testCall ws set) = testOf ws set
+answered (cycleCall ws) = cycleOf ws
+answered (readCall ts room) = readAnswer ts room
+answered (writeCall ws room) = writeAnswer ws room
+
+abbrev pub says : Call → Said
+says c = saidBy (answered c)
+
+abbrev pub IsTaken : Call → Type 0
+IsTaken c = (k : ℕ) × (answered c ≡ Accepted k)
+
+-- ---- steps of a list
+
+-- the first of questions 12 to 16 that step k of a list gets a no to, on the marks ms
+abbrev pub firstNo : List ℕ → List ℕ → List ℕ → ℕ → Option StepQuestion
+firstNo ws ms ls k = stepQuestions some (getD ws 0 0) (view ws ms) (kindAt ls k) (stepAt ls k) none
+
+-- ---- rows of tables that are computed
+
+-- a call says this; or the reducer writes this list for a table
+pub data Example : Type 0 where
+  row : Call → Said → Example
+  writes : List ℕ → List ℕ → Example
+
+-- the reducer's call, lent a mark for each word and 64 words for the list, at first all 0
+abbrev pub reduced64 : List ℕ → Reduction
+reduced64 ws = reduction ws (replicate (length ws) 0) (replicate 64 0)
+
+abbrev pub Says : Example → Type 0
+Says (row c s) = says c ≡ s
+Says (writes ws l) = (reduced64 ws .answer ≡ Accepted (length l / 4)) × (reduced64 ws .list ≡ written l (replicate 64 0))
+
+abbrev pub AllSay : List Example → Type 0
+AllSay [] = Unit {0}
+AllSay (e ∷ es) = Says e × AllSay es

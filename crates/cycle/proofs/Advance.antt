@@ -1,0 +1,82 @@
+-- The moves in the code's terms, and one after the other.
+use Prim.Native.Nat.{ℕ, _-_, _≤_, _<_}
+use mathlib.Core.Path.{_≡_, refl, sym, ap, subst, _∙_}
+use mathlib.Core.Logic.{_≢_}
+use mathlib.Core.List.{List}
+use native.Mathlib.Omega.{arith}
+use lib.ListN.{length, getD, set}
+use Rattle.table.specs.Programs.{clauseOf}
+use Rattle.table.proofs.Encoding.{passed-limits}
+use Rattle.cycle.specs.Chains.{body}
+use Rattle.cycle.specs.Search.{none, ClauseAt, AllEnd, Search, Looked, met, over, on, Nearer, moved, Explored}
+use Rattle.cycle.specs.declared.Move.{Move}
+use Rattle.cycle.proofs.Pending.{Front}
+use Rattle.cycle.proofs.Moves.{atoms, top-below, finish, front, pass-clause, b-below, cycle-found, left-some, pass-atom, follow}
+
+module _ {ws nexts owner cur state left parent : List ℕ} {t : ℕ} (s : Search ws nexts owner cur state left parent t) (x : t ≢ none) (a w : ℕ) (ea : a ≡ t) (ew : w ≡ getD cur a 0) where
+  at-t : w ≡ getD cur t 0
+  at-t = ew ∙ ap (λ a. getD cur a 0) ea
+
+  pub atom-low : a < 1024
+  atom-low = omega (arith, top-below s x, atoms s)
+
+  pub word-low : w < 8192
+  word-low = omega (arith, s .place a)
+
+  pub finish-at : w ≡ 0 → Nearer ws nexts owner cur state left parent cur (set state a 0) left parent (getD parent a 0)
+  finish-at z = rw ea (finish s x (sym at-t ∙ z))
+
+  module _ (n : w ≢ 0) (at : ℕ) (eat : at ≡ getD owner w 0) where
+    at-here : at ≡ getD owner (getD cur t 0) 0
+    at-here = eat ∙ ap (λ w. getD owner w 0) at-t
+
+    front-at : Front ws nexts owner (AllEnd state) t (getD cur t 0)
+    front-at = front s x (λ z. n (at-t ∙ z))
+
+    pub clause-at : ClauseAt ws at
+    clause-at = subst (ClauseAt ws) (sym at-here) (front-at .clause)
+
+    pub clause-low : at < 8192
+    clause-low = omega (arith, clause-at .fits, passed-limits ws (s .passed) .short)
+
+    module _ (i : ℕ) (ei : i ≡ 8192 - getD left at 0) where
+      pub pass-at : length (body (clauseOf ws at)) ≤ i → Nearer ws nexts owner cur state left parent (set cur a (getD nexts w 0)) state left parent t
+      pass-at l = rw (ea, at-t) (pass-clause s x (λ z. n (at-t ∙ z)) (subst (λ at. length (body (clauseOf ws at)) ≤ 8192 - getD left at 0) at-here (rw ei at l)))
+
+      module _ (l : i < length (body (clauseOf ws at))) (b : ℕ) (eb : b ≡ getD (body (clauseOf ws at)) i 0) where
+        low : 8192 - getD left (getD owner (getD cur t 0) 0) 0 < length (body (clauseOf ws (getD owner (getD cur t 0) 0)))
+        low = subst (λ at. 8192 - getD left at 0 < length (body (clauseOf ws at))) at-here (rw ei at l)
+
+        is-b : b ≡ getD (body (clauseOf ws (getD owner (getD cur t 0) 0))) (8192 - getD left (getD owner (getD cur t 0) 0) 0) 0
+        is-b = eb ∙ ap (λ i. getD (body (clauseOf ws at)) i 0) ei ∙ ap (λ at. getD (body (clauseOf ws at)) (8192 - getD left at 0) 0) at-here
+
+        n′ : getD cur t 0 ≢ 0
+        n′ z = n (at-t ∙ z)
+
+        pub b-low : b < 1024
+        b-low = omega (arith, b-below s x n′ low b is-b, atoms s)
+
+        pub left-at : 0 < getD left at 0
+        left-at = rw at-here (left-some s x n′ low b is-b)
+
+        pub look-at : {state′ left′ parent′ : List ℕ} {r : Move} → Looked state left parent state′ left′ parent′ t at b r → moved ws nexts owner cur state left parent cur state′ left′ parent′ r
+        look-at (met q) = cycle-found s x n′ low b is-b q
+        look-at (over q e f g) = rw (e, f, g, at-here) (pass-atom s x n′ low b is-b q)
+        look-at (on u v e f g) = rw (e, f, g) (follow s x n′ low b is-b u v)
+
+-- ---- one move after the other
+
+module _ {ws nexts owner cur state left parent : List ℕ} where
+  pub explored-start : {t : ℕ} → Search ws nexts owner cur state left parent t → Explored ws nexts owner cur state left parent cur state left parent t
+  explored-start s = record { search = s; falls = λ a. omega arith; curs = refl; states = refl; lefts = refl; parents = refl }
+
+  module _ {cur′ state′ left′ parent′ cur″ state″ left″ parent″ : List ℕ} {t : ℕ} (e : Explored ws nexts owner cur state left parent cur′ state′ left′ parent′ t) where
+    pub explored-next : {u : ℕ} → Nearer ws nexts owner cur′ state′ left′ parent′ cur″ state″ left″ parent″ u → Explored ws nexts owner cur state left parent cur″ state″ left″ parent″ u
+    explored-next n = record {
+      search = n .search;
+      falls = λ a. omega (arith, e .falls a, n .falls a);
+      curs = n .curs ∙ e .curs;
+      states = n .states ∙ e .states;
+      lefts = n .lefts ∙ e .lefts;
+      parents = n .parents ∙ e .parents;
+    }

@@ -1,0 +1,150 @@
+-- The end of the search: where every atom ends, none leads back to itself.
+use Prim.Native.Nat.{ℕ, _+_, _-_, _≤_, _<_}
+use mathlib.Core.Path.{_≡_, refl, sym, ap, subst, _∙_}
+use mathlib.Core.Logic.{_↔_, _≢_, _⊎_, inl, inr, ⊎-elim}
+use mathlib.Core.Bool.{Bool, true, false, So}
+use mathlib.Core.List.{List, [], List·Memᴰ·not-nil}
+use native.Mathlib.Omega.{arith}
+use lib.ListN.{length, getD, set, take}
+use lib.Seq.{getD-set-same}
+use borrow.Author.Count.{below-more}
+use Rattle.semantics.specs.Lists.{_∈_}
+use Rattle.semantics.specs.Programs.{Clause}
+use Rattle.semantics.proofs.Tests.{so-false}
+use Rattle.table.specs.Questions.{Passed}
+use Rattle.table.specs.Programs.{clauseOf, programOf}
+use Rattle.table.proofs.Encoding.{passed-within, passed-limits}
+use Rattle.cycle.specs.Chains.{body, Link, Leads, link, chain}
+use Rattle.cycle.specs.Decide.{cyclic}
+use Rattle.cycle.specs.Search.{none, Ends, ends, Cyclic, start, Search, Nearer, Explored, explored, Visited, visited, SearchReady}
+use Rattle.cycle.proofs.Reached.{cyclic-iff}
+use Rattle.cycle.proofs.Pending.{pending-on}
+use Rattle.cycle.proofs.Paths.{some}
+use Rattle.cycle.proofs.Moves.{known, push, atoms}
+use Rattle.cycle.proofs.Advance.{explored-start}
+
+module _ (ws : List ℕ) where
+  abbrev cs : List Clause
+  cs = programOf ws .clauses
+
+  first-link : {a c : ℕ} → Leads body cs a c → (b : ℕ) × Link body cs a b × ((b ≡ c) ⊎ Leads body cs b c)
+  first-link {a} {c} (link l) = (c, l, inl refl)
+  first-link {a} {c} (chain g l) =
+      let w = first-link g in
+      (w .0, w .1, inr (⊎-elim (λ e. link (subst (λ b. Link body cs b c) (sym e) l)) (λ h. chain h l) (w .2)))
+
+  ends-not : {a : ℕ} → Ends ws a → ¬ Leads body cs a a
+  ends-not (ends f) g =
+      let (b, l, r) = first-link g in
+      ends-not (f b l) (⊎-elim (λ e. subst (λ x. Leads body cs x x) (sym e) g) (λ h. chain h l) r)
+
+  small : Passed ws → (c : Clause) → c ∈ cs → (a : ℕ) → a ∈ c .head → a < programOf ws .atoms
+  unfolding programOf
+  small p c m = passed-within ws p .ordered c m .head .below
+
+  pub cycle-iff : Passed ws → So (cyclic body (programOf ws)) ↔ Cyclic ws
+  cycle-iff p = cyclic-iff body (programOf ws) (small p)
+
+  leads-below : Passed ws → {a b : ℕ} → Leads body cs a b → a < getD ws 0 0
+  unfolding programOf
+  leads-below p {a} (link l) = small p (l .via) (l .member) a (l .head)
+  leads-below p (chain g l) = leads-below p g
+
+  -- every atom ends: no cycle
+  pub no-cycle : Passed ws → ((a : ℕ) → a < getD ws 0 0 → Ends ws a) → false ≡ cyclic body (programOf ws)
+  no-cycle p e = sym (so-false _ (λ h. let w = cycle-iff p .0 h in ends-not (e (w .0) (leads-below p (w .1))) (w .1)))
+
+-- ---- from atom to atom
+
+module _ {ws nexts owner cur state left parent : List ℕ} where
+  -- nothing is on the chain that is followed
+  idle : Search ws nexts owner cur state left parent none → (a : ℕ) → a < getD ws 0 0 → getD state a 0 ≢ 1
+  idle s a l e = some (s .path) (known s) refl a (s .onto a l e)
+
+  pub ready-search : SearchReady ws nexts owner cur state left parent → Search ws nexts owner cur state left parent none
+  ready-search r =
+      let limit = passed-limits ws (r .passed) in
+      record {
+        passed = r .passed;
+        long = r .listed .long;
+        states = r .states;
+        lefts = r .lefts;
+        parents = r .parents;
+        place = r .listed .place;
+        most = r .most;
+        unended = λ a l n. pending-on (λ c z. absurd z) (r .listed .heads a l);
+        ended = λ a l z. absurd (omega (arith, r .unmet a (omega (arith, limit .fewAtoms))));
+        seen = λ at k b m.
+            let e : 8192 - getD left at 0 ≡ 0 = omega (arith, r .whole at (omega (arith, k .fits, limit .short))) in
+            absurd (List·Memᴰ·not-nil (subst (λ i. b ∈ take i (body (clauseOf ws at))) e m));
+        stack = [];
+        path = start;
+        onto = λ a l z. absurd (omega (arith, r .unmet a (omega (arith, limit .fewAtoms))));
+        «from» = λ a m. absurd (List·Memᴰ·not-nil m);
+      }
+
+  module _ (s : Search ws nexts owner cur state left parent none) (a i : ℕ) (e : i ≡ a) (l : a < getD ws 0 0) where
+    pub atom-fits : i < 1024
+    atom-fits = omega (arith, atoms s)
+
+    -- an atom that ends already
+    pub visit-none : getD state i 0 ≡ 0 → Visited ws nexts owner cur state left parent cur state left parent a
+    visit-none z = record { explored = explored-start s; ends = ap (λ a. getD state a 0) (sym e) ∙ z }
+
+    module _ (n : getD state i 0 ≢ 0) where
+      visit-begin : Nearer ws nexts owner cur state left parent cur (set state i 1) left (set parent i none) i
+      visit-begin = push s i (omega arith) (inl refl) (idle s i (omega arith)) n
+
+      pub visit-search : Search ws nexts owner cur (set state i 1) left (set parent i none) a
+      visit-search = subst (Search ws nexts owner cur (set state i 1) left (set parent i none)) e (visit-begin .search)
+
+      pub visit-end : (cur′ state′ left′ parent′ : List ℕ) (r : Bool) → explored ws nexts owner cur (set state i 1) left (set parent i none) cur′ state′ left′ parent′ r
+          → visited ws nexts owner cur state left parent cur′ state′ left′ parent′ a r
+      visit-end cur′ state′ left′ parent′ true x = x
+      visit-end cur′ state′ left′ parent′ false x =
+          let b = visit-begin in
+          let h : i < length state = omega (arith, atom-fits, s .states) in
+          let d : getD state′ i 0 ≢ 1 = last (x .search) i (omega arith) in
+          let z : getD state′ i 0 ≡ 0 = omega (arith, x .falls i, getD-set-same state i 1 0 h) in
+          record {
+            explored = record {
+              search = x .search;
+              falls = λ y. omega (arith, x .falls y, b .falls y);
+              curs = x .curs ∙ b .curs;
+              states = x .states ∙ b .states;
+              lefts = x .lefts ∙ b .lefts;
+              parents = x .parents ∙ b .parents;
+            };
+            ends = ap (λ a. getD state′ a 0) (sym e) ∙ z;
+          }
+        where
+          last : {cur state left parent : List ℕ} → Search ws nexts owner cur state left parent none → (a : ℕ) → a < getD ws 0 0 → getD state a 0 ≢ 1
+          last s a l e = some (s .path) (known s) refl a (s .onto a l e)
+
+-- ---- all atoms
+
+-- the atoms below k end
+pub record AtomsEnded (ws nexts owner cur state left parent cur′ state′ left′ parent′ : List ℕ) (k : ℕ) : Type 0 where
+  pub explored : Explored ws nexts owner cur state left parent cur′ state′ left′ parent′ none
+  pub ended : (a : ℕ) → a < k → getD state′ a 0 ≡ 0
+
+module _ {ws nexts owner cur state left parent : List ℕ} where
+  pub swept-start : SearchReady ws nexts owner cur state left parent → AtomsEnded ws nexts owner cur state left parent cur state left parent 0
+  swept-start r = record { explored = explored-start (ready-search r); ended = λ a l. absurd (omega arith) }
+
+  module _ {cur′ state′ left′ parent′ : List ℕ} {k : ℕ} (s : AtomsEnded ws nexts owner cur state left parent cur′ state′ left′ parent′ k) where
+    pub swept-next : {cur″ state″ left″ parent″ : List ℕ} → Visited ws nexts owner cur′ state′ left′ parent′ cur″ state″ left″ parent″ k → AtomsEnded ws nexts owner cur state left parent cur″ state″ left″ parent″ (k + 1)
+    swept-next {cur″} {state″} v = record {
+      explored = record {
+        search = v .explored .search;
+        falls = λ a. omega (arith, v .explored .falls a, s .explored .falls a);
+        curs = v .explored .curs ∙ s .explored .curs;
+        states = v .explored .states ∙ s .explored .states;
+        lefts = v .explored .lefts ∙ s .explored .lefts;
+        parents = v .explored .parents ∙ s .explored .parents;
+      };
+      ended = below-more (λ a. getD state″ a 0 ≡ 0) k (λ a l. omega (arith, s .ended a l, v .explored .falls a)) (v .ends);
+    }
+
+    pub swept-end : getD ws 0 0 ≤ k → false ≡ cyclic body (programOf ws)
+    swept-end h = no-cycle ws (s .explored .search .passed) (λ a l. s .explored .search .ended a l (s .ended a (omega arith)))

@@ -1,0 +1,4 @@
+pub mod Chains
+pub mod Decide
+pub mod Search
+pub mod Answer

@@ -1,0 +1,14 @@
+-- What every step takes one from: kept clauses plus body literals.
+use Prim.Native.Nat.{ℕ, _+_}
+use mathlib.Core.List.{[], _∷_}
+use lib.ListN.{length}
+use Rattle.semantics.specs.Lists.{bit}
+use Rattle.rewriting.specs.Marked.{Entry, Marked}
+
+unfoldable pub weight : Entry → ℕ
+weight e = bit (e .kept) + (length (e .clause .pos) + length (e .clause .neg))
+
+unfoldable pub measure : Marked → ℕ
+unfolding weight
+measure [] = 0
+measure (e ∷ P) = weight e + measure P

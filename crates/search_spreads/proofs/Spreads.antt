@@ -1,0 +1,89 @@
+-- A partner or an atom spread target by target.
+use mathlib.Core.Path.{_≡_, sym, ap, subst, _∙_}
+use mathlib.Core.Logic.{by-cases}
+use mathlib.Core.Bool.{Bool, false, cond, _&&_, not, So}
+use mathlib.Core.List.{List}
+use Prim.Native.Nat.{ℕ, _+_, _≤_, _<_}
+use native.Mathlib.Omega.{arith}
+use native.Mathlib.Decide.{ℕ-discrete}
+use lib.Dec.{eqb, ltb}
+use lib.ListN.{getD}
+use borrow.Author.Tests.{eqb-true, eq-eqb}
+use Rattle.semantics.proofs.Tests.{not-so, and-iff}
+use Rattle.rewriting.specs.Marked.{Marked, entry}
+use Rattle.rewriting.specs.Steps.{Step, step, conditionHolds, applies}
+use Rattle.rewriting.specs.Kinds.{Kind, subsumed, kindOf, usesPartner, usesAtom}
+use Rattle.rewriting.proofs.Left.{kept-lt}
+use Rattle.rewriting.proofs.Rows.{partner-alone}
+use Rattle.rewriting.proofs.Quiet.{key}
+use Rattle.rewriting.proofs.Sound.{applies-ask}
+use Rattle.table.specs.View.{view}
+use Rattle.table.proofs.View.{length-view}
+use Rattle.search_flags.specs.Flags.{Covered, Raising}
+use Rattle.search_spreads.specs.Spreads.{Spread}
+use Rattle.search_flags.proofs.Flags.{raising-none, raising-more, raising-below}
+use Rattle.search_spreads.proofs.Limits.{target-lt}
+
+-- ---- a step by its key
+
+module _ (n : ℕ) (P : Marked) (u : Step) (k : Kind) (e : u .kind ≡ k) (h : So (applies n P u)) where
+  asks : (j : Kind) → u .kind ≡ j → So (cond (usesPartner j) (entry P (u .partner) .kept && not (eqb (u .partner) (u .target))) (eqb (u .partner) 0)) × So (cond (usesAtom j) (ltb (u .atom) n) (eqb (u .atom) 0))
+  unfolding applies conditionHolds
+  asks j q = let w = simp and-iff at h in
+      subst (λ j. So (cond (usesPartner j) (entry P (u .partner) .kept && not (eqb (u .partner) (u .target))) (eqb (u .partner) 0)) × So (cond (usesAtom j) (ltb (u .atom) n) (eqb (u .atom) 0))) q (w .1 .0, w .1 .1 .0)
+
+  -- a kind with a partner: the key is the partner, and the atom is 0
+  pub by-partner : So (usesPartner k) → So (applies n P (step k (u .target) (key u) 0))
+  by-partner p =
+      let a : u .atom ≡ 0 = eqb-true _ _ (subst (λ b. So (cond b (ltb (u .atom) n) (eqb (u .atom) 0))) (partner-alone k p) (asks k e .1)) in
+      let x : key u ≡ u .partner = ap (λ j. cond (usesPartner j) (u .partner) (u .atom)) e ∙ ap (λ b. cond b (u .partner) (u .atom)) p in
+      subst (λ y. So (applies n P (step k (u .target) y 0))) (sym x) (subst (λ y. So (applies n P (step k (u .target) (u .partner) y))) a (subst (λ j. So (applies n P (step j (u .target) (u .partner) (u .atom)))) e h))
+
+  -- a kind without a partner: the key is the atom, and the partner is 0
+  pub by-atom : usesPartner k ≡ false → So (applies n P (step k (u .target) 0 (key u)))
+  by-atom p =
+      let a : u .partner ≡ 0 = eqb-true _ _ (subst (λ b. So (cond b (entry P (u .partner) .kept && not (eqb (u .partner) (u .target))) (eqb (u .partner) 0))) p (asks k e .0)) in
+      let x : key u ≡ u .atom = ap (λ j. cond (usesPartner j) (u .partner) (u .atom)) e ∙ ap (λ b. cond b (u .partner) (u .atom)) p in
+      subst (λ y. So (applies n P (step k (u .target) 0 y))) (sym x) (subst (λ y. So (applies n P (step k (u .target) y (u .atom)))) a (subst (λ j. So (applies n P (step j (u .target) (u .partner) (u .atom)))) e h))
+
+-- ---- one target after the other
+
+-- no clause is its own partner
+pub itself-not : (n : ℕ) (P : Marked) (kind t p a : ℕ) → (kind ≡ 8) × (p ≡ t) → ¬ So (applies n P (step (kindOf kind) t p a))
+itself-not n P kind t p a (e, d) h =
+    let w = applies-ask n P (step subsumed t p a) (subst (λ k. So (applies n P (step (kindOf k) t p a))) e h) .1 in
+    not-so (ap not (eq-eqb p t d)) (and-iff (entry P p .kept) (not (eqb p t)) .0 w .1)
+
+-- the targets below t are done
+pub record Spreading (ws ms flags flags' : List ℕ) (kind p a t : ℕ) : Type 0 where
+  pub raising : Raising flags flags' kind (getD ws 1 0)
+  pub flagged : (j : ℕ) → j < t → So (applies (getD ws 0 0) (view ws ms) (step (kindOf kind) j p a)) → Covered flags' kind j p
+
+pub spreading-none : (ws ms flags : List ℕ) (kind p a : ℕ) → Spreading ws ms flags flags kind p a 0
+spreading-none ws ms flags kind p a = record { raising = raising-none flags kind (getD ws 1 0); flagged = λ j l. absurd (omega arith) }
+
+module _ (ws ms flags flags' : List ℕ) (kind p a t : ℕ) (s : Spreading ws ms flags flags' kind p a t) where
+  abbrev at : ℕ → Bool
+  at j = applies (getD ws 0 0) (view ws ms) (step (kindOf kind) j p a)
+
+  pub spreading-on : (flags'' : List ℕ) → kind ≤ 16 → t < 2048 → t < getD ws 1 0 → Raising flags' flags'' kind (t + 1) × (So (at t) → Covered flags'' kind t p) → Spreading ws ms flags flags'' kind p a (t + 1)
+  spreading-on flags'' b l h (g, f) = record {
+    raising = raising-more flags flags' flags'' kind (getD ws 1 0) (t + 1) (getD ws 1 0) (omega arith) (omega arith) (s .raising) g;
+    flagged = λ j k q. by-cases (ℕ-discrete j t) (λ d. subst (λ i. Covered flags'' kind i p) (sym d) (f (subst (λ i. So (at i)) d q)))
+        (λ d. raising-below flags' flags'' kind (t + 1) g kind j p b (omega arith) (s .flagged j (omega arith) q));
+  }
+
+  pub spreading-all : getD ws 1 0 ≤ t → Spread ws ms flags flags' kind p a
+  spreading-all l = record { raising = s .raising; flagged = λ j h. s .flagged j (omega (arith, target-lt ws ms (step (kindOf kind) j p a) h)) h }
+
+-- ---- a key
+
+-- a partner is kept
+pub partner-kept : (P : Marked) (n : ℕ) (k : Kind) (t p a : ℕ) → So (usesPartner k) → So (applies n P (step k t p a)) → So (entry P p .kept)
+partner-kept P n k t p a u h =
+    let v = subst (λ b. So (cond b (entry P p .kept && not (eqb p t)) (eqb p 0))) u (applies-ask n P (step k t p a) h .1) in
+    and-iff (entry P p .kept) (not (eqb p t)) .0 v .0
+
+-- a number that is no clause's is no partner
+pub partner-lt : (ws ms : List ℕ) (k : Kind) (t p : ℕ) → So (usesPartner k) → So (applies (getD ws 0 0) (view ws ms) (step k t p 0)) → p < getD ws 1 0
+partner-lt ws ms k t p u h = omega (arith, kept-lt (view ws ms) p (partner-kept (view ws ms) (getD ws 0 0) k t p 0 u h), length-view ws ms)

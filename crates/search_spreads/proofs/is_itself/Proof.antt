@@ -1,0 +1,14 @@
+-- `is_itself`: two tests.
+use mathlib.Core.Bool.{false≢true}
+use borrow.Author.Tests.{eqb-true}
+use Rattle.search_spreads.proofs.is_itself.Statement.{statement}
+use Rattle.search_spreads.proofs.is_itself.Tie as tie
+
+returns : tie.Need-returns
+returns c = λ e. absurd (false≢true e)
+
+returns-2 : tie.Need-returns-2
+returns-2 c = λ e. (c .if1 .left, eqb-true _ _ e)
+
+pub is-itself-spec : {M : Type 1} → statement M
+is-itself-spec = tie.close (tie.spec returns returns-2)

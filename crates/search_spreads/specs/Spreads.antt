@@ -1,0 +1,30 @@
+-- What a partner or an atom flags: every target that has a step with it.
+use mathlib.Core.Bool.{So}
+use mathlib.Core.List.{List}
+use Prim.Native.Nat.{ℕ}
+use lib.ListN.{getD}
+use Rattle.rewriting.specs.Marked.{entry}
+use Rattle.rewriting.specs.Steps.{step, applies}
+use Rattle.rewriting.specs.Kinds.{kindOf}
+use Rattle.table.specs.View.{view}
+use Rattle.semantics.specs.Lists.{_∈_}
+use Rattle.step_parts.specs.declared.Part.{Part}
+use Rattle.step_parts.specs.Parts.{partOf}
+use Rattle.search_flags.specs.Flags.{Covered, Raising}
+
+-- Every target that has a step with the partner p and the atom has atom a in a part.
+abbrev pub Clue : List ℕ → List ℕ → ℕ → ℕ → ℕ → Part → ℕ → Type 0
+Clue ws ms kind p atom x a = (t : ℕ) → So (applies (getD ws 0 0) (view ws ms) (step (kindOf kind) t p atom)) → a ∈ partOf x (entry (view ws ms) t .clause)
+
+-- No step of the kind has the partner.
+abbrev pub NoPartner : List ℕ → List ℕ → ℕ → ℕ → Type 0
+NoPartner ws ms kind p = (t : ℕ) → ¬ So (applies (getD ws 0 0) (view ws ms) (step (kindOf kind) t p 0))
+
+-- No step of the kind has the target and the partner.
+abbrev pub NoTarget : List ℕ → List ℕ → ℕ → ℕ → ℕ → Type 0
+NoTarget ws ms kind t p = (a : ℕ) → ¬ So (applies (getD ws 0 0) (view ws ms) (step (kindOf kind) t p a))
+
+-- Every target that has a step with the partner p and the atom is flagged.
+pub record Spread (ws ms flags flags' : List ℕ) (kind p a : ℕ) : Type 0 where
+  pub raising : Raising flags flags' kind (getD ws 1 0)
+  pub flagged : (t : ℕ) → So (applies (getD ws 0 0) (view ws ms) (step (kindOf kind) t p a)) → Covered flags' kind t p

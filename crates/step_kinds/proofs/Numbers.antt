@@ -1,0 +1,56 @@
+-- Kinds by their numbers.
+use mathlib.Core.Path.{_≡_, refl, sym, subst}
+use mathlib.Core.Logic.{_≢_, _⊎_, inl, inr}
+use mathlib.Core.Bool.{true, false, So, false≢true}
+use Prim.Native.Nat.{ℕ, zero, suc, _≤_}
+use native.Mathlib.Omega.{arith}
+use lib.Dec.{eqb}
+use Rattle.rewriting.specs.Kinds.{kindOf, usesPartner, number}
+use Rattle.rewriting.specs.Uses.{asksHeads}
+use Rattle.rewriting.proofs.Rows.{number-kindOf}
+use Rattle.step_kinds.specs.Kinds.{PartnerKind, AtomKind, HeadsKind}
+
+pub heads-alone : (kind : ℕ) → HeadsKind kind → usesPartner (kindOf kind) ≡ false
+heads-alone kind (inl e) = subst (λ k. usesPartner (kindOf k) ≡ false) (sym e) refl
+heads-alone kind (inr e) = subst (λ k. usesPartner (kindOf k) ≡ false) (sym e) refl
+
+pub heads-bounds : (kind : ℕ) → HeadsKind kind → (1 ≤ kind) × (kind ≤ 8)
+heads-bounds kind (inl e) = (omega arith, omega arith)
+heads-bounds kind (inr e) = (omega arith, omega arith)
+
+pub partner-kind : (kind : ℕ) → 1 ≤ kind → kind ≤ 8 → usesPartner (kindOf kind) ≡ true → PartnerKind kind
+partner-kind kind a b u = record { low = a; high = b; uses = u }
+
+pub atom-kind : (kind : ℕ) → 1 ≤ kind → kind ≤ 8 → usesPartner (kindOf kind) ≡ false → AtomKind kind
+atom-kind kind a b u = record { low = a; high = b; alone = u }
+
+pub kind-number : (kind : ℕ) → 1 ≤ kind → kind ≤ 8 → number (kindOf kind) ≡ kind
+kind-number zero l h = absurd (omega arith)
+kind-number (suc i) l h = number-kindOf i (omega arith)
+
+pub by-number : (Q : ℕ → Type 0) (k : ℕ) → 1 ≤ k → k ≤ 8 → (k ≡ 1 → Q 1) → (k ≡ 2 → Q 2) → (k ≡ 3 → Q 3) → (k ≡ 4 → Q 4) → (k ≡ 5 → Q 5) → (k ≡ 6 → Q 6) → (k ≡ 7 → Q 7) → (k ≡ 8 → Q 8) → Q k
+by-number Q zero a b q1 q2 q3 q4 q5 q6 q7 q8 = absurd (omega arith)
+by-number Q (suc zero) a b q1 q2 q3 q4 q5 q6 q7 q8 = q1 refl
+by-number Q (suc (suc zero)) a b q1 q2 q3 q4 q5 q6 q7 q8 = q2 refl
+by-number Q (suc (suc (suc zero))) a b q1 q2 q3 q4 q5 q6 q7 q8 = q3 refl
+by-number Q (suc (suc (suc (suc zero)))) a b q1 q2 q3 q4 q5 q6 q7 q8 = q4 refl
+by-number Q (suc (suc (suc (suc (suc zero))))) a b q1 q2 q3 q4 q5 q6 q7 q8 = q5 refl
+by-number Q (suc (suc (suc (suc (suc (suc zero)))))) a b q1 q2 q3 q4 q5 q6 q7 q8 = q6 refl
+by-number Q (suc (suc (suc (suc (suc (suc (suc zero))))))) a b q1 q2 q3 q4 q5 q6 q7 q8 = q7 refl
+by-number Q (suc (suc (suc (suc (suc (suc (suc (suc zero)))))))) a b q1 q2 q3 q4 q5 q6 q7 q8 = q8 refl
+by-number Q (suc (suc (suc (suc (suc (suc (suc (suc (suc k))))))))) a b q1 q2 q3 q4 q5 q6 q7 q8 = absurd (omega arith)
+
+-- the function that tells which kinds have a partner asks for 3 and 5 before 8
+pub uses-rest : (kind : ℕ) → 1 ≤ kind → kind ≤ 8 → kind ≢ 3 → kind ≢ 5 → eqb kind 8 ≡ usesPartner (kindOf kind)
+uses-rest kind a b x y = by-number (λ k. eqb k 8 ≡ usesPartner (kindOf k)) kind a b (λ _. refl) (λ _. refl) (λ e. absurd (x e)) (λ _. refl) (λ e. absurd (y e)) (λ _. refl) (λ _. refl) (λ _. refl)
+
+-- of the kinds with a partner, the one that is not 3 and not 8
+pub is-five : (kind : ℕ) → PartnerKind kind → kind ≢ 3 → kind ≢ 8 → kind ≡ 5
+is-five kind k a b = by-number (λ i. So (usesPartner (kindOf i)) → i ≡ 5) kind (k .low) (k .high)
+    (λ _ u. absurd (false≢true u)) (λ _ u. absurd (false≢true u)) (λ e u. absurd (a e)) (λ _ u. absurd (false≢true u))
+    (λ _ u. refl) (λ _ u. absurd (false≢true u)) (λ _ u. absurd (false≢true u)) (λ e u. absurd (b e)) (k .uses)
+
+pub heads-kind : (kind : ℕ) → 1 ≤ kind → kind ≤ 8 → So (asksHeads (kindOf kind)) → HeadsKind kind
+heads-kind kind a b = by-number (λ i. So (asksHeads (kindOf i)) → (i ≡ 4) ⊎ (i ≡ 6)) kind a b
+    (λ _ u. absurd (false≢true u)) (λ _ u. absurd (false≢true u)) (λ _ u. absurd (false≢true u)) (λ _ u. inl refl)
+    (λ _ u. absurd (false≢true u)) (λ _ u. inr refl) (λ _ u. absurd (false≢true u)) (λ _ u. absurd (false≢true u))

@@ -1,0 +1,269 @@
+-- Laws of a step: its questions in order, and what is known from step to step.
+use mathlib.Core.Path.{_≡_, refl, sym, ap, subst, _∙_}
+use mathlib.Core.Bool.{Bool, true, false, cond, _&&_, So, true≢false}
+use mathlib.Core.List.{List}
+use Prim.Native.Nat.{ℕ, _≤_, _<_}
+use native.Mathlib.Omega.{arith}
+use lib.Dec.{eqb, ltb, leb}
+use lib.ListN.{length, getD, List·getD-eq-default}
+use borrow.Author.Tests.{le-leb, lt-leb, leb-true, eq-eqb, ne-eqb}
+use Rattle.semantics.proofs.Tests.{and-iff}
+use Rattle.rewriting.specs.Marked.{Marked, gone, entry, left}
+use Rattle.rewriting.specs.Steps.{targetKept, partnerKept, atomKnown, condition, conditionHolds, applies}
+use Rattle.rewriting.specs.Kinds.{Kind, kindOf, usesPartner, usesAtom}
+use Rattle.rewriting.specs.Uses.{asksHeads, asksReach, drops}
+use Rattle.rewriting.proofs.Left.{kept-lt}
+use Rattle.rewriting.proofs.Rows.{one-scope}
+use Rattle.rewriting.proofs.Search.{partner-lt}
+use Rattle.answers.specs.declared.StepQuestion.{StepQuestion}
+use Rattle.answers.specs.declared.StepQuestion.the-variants.{KindKnown, TargetKept, PartnerKept, AtomKnown, ConditionHolds}
+use Rattle.table.specs.View.{view}
+use Rattle.table.specs.Effects.{marksAfter}
+use Rattle.table.proofs.View.{length-view}
+use Rattle.step_parts.specs.Parts.{Ready}
+use Rattle.step_reach.specs.Bytes.{Reached}
+use Rattle.step_conditions.specs.declared.Step.{Step}
+use Rattle.step_conditions.specs.Known.{stepOf, Heads}
+use Rattle.step_conditions.proofs.Drops.{heads-stay, reached-stays}
+use Rattle.step_questions.specs.declared.Verdict.{Verdict}
+use Rattle.step_questions.specs.declared.Verdict.the-variants.{Fine, No}
+use Rattle.step_questions.specs.declared.Memo.{Memo}
+use Rattle.step_questions.specs.declared.Taken.the-variants.{Made, Not}
+use Rattle.answers.specs.Answers.{ask}
+use Rattle.answers.proofs.Asked.{ask-both}
+use Rattle.rewriting.specs.Steps as steps
+use Rattle.step_questions.specs.Questions.{kindKnown, shapeQuestions, stepQuestions}
+use Rattle.step_questions.specs.Verdicts.{shapeOf, verdictAt, Shaped, Holding, Ready-for, Step-taken}
+
+-- ---- kinds by their numbers
+
+pub known-kind : (k : ℕ) → 1 ≤ k → k ≤ 8 → kindKnown k ≡ true
+known-kind k a b = rw (le-leb 1 k a, le-leb k 8 b)
+
+pub low-kind : (k : ℕ) → k < 1 → kindKnown k ≡ false
+low-kind k h = rw (lt-leb 1 k h)
+
+pub high-kind : (k : ℕ) → 1 ≤ k → 8 < k → kindKnown k ≡ false
+high-kind k a h = rw (le-leb 1 k a, lt-leb k 8 h)
+
+-- ---- questions 12 to 15
+
+pub kept-out : (ws ms : List ℕ) (t : ℕ) → getD ws 1 0 ≤ t → false ≡ entry (view ws ms) t .kept
+kept-out ws ms t h = sym (ap (λ e. e .kept) (List·getD-eq-default (view ws ms) gone (let q : length (view ws ms) ≤ t = omega (arith, length-view ws ms) in q)))
+
+module _ (P : Marked) (s : Step) where
+  pub partner-unused : usesPartner (kindOf (s .kind)) ≡ false → eqb (s .partner) 0 ≡ partnerKept P (stepOf s)
+  partner-unused u = rw u
+
+  pub partner-same : usesPartner (kindOf (s .kind)) ≡ true → s .partner ≡ s .target → false ≡ partnerKept P (stepOf s)
+  partner-same u e = rw (u, eq-eqb (s .partner) (s .target) e) (and-no (entry P (s .partner) .kept))
+    where
+      and-no : (b : Bool) → false ≡ (b && false)
+      and-no true = refl
+      and-no false = refl
+
+  pub partner-other : (r : Bool) → usesPartner (kindOf (s .kind)) ≡ true → (s .partner ≡ s .target → ⊥) → r ≡ entry P (s .partner) .kept → r ≡ partnerKept P (stepOf s)
+  partner-other r u e q = rw (u, ne-eqb (s .partner) (s .target) e) (q ∙ and-yes (entry P (s .partner) .kept))
+    where
+      and-yes : (b : Bool) → b ≡ (b && true)
+      and-yes true = refl
+      and-yes false = refl
+
+pub atom-unused : (n : ℕ) (s : Step) → usesAtom (kindOf (s .kind)) ≡ false → eqb (s .atom) 0 ≡ atomKnown n (stepOf s)
+atom-unused n s u = rw u
+
+pub atom-used : (n : ℕ) (s : Step) → usesAtom (kindOf (s .kind)) ≡ true → ltb (s .atom) n ≡ atomKnown n (stepOf s)
+atom-used n s u = rw u
+
+module _ (n : ℕ) (P : Marked) (s : Step) (v : Verdict) where
+  pub shape-12 : kindKnown (s .kind) ≡ false → No KindKnown ≡ shapeOf n P s v
+  unfolding shapeQuestions ask
+  shape-12 a = rw a
+
+  pub shape-13 : kindKnown (s .kind) ≡ true → targetKept P (stepOf s) ≡ false → No TargetKept ≡ shapeOf n P s v
+  unfolding shapeQuestions ask
+  shape-13 a b = rw (a, b)
+
+  pub shape-14 : kindKnown (s .kind) ≡ true → targetKept P (stepOf s) ≡ true → partnerKept P (stepOf s) ≡ false → No PartnerKept ≡ shapeOf n P s v
+  unfolding shapeQuestions ask
+  shape-14 a b c = rw (a, b, c)
+
+  pub shape-15 : kindKnown (s .kind) ≡ true → targetKept P (stepOf s) ≡ true → partnerKept P (stepOf s) ≡ true → atomKnown n (stepOf s) ≡ false → No AtomKnown ≡ shapeOf n P s v
+  unfolding shapeQuestions ask
+  shape-15 a b c d = rw (a, b, c, d)
+
+  pub shape-fine : kindKnown (s .kind) ≡ true → targetKept P (stepOf s) ≡ true → partnerKept P (stepOf s) ≡ true → atomKnown n (stepOf s) ≡ true → v ≡ shapeOf n P s v
+  unfolding shapeQuestions ask
+  shape-fine a b c d = rw (a, b, c, d)
+
+ask-inv : (b : Bool) (q : StepQuestion) (v : Verdict) → ask No b q v ≡ Fine → (b ≡ true) × (v ≡ Fine)
+unfolding ask
+ask-inv true q v e = (refl, e)
+ask-inv false q v e = let z : _≡_ {A = ℕ} 0 1 = cc in absurd (omega arith)
+
+ask-no : (b : Bool) (q r : StepQuestion) (v w : Verdict) → (No r ≡ v → No r ≡ w) → No r ≡ ask No b q v → No r ≡ ask No b q w
+unfolding ask
+ask-no true q r v w f e = f e
+ask-no false q r v w f e = e
+
+module _ (n : ℕ) (P : Marked) (s : Step) where
+  pub shape-both : (v : Verdict) → Fine ≡ shapeOf n P s v → Shaped n P s × (v ≡ Fine)
+  unfolding shapeQuestions
+  shape-both v e =
+      let (a, e1) = ask-inv _ _ _ (sym e) in
+      let (b, e2) = ask-inv _ _ _ e1 in
+      let (c, e3) = ask-inv _ _ _ e2 in
+      let (d, e4) = ask-inv _ _ _ e3 in
+      let w = and-iff (leb 1 (s .kind)) (leb (s .kind) 8) .0 a in
+      (record { low = leb-true _ _ (w .0); high = leb-true _ _ (w .1); target = b; partner = c; atom = d }, e4)
+
+  pub shape-inv : Fine ≡ shapeOf n P s Fine → Shaped n P s
+  shape-inv e = shape-both Fine e .0
+
+  shape-no : (q : StepQuestion) (v : Verdict) → No q ≡ shapeOf n P s Fine → No q ≡ shapeOf n P s v
+  unfolding shapeQuestions
+  shape-no q v e = ask-no (kindKnown (s .kind)) KindKnown q _ _ (ask-no (targetKept P (stepOf s)) TargetKept q _ _ (ask-no (partnerKept P (stepOf s)) PartnerKept q _ _ (ask-no (atomKnown n (stepOf s)) AtomKnown q Fine v (λ z. let y : _≡_ {A = ℕ} 0 1 = cc in absurd (omega arith))))) e
+
+  shape-on : Shaped n P s → (v : Verdict) → v ≡ shapeOf n P s v
+  shape-on h v = shape-fine n P s v (known-kind (s .kind) (h .low) (h .high)) (h .target) (h .partner) (h .atom)
+
+  pub applies-of : Shaped n P s → conditionHolds P (stepOf s) ≡ true → So (applies n P (stepOf s))
+  unfolding applies
+  applies-of h c = and-iff (targetKept P (stepOf s)) (partnerKept P (stepOf s) && (atomKnown n (stepOf s) && conditionHolds P (stepOf s))) .1
+      (h .target, and-iff (partnerKept P (stepOf s)) (atomKnown n (stepOf s) && conditionHolds P (stepOf s)) .1 (h .partner, and-iff (atomKnown n (stepOf s)) (conditionHolds P (stepOf s)) .1 (h .atom, c)))
+
+  verdict-no : (q : StepQuestion) → No q ≡ shapeOf n P s Fine → No q ≡ verdictAt n P s
+  unfolding stepQuestions
+  verdict-no q e = shape-no q _ e
+
+  verdict-16 : Shaped n P s → conditionHolds P (stepOf s) ≡ false → No ConditionHolds ≡ verdictAt n P s
+  unfolding stepQuestions ask
+  verdict-16 h c = (rw c) ∙ shape-on h (ask No (conditionHolds P (stepOf s)) ConditionHolds Fine)
+
+  verdict-fine : Shaped n P s → conditionHolds P (stepOf s) ≡ true → Fine ≡ verdictAt n P s
+  unfolding stepQuestions ask
+  verdict-fine h c = (rw c) ∙ shape-on h (ask No (conditionHolds P (stepOf s)) ConditionHolds Fine)
+
+-- ---- question 16
+
+pub shape-fits : (n : ℕ) (ws ms : List ℕ) (s : Step) → Shaped n (view ws ms) s → (s .target < getD ws 1 0) × (s .partner < getD ws 1 0)
+shape-fits n ws ms s h =
+    let t : s .target < getD ws 1 0 = omega (arith, kept-lt (view ws ms) (s .target) (h .target), length-view ws ms) in
+    (t, go (usesPartner (kindOf (s .kind))) (partner-lt (usesPartner (kindOf (s .kind))) (view ws ms) (s .target) (s .partner) (h .partner)) t)
+  where
+    go : (b : Bool) → s .partner < cond b (length (view ws ms)) 1 → s .target < getD ws 1 0 → s .partner < getD ws 1 0
+    go true l t = omega (arith, length-view ws ms)
+    go false l t = omega arith
+
+pub holds-is : (P : Marked) (s : Step) (t p : ℕ) (r : Bool) → t ≡ s .target → p ≡ s .partner → r ≡ condition (kindOf (s .kind)) (left P) (entry P t .clause) (entry P p .clause) (s .atom) → r ≡ conditionHolds P (stepOf s)
+unfolding conditionHolds
+holds-is P s t p r a b e = e ∙ rw (a, b)
+
+-- ---- what is known from step to step
+
+module _ (k : ℕ) (ws ms hs rs : List ℕ) (m : Memo) (h : Holding ws ms hs rs m) where
+  pub heads-known : asksHeads (kindOf k) ≡ true → m .heads ≡ true → Ready-for k ws ms hs rs m
+  heads-known a e = record { holding = h; known = record { heads = λ _. h .heads e; reached = λ r. absurd (one-scope (kindOf k) a r) } }
+
+  pub heads-new : (hs′ : List ℕ) → asksHeads (kindOf k) ≡ true → Heads ws ms hs′ → Ready-for k ws ms hs′ rs (record { heads = true; reached = m .reached })
+  heads-new hs′ a e = record { holding = record { heads = λ _. e; reached = h .reached }; known = record { heads = λ _. e; reached = λ r. absurd (one-scope (kindOf k) a r) } }
+
+  pub reach-known : asksHeads (kindOf k) ≡ false → m .reached ≡ true → Ready-for k ws ms hs rs m
+  reach-known a e = record { holding = h; known = record { heads = λ r. absurd (true≢false (sym r ∙ a)); reached = λ _. h .reached e } }
+
+  pub reach-new : (rs′ : List ℕ) → asksHeads (kindOf k) ≡ false → Reached ws ms rs′ → Ready-for k ws ms hs rs′ (record { heads = m .heads; reached = true })
+  reach-new rs′ a e = record { holding = record { heads = h .heads; reached = λ _. e }; known = record { heads = λ r. absurd (true≢false (sym r ∙ a)); reached = λ _. e } }
+
+  pub none-asked : asksHeads (kindOf k) ≡ false → asksReach (kindOf k) ≡ false → Ready-for k ws ms hs rs m
+  none-asked a b = record { holding = h; known = record { heads = λ r. absurd (true≢false (sym r ∙ a)); reached = λ r. absurd (true≢false (sym r ∙ b)) } }
+
+-- after a drop and after a deletion
+abbrev pub memoAfter : Kind → Memo → Memo
+memoAfter k m = record { heads = drops k && m .heads; reached = drops k && m .reached }
+
+pub memo-kept : (k : Kind) (m : Memo) → drops k ≡ true → m ≡ memoAfter k m
+memo-kept k m d = rw d
+
+pub memo-none : (k : Kind) (m : Memo) → drops k ≡ false → record { heads = false; reached = false } ≡ memoAfter k m
+memo-none k m d = rw d
+
+-- ---- a step
+
+module _ (ws ms index : List ℕ) (r : Ready ws ms index) (s : Step) where
+  abbrev P : Marked
+  P = view ws ms
+
+  abbrev pub n : ℕ
+  n = getD ws 0 0
+
+  pub not-shaped : (hs rs : List ℕ) (q : StepQuestion) → No q ≡ shapeOf n P s Fine → Step-taken ws ms ms hs rs s (Not q)
+  not-shaped hs rs q e = record { verdict = verdict-no n P s q e; marks = refl; holding = λ m z. let y : _≡_ {A = ℕ} 0 1 = cc in absurd (omega arith) }
+
+  pub not-holding : (hs rs : List ℕ) → Shaped n P s → conditionHolds P (stepOf s) ≡ false → Step-taken ws ms ms hs rs s (Not ConditionHolds)
+  not-holding hs rs h c = record { verdict = verdict-16 n P s h c; marks = refl; holding = λ m z. let y : _≡_ {A = ℕ} 0 1 = cc in absurd (omega arith) }
+
+  pub made : (ms′ hs rs : List ℕ) (m m′ : Memo) → Shaped n P s → conditionHolds P (stepOf s) ≡ true → ms′ ≡ marksAfter ws ms (stepOf s) → Holding ws ms hs rs m → m′ ≡ memoAfter (kindOf (s .kind)) m → Step-taken ws ms ms′ hs rs s (Made m′)
+  made ms′ hs rs m m′ h c e k d = record { verdict = verdict-fine n P s h c; marks = e; holding = λ x z. let y : x ≡ m′ = cc in subst (Holding ws ms′ hs rs) (sym (y ∙ d)) holds }
+    where
+      ok : So (applies n P (stepOf s))
+      ok = applies-of n P s h c
+
+      holds : Holding ws ms′ hs rs (memoAfter (kindOf (s .kind)) m)
+      holds = record {
+        heads = λ q. let w = and-iff (drops (kindOf (s .kind))) (m .heads) .0 q in rw e (heads-stay ws ms (r .placed .passed) (r .marks) n (stepOf s) ok (w .0) hs (k .heads (w .1)));
+        reached = λ q. let w = and-iff (drops (kindOf (s .kind))) (m .reached) .0 q in rw e (reached-stays ws ms (r .placed .passed) (r .marks) n (stepOf s) ok (w .0) rs (k .reached (w .1)));
+      }
+
+-- ---- a verdict, whatever follows the questions
+
+module _ {A : Type 0} (stop : StepQuestion → A) (go : A) where
+  unfoldable pub onVerdict : Verdict → A
+  onVerdict Fine = go
+  onVerdict (No q) = stop q
+
+  on-go : go ≡ onVerdict Fine
+  unfolding onVerdict
+  on-go = refl
+
+  ask-verdict : (b : Bool) (q : StepQuestion) (v : Verdict) → ask stop b q (onVerdict v) ≡ onVerdict (ask No b q v)
+  unfolding ask onVerdict
+  ask-verdict true q v = refl
+  ask-verdict false q v = refl
+
+  pub by-verdict : (n : ℕ) (P : Marked) (s : Step) → stepQuestions stop n P (s .kind) (stepOf s) go ≡ onVerdict (verdictAt n P s)
+  unfolding stepQuestions shapeQuestions
+  by-verdict n P s =
+      let k = kindKnown (s .kind) in
+      let t = targetKept P (stepOf s) in
+      let p = partnerKept P (stepOf s) in
+      let a = atomKnown n (stepOf s) in
+      let c = conditionHolds P (stepOf s) in
+      ap (λ x. ask stop k KindKnown (ask stop t TargetKept (ask stop p PartnerKept (ask stop a AtomKnown (ask stop c ConditionHolds x))))) on-go
+      ∙ ap (λ x. ask stop k KindKnown (ask stop t TargetKept (ask stop p PartnerKept (ask stop a AtomKnown x)))) (ask-verdict c ConditionHolds Fine)
+      ∙ ap (λ x. ask stop k KindKnown (ask stop t TargetKept (ask stop p PartnerKept x))) (ask-verdict a AtomKnown _)
+      ∙ ap (λ x. ask stop k KindKnown (ask stop t TargetKept x)) (ask-verdict p PartnerKept _)
+      ∙ ap (ask stop k KindKnown) (ask-verdict t TargetKept _)
+      ∙ ask-verdict k KindKnown _
+
+  pub on-fine : (n : ℕ) (P : Marked) (s : Step) → verdictAt n P s ≡ Fine → stepQuestions stop n P (s .kind) (stepOf s) go ≡ go
+  unfolding onVerdict
+  on-fine n P s e = by-verdict n P s ∙ ap onVerdict e
+
+  pub on-no : (n : ℕ) (P : Marked) (s : Step) (q : StepQuestion) → verdictAt n P s ≡ No q → stepQuestions stop n P (s .kind) (stepOf s) go ≡ stop q
+  unfolding onVerdict
+  on-no n P s q e = by-verdict n P s ∙ ap onVerdict e
+
+-- what holds of every refusal and of what follows
+pub questions-all : {A : Type 0} (S : A → Type 0) (stop : StepQuestion → A) (n : ℕ) (P : Marked) (k : ℕ) (s : steps.Step) (go : A) → ((q : StepQuestion) → S (stop q)) → S go → S (stepQuestions stop n P k s go)
+unfolding stepQuestions shapeQuestions
+questions-all S stop n P k s go h g =
+    ask-both S stop (kindKnown k) KindKnown _ (h KindKnown)
+    (ask-both S stop (targetKept P s) TargetKept _ (h TargetKept)
+    (ask-both S stop (partnerKept P s) PartnerKept _ (h PartnerKept)
+    (ask-both S stop (atomKnown n s) AtomKnown _ (h AtomKnown)
+    (ask-both S stop (conditionHolds P s) ConditionHolds _ (h ConditionHolds) g))))
+
+-- A step that no question is answered no of is applicable.
+pub fine-applies : (n : ℕ) (P : Marked) (s : Step) → Fine ≡ verdictAt n P s → So (applies n P (stepOf s))
+unfolding stepQuestions
+fine-applies n P s e = let w = shape-both n P s (ask No (conditionHolds P (stepOf s)) ConditionHolds Fine) e in applies-of n P s (w .0) (ask-inv (conditionHolds P (stepOf s)) ConditionHolds Fine (w .1) .0)

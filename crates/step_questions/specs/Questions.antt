@@ -1,0 +1,29 @@
+-- One step: questions 12 to 16 of document 01, in its order.
+use mathlib.Core.Bool.{Bool, _&&_}
+use Prim.Native.Nat.{ℕ}
+use lib.Dec.{leb}
+use Rattle.rewriting.specs.Marked.{Marked}
+use Rattle.rewriting.specs.Steps.{Step, targetKept, partnerKept, atomKnown, conditionHolds}
+use Rattle.answers.specs.declared.StepQuestion.{StepQuestion}
+use Rattle.answers.specs.declared.StepQuestion.the-variants.{KindKnown, TargetKept, PartnerKept, AtomKnown, ConditionHolds}
+use Rattle.answers.specs.Answers.{ask}
+
+-- "12 Is the kind 1 to 8?"
+abbrev pub kindKnown : ℕ → Bool
+kindKnown k = leb 1 k && leb k 8
+
+module _ {A : Type 0} where
+  -- "13 Is the target below m and kept? 14 Is the partner below m, kept and another clause, or 0 where unused? 15 Is the atom below n, or 0
+  -- where unused?": the questions of a step s whose kind is the number k, and what follows them
+  unfoldable pub shapeQuestions : (StepQuestion → A) → ℕ → Marked → ℕ → Step → A → A
+  unfolding ask
+  shapeQuestions stop n P k s go =
+      ask stop (kindKnown k) KindKnown
+      (ask stop (targetKept P s) TargetKept
+      (ask stop (partnerKept P s) PartnerKept
+      (ask stop (atomKnown n s) AtomKnown go)))
+
+  -- "16 Does the kind's condition hold?"
+  unfoldable pub stepQuestions : (StepQuestion → A) → ℕ → Marked → ℕ → Step → A → A
+  unfolding ask shapeQuestions
+  stepQuestions stop n P k s go = shapeQuestions stop n P k s (ask stop (conditionHolds P s) ConditionHolds go)

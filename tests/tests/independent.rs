@@ -1,0 +1,176 @@
+//! Document 01's own examples, asked of its literal implementation alone.
+use gambrolt_tests::independent::program::{parse, words, Set};
+use gambrolt_tests::independent::stable::{is_stable, models};
+use gambrolt_tests::independent::{cycle, list, reduce, reduced, stable, table, text, Answer, Refused};
+
+fn refused(number: u64, place: u64) -> Answer {
+    Err(Refused { number, place })
+}
+
+fn set(atoms: &[u16]) -> Set {
+    atoms.iter().copied().collect()
+}
+
+/// The reducer's steps.
+fn steps(atoms: u16, program: &str) -> Vec<[u16; 4]> {
+    let table = words(&parse(atoms, program));
+    let (answer, _, list) = reduce::reduce(&table, &vec![9; table.len()], &[0; 1000]);
+    list.chunks(4).take(answer.unwrap() as usize).map(|step| step.try_into().unwrap()).collect()
+}
+
+fn check(atoms: u16, program: &str, list: &[u16]) -> Answer {
+    let table = words(&parse(atoms, program));
+    list::check(&table, &vec![9; table.len()], list).0
+}
+
+#[test]
+fn the_table_in_words() {
+    assert_eq!(words(&parse(4, "0|1 <- 2, ~3.")), [4, 1, 2, 1, 1, 0, 1, 2, 3]);
+    assert_eq!(table::Table::read(&[4, 1, 2, 1, 1, 0, 1, 2, 3]).unwrap().program(), parse(4, "0|1 <- 2, ~3."));
+    assert_eq!(words(&parse(2, "<- .")), [2, 1, 0, 0, 0]);
+}
+
+#[test]
+fn questions_of_a_table() {
+    let check = table::check_table;
+    assert_eq!(check(&[]), refused(1, 0));
+    assert_eq!(check(&[2]), refused(1, 0));
+    assert_eq!(check(&[0; 8193]), refused(1, 0));
+    assert_eq!(check(&[1025, 0]), refused(2, 0));
+    assert_eq!(check(&[1024, 0]), Ok(0));
+    assert_eq!(check(&[1, 2049]), refused(3, 1));
+    assert_eq!(check(&[2, 1]), refused(4, 2));
+    assert_eq!(check(&[2, 2, 0, 0, 0, 0, 0]), refused(4, 5));
+    assert_eq!(check(&[2, 1, 65535, 1, 0]), refused(5, 2));
+    assert_eq!(check(&[2, 1, 1, 0, 0, 2]), refused(6, 5));
+    assert_eq!(check(&[2, 1, 2, 0, 0, 1, 1]), refused(7, 6));
+    assert_eq!(check(&[2, 1, 1, 1, 0, 1, 0]), Ok(0));
+    assert_eq!(check(&[2, 0, 7]), refused(8, 2));
+}
+
+#[test]
+fn stable_sets() {
+    let stable = |program: &str, atoms: &[u16]| is_stable(&parse(2, program), &set(atoms));
+    assert_eq!(stable::test(&[0, 0], &[]), Ok(1));
+    assert_eq!(stable::test(&[0, 1, 0, 0, 0], &[]), Ok(0));
+    assert!(stable("0|1. 0 <- 1. 1 <- 0.", &[0, 1]));
+    assert!(!stable("0|1. 0 <- 1. 1 <- 0.", &[0]));
+    assert!(!stable("0 <- 1. 0 <- ~1. 1 <- 0.", &[0, 1]));
+    assert!(stable("0 <- ~1. 1 <- ~0.", &[0]));
+    assert!(!stable("0 <- ~1. 1 <- ~0.", &[0, 1]));
+    assert_eq!(models(&parse(2, "0 <- ~1. 1 <- ~0.")), [set(&[0]), set(&[1])]);
+    assert_eq!(models(&parse(3, "0|1. <- 0.")), [set(&[1])]);
+}
+
+#[test]
+fn questions_of_a_set() {
+    let twenty = [20, 0];
+    assert_eq!(stable::test(&twenty, &[0; 17]), refused(19, 0));
+    assert_eq!(stable::test(&twenty, &(0..16).collect::<Vec<_>>()), Ok(0));
+    assert_eq!(stable::test(&twenty, &[3, 20]), refused(20, 1));
+    assert_eq!(stable::test(&twenty, &[3, 4, 4]), refused(21, 2));
+}
+
+#[test]
+fn cycles() {
+    let cycle = |program: &str| cycle::cycle(&words(&parse(4, program))).unwrap();
+    assert_eq!(cycle("0 <- ~1. 1 <- ~0."), 1);
+    assert_eq!(cycle("0 <- 0."), 1);
+    assert_eq!(cycle("0 <- 1. 1 <- ~2. 2 <- 3."), 0);
+    assert_eq!(cycle("0 <- 1. 1 <- ~2. 2|0 <- 3. 3 <- 1."), 1);
+    assert_eq!(cycle("<- 0. 0."), 0);
+}
+
+#[test]
+fn the_reducers_steps() {
+    assert_eq!(steps(2, "0 <- 1. 1 <- 0."), [[7, 0, 0, 1], [6, 1, 0, 0]]);
+    assert_eq!(steps(2, "0 <- 1."), [[6, 0, 0, 1]]);
+    assert_eq!(steps(2, "0. 0."), [[8, 0, 1, 0]]);
+    assert_eq!(steps(2, "0 <- ~0."), [[0; 4]; 0]);
+    assert_eq!(steps(4, "0. 1 <- 0, ~2. 3 <- 3. 2 <- 3."), [[1, 2, 0, 3], [3, 1, 0, 0], [6, 3, 0, 3], [4, 1, 0, 2]]);
+}
+
+#[test]
+fn traps() {
+    assert_eq!(steps(3, "0|1. 2 <- 0."), [[0; 4]; 0], "a disjunctive fact is used for success");
+    assert_eq!(steps(2, "0 <- 0. 1 <- 0."), [[1, 0, 0, 0], [6, 1, 0, 0]], "a head is looked up in a deleted clause");
+    assert_eq!(steps(2, "0 <- 1, ~0. 1 <- ~0."), [[0; 4]; 0], "negative atoms count in the reach");
+}
+
+#[test]
+fn checked_lists() {
+    assert_eq!(check(2, "0 <- 1.", &[7, 0, 0, 1]), Ok(1));
+    assert_eq!(check(2, "0.", &[8, 0, 0, 0]), refused(14, 0));
+    assert_eq!(check(2, "<- .", &[5, 0, 0, 0]), refused(14, 0));
+    assert_eq!(check(2, "0 <- 1. 1 <- 0.", &[7, 0, 0, 1, 6, 1, 0, 0]), Ok(2));
+    assert_eq!(check(2, "0 <- 1. 1 <- 0.", &[7, 0, 0, 1, 7, 0, 0, 1]), refused(13, 1));
+    assert_eq!(check(2, "0.", &[0, 0, 0, 0]), refused(12, 0));
+    assert_eq!(check(2, "0 <- 0.", &[1, 0, 0, 2]), refused(15, 0));
+    assert_eq!(check(2, "0 <- 0.", &[1, 0, 0, 1]), refused(16, 0));
+    assert_eq!(check(2, "0. 0.", &[8, 0, 1, 1]), refused(15, 0));
+    assert_eq!(check(2, "0 <- 0.", &[1, 0, 1, 0]), refused(14, 0));
+    assert_eq!(check(2, "0.", &[1, 0, 0]), refused(11, 0));
+    assert_eq!(check(2, "0.", &[0; 32764]), refused(11, 0));
+}
+
+#[test]
+fn marks_left() {
+    let table = words(&parse(2, "0. 1 <- 0."));
+    let (answer, marks) = list::check(&table, &[7; 13], &[3, 1, 0, 0, 8, 1, 0, 0]);
+    assert_eq!((answer, &marks[..]), (refused(16, 1), &[1, 1, 1, 1, 1, 1, 1, 1, 1, 1, 0, 7, 7][..]));
+    let (answer, marks) = list::check(&table, &[7; 12], &[9, 0, 0, 0]);
+    assert_eq!((answer, &marks[..]), (refused(12, 0), &[1, 1, 1, 1, 1, 1, 1, 1, 1, 1, 1, 7][..]));
+    assert_eq!(list::check(&table, &[7; 10], &[]), (refused(9, 0), vec![7; 10]));
+}
+
+#[test]
+fn reduced_tables() {
+    let table = words(&parse(2, "0. 1 <- 0."));
+    let marks = [1, 1, 0, 1, 1, 1, 1, 1, 1, 1, 0];
+    let (answer, out) = reduced::reduced_table(&table, &marks, &[5; 7]);
+    assert_eq!((answer, &out[..]), (Ok(6), &[2, 1, 1, 0, 0, 1, 5][..]));
+    assert_eq!(reduced::reduced_table(&table, &marks, &[5; 5]), (refused(18, 0), vec![5; 5]));
+    for place in [0, 1, 3, 4, 5, 7, 8, 9] {
+        let mut marks = [1; 11];
+        marks[place] = 0;
+        assert_eq!(reduced::reduced_table(&table, &marks, &[5; 11]).0, refused(10, place as u64));
+    }
+    assert_eq!(reduced::reduced_table(&table, &[2; 11], &[5; 11]).0, refused(10, 0));
+    assert_eq!(reduced::reduced_table(&table, &[1; 10], &[5; 11]).0, refused(9, 0));
+}
+
+#[test]
+fn texts() {
+    let sample =
+        "atoms=4\nclauses=4\nhead=0\npos=\nneg=\nhead=1\npos=0\nneg=2\nhead=3\npos=3\nneg=\nhead=2\npos=3\nneg=\n";
+    let table = words(&parse(4, "0. 1 <- 0, ~2. 3 <- 3. 2 <- 3."));
+    let (answer, read) = text::read_text(sample.as_bytes(), &[7; 8192]);
+    assert_eq!((answer, &read[..table.len()]), (Ok(table.len() as u64), &table[..]));
+    assert!(read[table.len()..].iter().all(|&word| word == 7));
+    let (answer, written) = text::write_text(&table, &[7; 100]);
+    assert_eq!(&written[..answer.unwrap() as usize], sample.as_bytes());
+    assert_eq!(text::write_text(&table, &[7; 10]), (refused(28, 0), vec![7; 10]));
+}
+
+#[test]
+fn questions_of_a_text() {
+    let read = |text: &str| text::read_text(text.as_bytes(), &[0; 8192]).0;
+    assert_eq!(text::read_text(&[0; 65537], &[0; 8192]).0, refused(22, 0));
+    assert_eq!(text::read_text(b"", &[0; 8191]).0, refused(23, 0));
+    assert_eq!(read(""), refused(24, 0));
+    assert_eq!(read("atoms=2clauses=1\n"), refused(25, 0));
+    assert_eq!(read("atoms=02\n"), refused(25, 0));
+    assert_eq!(read("atoms=12345\n"), refused(25, 0));
+    assert_eq!(read("atoms=\n"), refused(25, 0));
+    assert_eq!(read("atoms=1025\n"), refused(2, 0));
+    assert_eq!(read("atoms=2\nclauses=1"), refused(24, 8));
+    assert_eq!(read("atoms=2\nclauses=2049\n"), refused(3, 8));
+    assert_eq!(read("atoms=2\nclauses=1\nhead=1,\n"), refused(25, 18));
+    assert_eq!(read("atoms=2\nclauses=1\nhead=2\n"), refused(6, 18));
+    assert_eq!(read("atoms=2\nclauses=1\nhead=1,0\n"), refused(7, 18));
+    assert_eq!(read("atoms=2\nclauses=1\nhead=0,1\npos=\nneg=\n"), Ok(7));
+    assert_eq!(read("atoms=2\nclauses=0\n\n"), refused(27, 18));
+    let long = format!("atoms=2\nclauses=1\nhead={}\n", vec!["5"; 8188].join(","));
+    assert_eq!(read(&long), refused(26, 18));
+    assert_eq!(read(&long.replacen("5,", "", 1)), refused(6, 18));
+}

@@ -1,0 +1,136 @@
+//! The rows of `crates/claims/proofs/Refusals.antt` and `OpenSteps.antt`, in their order: document 01's literal implementation and the library give the values that
+//! are proved there.
+#![deny(warnings)]
+use gambrolt_tests::compare::Tally;
+use gambrolt_tests::independent::{Answer, Refused};
+
+fn no(number: u64, place: u64) -> Answer {
+    Err(Refused { number, place })
+}
+
+/// 0 <- 1. and 0. 0., with two atoms.
+const RULE: [u16; 7] = [2, 1, 1, 1, 0, 0, 1];
+const TWICE: [u16; 10] = [2, 2, 1, 0, 0, 0, 1, 0, 0, 0];
+
+#[test]
+fn tables() {
+    let check = |words: &[u16]| Tally::new().check_table(words);
+    assert_eq!(check(&[0]), no(1, 0));
+    assert_eq!(check(&[0; 8193]), no(1, 0));
+    assert_eq!(check(&[0; 8192]), no(8, 2));
+    assert_eq!(check(&[1024, 0]), Ok(0));
+    assert_eq!(check(&[1025, 2049]), no(2, 0));
+    assert_eq!(check(&[0, 2049]), no(3, 1));
+    assert_eq!(check(&[2, 1]), no(4, 2));
+    assert_eq!(check(&[2, 2, 1, 0, 0, 1, 0, 0]), no(4, 6));
+    assert_eq!(check(&[2, 1, 65535, 1, 0]), no(5, 2));
+    assert_eq!(check(&[2, 1, 1, 0, 0, 2]), no(6, 5));
+    assert_eq!(check(&[2, 1, 1, 0, 0, 65535]), no(6, 5));
+    assert_eq!(check(&[2, 1, 2, 0, 0, 1, 1]), no(7, 6));
+    assert_eq!(check(&[3, 1, 0, 0, 3, 0, 2, 1]), no(7, 7));
+    assert_eq!(check(&[2, 1, 2, 0, 0, 5, 5]), no(6, 5));
+    assert_eq!(check(&[2, 1, 1, 1, 0, 1, 0]), Ok(0));
+    assert_eq!(check(&[2, 2, 2, 0, 0, 1, 0]), no(7, 6));
+    assert_eq!(check(&[2, 0, 0, 0]), no(8, 2));
+}
+
+#[test]
+fn marks() {
+    assert_eq!(Tally::new().check(&RULE, &[1; 6], &[]).0, no(9, 0));
+    assert_eq!(Tally::new().reduce(&RULE, &[1; 6], &[]).0, no(9, 0));
+    let reduced = |marks: &[u8], out: &[u16]| Tally::new().reduced_table(&RULE, marks, out).0;
+    assert_eq!(reduced(&[1; 6], &[]), no(9, 0));
+    assert_eq!(Tally::new().check(&[2, 0, 0], &[], &[]).0, no(8, 2));
+    assert_eq!(reduced(&[1, 0, 1, 1, 1, 0, 1], &[]), no(10, 1));
+    assert_eq!(reduced(&[1, 1, 1, 1, 1, 0, 2], &[]), no(10, 5));
+    assert_eq!(reduced(&[1, 1, 1, 1, 1, 1, 2], &[]), no(10, 6));
+    assert_eq!(reduced(&[1, 1, 0, 1, 1, 1, 0], &[0, 0]), Ok(2));
+    assert_eq!(reduced(&[1; 7], &[9; 6]), no(18, 0));
+    assert_eq!(reduced(&[1; 7], &[9; 7]), Ok(7));
+}
+
+#[test]
+fn lists() {
+    let check = |list: &[u16]| Tally::new().check(&RULE, &[5; 7], list).0;
+    let twice = |list: &[u16]| Tally::new().check(&TWICE, &[1; 10], list).0;
+    assert_eq!(check(&[9, 9, 9]), no(11, 0));
+    assert_eq!(check(&[0; 32764]), no(11, 0));
+    assert_eq!(check(&[0; 32760]), no(12, 0));
+    assert_eq!(check(&[0, 9, 9, 9]), no(12, 0));
+    assert_eq!(check(&[6, 0, 0, 1, 9, 0, 0, 0]), no(12, 1));
+    assert_eq!(check(&[6, 1, 9, 9]), no(13, 0));
+    assert_eq!(check(&[6, 0, 0, 1, 6, 0, 0, 1]), no(13, 1));
+    assert_eq!(check(&[8, 0, 1, 9]), no(14, 0));
+    assert_eq!(check(&[8, 0, 0, 9]), no(14, 0));
+    assert_eq!(check(&[6, 0, 1, 9]), no(14, 0));
+    assert_eq!(twice(&[8, 0, 1, 0, 8, 1, 0, 9]), no(14, 1));
+    assert_eq!(check(&[6, 0, 0, 2]), no(15, 0));
+    assert_eq!(twice(&[8, 0, 1, 1]), no(15, 0));
+    assert_eq!(check(&[1, 0, 0, 0]), no(16, 0));
+    assert_eq!(check(&[6, 0, 0, 1]), Ok(1));
+    let reduce = |room: usize| Tally::new().reduce(&RULE, &[5; 7], &vec![9; room]).0;
+    assert_eq!(reduce(7), no(17, 0));
+    assert_eq!(reduce(8), Ok(1));
+}
+
+#[test]
+fn sets() {
+    let test = |set: &[u16]| Tally::new().test(&RULE, set);
+    assert_eq!(test(&[9; 17]), no(19, 0));
+    assert_eq!(test(&[0, 2]), no(20, 1));
+    assert_eq!(test(&[1, 1, 9]), no(21, 1));
+    assert_eq!(test(&[1, 0]), no(21, 1));
+    assert_eq!(test(&[2; 16]), no(20, 0));
+}
+
+#[test]
+fn texts() {
+    let read = |text: &str, room: usize| Tally::new().read_text(text.as_bytes(), &vec![7; room]).0;
+    assert_eq!(read(&"0".repeat(65537), 0), no(22, 0));
+    assert_eq!(read(&"0".repeat(65536), 8191), no(23, 0));
+    let reads = |text: &str| read(text, 8192);
+    assert_eq!(reads(""), no(24, 0));
+    assert_eq!(reads("atoms=0\n"), no(24, 8));
+    assert_eq!(reads("atoms=0\nclauses=0"), no(24, 8));
+    assert_eq!(reads("atoms=2\nclauses=1\npos=\n"), no(24, 18));
+    assert_eq!(reads("atoms=02\n"), no(25, 0));
+    assert_eq!(reads("atoms=0\nclauses=\n"), no(25, 8));
+    assert_eq!(reads("atoms=1,2\n"), no(25, 0));
+    assert_eq!(reads("atoms=2\nclauses=1\nhead=1,\n"), no(25, 18));
+    assert_eq!(reads("atoms=1025\n"), no(2, 0));
+    assert_eq!(reads("atoms=0\nclauses=2049\n"), no(3, 8));
+    let numbers = |count: u16| (0..count).map(|atom| atom.to_string()).collect::<Vec<_>>().join(",");
+    let clause = |h, p, q| format!("head={}\npos={}\nneg={}\n", numbers(h), numbers(p), numbers(q));
+    let full = clause(1024, 1024, 1024);
+    let nearly = format!("atoms=1024\nclauses=4\n{full}{full}{}head=\n", clause(1024, 1011, 0));
+    assert_eq!(reads(&nearly), no(26, 32076));
+    assert_eq!(reads("atoms=2\nclauses=1\nhead=2\n"), no(6, 18));
+    assert_eq!(reads("atoms=2\nclauses=1\nhead=\npos=1,0\n"), no(7, 24));
+    assert_eq!(reads("atoms=2\nclauses=1\nhead=\npos=\nneg=9\n"), no(6, 29));
+    assert_eq!(reads("atoms=2\nclauses=1\nhead=\npos=\nneg=\n\n"), no(27, 34));
+    assert_eq!(reads("atoms=2\nclauses=1\nhead=\npos=\nneg=\n"), Ok(5));
+    let write = |room: usize| Tally::new().write_text(&[0, 0], &vec![9; room]).0;
+    assert_eq!(write(17), no(28, 0));
+    assert_eq!(write(18), Ok(18));
+}
+
+/// `OpenSteps.antt`: the lists that the reducer has to write.
+#[test]
+fn open_steps() {
+    let writes = |words: &[u16], list: &[u16]| {
+        let (answer, _, after) = Tally::new().reduce(words, &vec![0; words.len()], &[0; 64]);
+        assert_eq!((answer, &after[..list.len()]), (Ok(list.len() as u64 / 4), list));
+        assert!(after[list.len()..].iter().all(|&word| word == 0));
+    };
+    writes(&[3, 4, 1, 0, 0, 0, 1, 0, 1, 1, 0, 1, 1, 0, 2, 1, 1, 1, 0, 1, 2], &[5, 1, 0, 0, 7, 2, 0, 1, 6, 3, 0, 2]);
+    writes(&[2, 3, 2, 0, 0, 0, 1, 0, 1, 0, 0, 0, 2, 0, 0, 1], &[8, 2, 1, 0]);
+    writes(&[3, 3, 1, 0, 0, 0, 1, 1, 0, 1, 0, 1, 0, 1, 2, 1], &[3, 1, 0, 0, 5, 2, 1, 0]);
+    writes(&[2, 3, 1, 1, 0, 1, 0, 1, 0, 0, 0, 1, 0, 0, 0], &[3, 0, 1, 0, 8, 1, 2, 0]);
+    writes(&[3, 1, 1, 2, 0, 0, 1, 2], &[6, 0, 0, 1]);
+    writes(&[3, 2, 2, 0, 0, 0, 1, 1, 0, 2, 2, 0, 1], &[5, 1, 0, 0]);
+    writes(&[1, 2, 0, 0, 0, 1, 0, 1, 0, 0], &[5, 1, 0, 0]);
+    writes(
+        &[4, 4, 1, 0, 0, 0, 1, 1, 1, 1, 0, 2, 1, 1, 0, 3, 3, 1, 1, 0, 2, 3],
+        &[1, 2, 0, 3, 3, 1, 0, 0, 6, 3, 0, 3, 4, 1, 0, 2],
+    );
+}
