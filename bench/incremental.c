@@ -271,7 +271,7 @@ static void success(struct reducer *r, unsigned t)
     unsigned i = r->clause[t].pos;
     while (r->words[i] != r->words[r->clause[p].head])
         i++;
-    write_step(r, SUCCESS, t, p, 0);
+    write_step(r, SUCCESS, t, p, r->words[i]);
     drop(r, t, i);
     r->clause[t].conditions--;
     if (r->clause[t].body == 0)
@@ -306,7 +306,7 @@ static void success(struct reducer *r, unsigned t)
     }
     while (r->partners.some) {
         unsigned p = take_first(&r->partners);
-        write_step(r, SUCCESS, t, p, 0);
+        write_step(r, SUCCESS, t, p, r->words[r->place[p]]);
         drop(r, t, r->place[p]);
         c->conditions--;
     }

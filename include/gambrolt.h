@@ -21,8 +21,8 @@
  * The marks. A byte for each word of the table, 1 for kept and 0 for gone. The mark of a clause's first word is 0 where
  * the clause is deleted, that of a body atom where the literal is dropped.
  *
- * The list. Four words a step: kind, target, partner, atom. An unused word is 0. 4 times the table's length always
- * suffices for the list of a reduction.
+ * The list. Four words a step: kind, target, partner, atom. An unused word is 0. A step that drops a literal names its
+ * atom. 4 times the table's length always suffices for the list of a reduction.
  *
  * The text. Lines in fixed order, each ended by a line feed: atoms= and clauses= with the two numbers, then for each clause
  * head=, pos= and neg= with its atoms, joined by commas, or with nothing. A number has one to four digits and no leading
@@ -52,7 +52,7 @@ extern "C" {
 
 /* ---- Version --------------------------------------------------------------------------------------------------------- */
 
-#define GAMBROLT_VERSION "1.1.0"
+#define GAMBROLT_VERSION "2.0.0"
 
 static inline const char *gambrolt_version(void)
 {
@@ -74,7 +74,7 @@ static inline const char *gambrolt_version(void)
 enum gambrolt_kind {
     GAMBROLT_TAUTOLOGY     = 1, /* atom: in the head and the positive body; the clause is deleted */
     GAMBROLT_CONTRADICTION = 2, /* atom: in the positive and the negative body; the clause is deleted */
-    GAMBROLT_SUCCESS       = 3, /* partner: a fact whose one head atom is in the positive body; the literal is dropped */
+    GAMBROLT_SUCCESS       = 3, /* partner: a fact; atom: its one head atom, in the positive body; the literal is dropped */
     GAMBROLT_NO_HEAD       = 4, /* atom: in the negative body and in no head; the literal is dropped */
     GAMBROLT_BLOCKED       = 5, /* partner: a fact whose head is within the negative body; the clause is deleted */
     GAMBROLT_FAILURE       = 6, /* atom: in the positive body and in no head; the clause is deleted */
@@ -130,7 +130,7 @@ enum gambrolt_question {
     GAMBROLT_MARKS_LENGTH    = 9,  /* are there at least as many marks as words? */
     GAMBROLT_MARK_ALLOWED    = 10, /* is each mark 0 or 1, and 0 only where a step can clear it? place of the first not */
     GAMBROLT_LIST_LENGTH     = 11, /* is the list's length a multiple of 4, at most 32760? */
-    GAMBROLT_KIND_KNOWN      = 12, /* is the kind 1 to 8? 12 to 16: place of the step, from 0 */
+    GAMBROLT_KIND_KNOWN      = 12, /* is the kind 1 to 8? 12 to 16 and 29: place of the step, from 0 */
     GAMBROLT_TARGET_KEPT     = 13, /* is the target below m and kept? */
     GAMBROLT_PARTNER_KEPT    = 14, /* is the partner below m, kept and another clause, or 0 where unused? */
     GAMBROLT_ATOM_KNOWN      = 15, /* is the atom below n, or 0 where unused? */
@@ -146,7 +146,8 @@ enum gambrolt_question {
     GAMBROLT_VALUE_IN_FORM   = 25, /* is the value in form? */
     GAMBROLT_WORD_LIMIT      = 26, /* do the words so far stay within 8192? */
     GAMBROLT_TEXT_ALL_USED   = 27, /* is no byte left? place of the first */
-    GAMBROLT_TEXT_ROOM       = 28  /* does the text fit? */
+    GAMBROLT_TEXT_ROOM       = 28, /* does the text fit? */
+    GAMBROLT_ATOM_MATCHES    = 29  /* kind 3, after 15: where the partner has exactly one head atom, is it the atom? */
 };
 
 /* What a refusal number says, in words. */
@@ -182,6 +183,7 @@ static inline const char *gambrolt_message(unsigned number)
     case GAMBROLT_WORD_LIMIT: return "the program has more than 8192 words";
     case GAMBROLT_TEXT_ALL_USED: return "bytes are left over after the last line";
     case GAMBROLT_TEXT_ROOM: return "the text does not fit";
+    case GAMBROLT_ATOM_MATCHES: return "the atom of a success step is not the one head atom of its partner";
     default: return "no such refusal";
     }
 }
@@ -194,10 +196,11 @@ static inline const char *gambrolt_message(unsigned number)
 uint64_t gambrolt_check_table(const uint16_t *table, size_t table_len);
 
 /*
- * Checks a list of steps, each asked and made on what the steps before it left, from all marks 1: 9, 11, 12 to 16.
+ * Checks a list of steps, each asked and made on what the steps before it left, from all marks 1: 9, 11,
+ * then for each step 12, 13, 14, 15, 29, 16.
  * Value: the number of steps.
- * marks (at least table_len, of any values): those after the steps; of a list refused at step k (12 to 16), those after
- * steps 0 to k-1.
+ * marks (at least table_len, of any values): those after the steps; of a list refused at step k (12 to 16, 29), those
+ * after steps 0 to k-1.
  */
 uint64_t gambrolt_check(const uint16_t *table, size_t table_len, uint8_t *marks, size_t marks_len,
                         const uint16_t *list, size_t list_len);

@@ -135,15 +135,14 @@ void explain(struct order *o)
     memset(o->marks, 1, sizeof o->marks);
     for (const uint16_t *step = o->list; step < o->list + 4 * o->steps; step += 4) {
         unsigned kind = step[0], success = kind == GAMBROLT_SUCCESS;
-        size_t head = part_start(o, step[2], HEAD), gone = o->start[step[1]];
-        int atom = success ? o->table[head] : step[3];
-        int empty = kind == GAMBROLT_BLOCKED && head == part_start(o, step[2], POSITIVE);
+        size_t gone = o->start[step[1]];
+        int empty = kind == GAMBROLT_BLOCKED && part_start(o, step[2], HEAD) == part_start(o, step[2], POSITIVE);
         if (kind == GAMBROLT_LOOP && !known)
             find_reach(o);
         if (o->of[step[1]] != NO_RULE) /* a guard is none of the order's clauses */
-            put_sentence(o, sentences[empty ? 0 : kind], step[1], step[2], atom);
+            put_sentence(o, sentences[empty ? 0 : kind], step[1], step[2], step[3]);
         if (success || kind == GAMBROLT_NO_HEAD)
-            gone = find(o, step[1], success ? POSITIVE : NEGATIVE, atom);
+            gone = find(o, step[1], success ? POSITIVE : NEGATIVE, step[3]);
         o->marks[gone] = 0;
         /* a clause that needs an atom outside the reach adds nothing to it, nor does a literal that holds */
         known = kind == GAMBROLT_LOOP ||

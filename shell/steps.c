@@ -45,14 +45,14 @@ static void put_origin(struct buffer *b, const struct order *o, const char *pref
 void put_objects(struct buffer *b, const struct order *o)
 {
     for (const uint16_t *step = o->list; step < o->list + 4 * o->steps; step += 4) {
-        int with_partner = step[0] == GAMBROLT_SUCCESS || step[0] == GAMBROLT_BLOCKED || step[0] == GAMBROLT_SUBSUMED;
+        int no_atom = step[0] == GAMBROLT_BLOCKED || step[0] == GAMBROLT_SUBSUMED;
         putf(b, "%s\n {\"step\": [%u, %u, %u, %u], \"kind\": \"%s\"", step == o->list ? "" : ",", step[0], step[1], step[2],
              step[3], gambrolt_kind_name(step[0]));
         put_origin(b, o, "", step[1]);
-        if (with_partner)
+        if (no_atom || step[0] == GAMBROLT_SUCCESS)
             put_origin(b, o, "partner_", step[2]);
-        if (!with_partner || step[0] == GAMBROLT_SUCCESS) {
-            uint32_t atom = o->program.atom[with_partner ? o->table[o->start[step[2]] + 3] : step[3]];
+        if (!no_atom) {
+            uint32_t atom = o->program.atom[step[3]];
             struct buffer name = {0};
             put_literal(&name, o, "", atom, "");
             putf(b, ", \"atom\": %u, \"name\": ", atom - o->shift);

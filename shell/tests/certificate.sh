@@ -36,6 +36,7 @@ refuses "a kind" 'steps=1\nstep=9,2,0,3\n' "list, line 2: step 0, 9,2,0,3: the k
 refuses "a target" 'steps=2\nstep=1,2,0,3\nstep=1,2,0,3\n' "list, line 3: step 1, 1,2,0,3: the target of a step is not a kept clause (refused=13,1)"
 refuses "a partner" 'steps=1\nstep=8,1,1,0\n' "refused=14,0"
 refuses "an atom" 'steps=1\nstep=6,3,0,4\n' "refused=15,0"
+refuses "the atom of a success" 'steps=1\nstep=3,1,0,2\n' "list, line 2: step 0, 3,1,0,2: the atom of a success step is not the one head atom of its partner (refused=29,0)"
 refuses "a condition" 'steps=1\nstep=6,3,0,3\n' "the condition of a step does not hold (refused=16,0)"
 for list in '' 'steps\n' 'steps=\n' 'steps=8191\n' 'steps=1x\n' ' steps=0\n' '{"steps": 1\n'; do
     refuses "no number: $list" "$list" "list, line 1: not the number of steps, at most 8190"
@@ -47,6 +48,19 @@ done
 refuses "a large number" 'steps=1\nstep=1,2,0,65536\n' "list, line 2: a number is over 65535"
 refuses "a line more" 'steps=1\nstep=1,2,0,3\nstep=1,2,0,3\n' "list, line 3: more than the number of steps"
 refuses "a zero byte" 'steps=1\nstep=1,2\000,0,3\n' "list, line 2: not a step"
+
+# 1. 0 <- 1.: the line, the object and the sentence of a success name its atom; a line with 0 in its place is refused
+printf 'atoms=2\nclauses=2\nhead=1\npos=\nneg=\nhead=0\npos=1\nneg=\n' >"$tmp/in"
+build/gambrolt --text "--steps=$tmp/list" "--explain=$tmp/told" --dry-run <"$tmp/in"
+printf 'steps=1\nstep=3,1,0,1\n' >"$tmp/want"
+expect "a success's line" same "$tmp/want" "$tmp/list"
+says "a success's line" 0 "yes: the list's 1 steps" --text "--check=$tmp/list"
+# shellcheck disable=SC2016
+echo 'clause 1, `a(0) :- a(1).`: dropped `a(1)`, which clause 0 gives as a fact' >"$tmp/want"
+expect "a success's sentence" same "$tmp/want" "$tmp/told"
+build/gambrolt --text "--steps=$tmp/list.json" --dry-run <"$tmp/in"
+expect "a success's object" grep -qF '{"step": [3, 1, 0, 1], "kind": "success", "rule": 1, "line": 6, "partner_rule": 0, "partner_line": 3, "atom": 1, "name": "a(1)"}' "$tmp/list.json"
+refuses "a success without its atom" 'steps=1\nstep=3,1,0,0\n' "step 0, 3,1,0,0: the atom of a success step is not the one head atom of its partner (refused=29,0)"
 
 # aspif with choices and guards: the list of the reducer's own run, in both forms; another order's is refused
 for order in mixed bins theory; do

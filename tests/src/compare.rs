@@ -6,7 +6,7 @@ use std::fmt::Debug;
 /// How many calls were compared, how often each question refused one, and how many steps of each kind were made.
 pub struct Tally {
     pub cases: u64,
-    pub met: [u64; 29],
+    pub met: [u64; 30],
     pub made: [u64; 9],
 }
 
@@ -20,7 +20,7 @@ fn code(answer: Answer) -> u64 {
 
 impl Tally {
     pub fn new() -> Tally {
-        Tally { cases: 0, met: [0; 29], made: [0; 9] }
+        Tally { cases: 0, met: [0; 30], made: [0; 9] }
     }
 
     /// Compares what a call gave with what document 01 says, both with all memory that was lent for writing.
@@ -51,7 +51,7 @@ impl Tally {
         let (answer, after) = independent::list::check(table, marks, list);
         let (given, bytes) = library::check(table, marks, list);
         match answer {
-            Err(Refused { number: 12..=16, place }) => self.count(list, place),
+            Err(Refused { number: 12..=16 | 29, place }) => self.count(list, place),
             Err(_) => {}
             Ok(steps) => self.count(list, steps),
         }

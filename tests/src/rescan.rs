@@ -85,7 +85,8 @@ impl Reducer {
             self.kept().filter(|(_, c)| c.is_fact() && allowed(&c.head)).map(|(p, c)| (p, &c.head[..])).collect();
         self.kept().find_map(|(target, clause)| {
             let fits = |fact: &&(u16, &[u16])| fact.0 != target && subset(fact.1, part(clause));
-            facts.iter().find(fits).map(|fact| [kind, target, fact.0, 0])
+            let atom = |head: &[u16]| if kind == 3 { head[0] } else { 0 };
+            facts.iter().find(fits).map(|fact| [kind, target, fact.0, atom(fact.1)])
         })
     }
 
@@ -116,13 +117,10 @@ impl Reducer {
         })
     }
 
-    fn make(&mut self, [kind, target, partner, atom]: [u16; 4]) {
+    fn make(&mut self, [kind, target, _, atom]: [u16; 4]) {
         let target = usize::from(target);
         match kind {
-            3 => {
-                let atom = self.clauses[usize::from(partner)].as_ref().unwrap().head[0];
-                self.clauses[target].as_mut().unwrap().pos.retain(|&other| other != atom);
-            }
+            3 => self.clauses[target].as_mut().unwrap().pos.retain(|&other| other != atom),
             4 => self.clauses[target].as_mut().unwrap().neg.retain(|&other| other != atom),
             _ => self.clauses[target] = None,
         }

@@ -71,8 +71,9 @@ fn check(table: &[u16], list: &[u16]) -> Answer {
 #[test]
 fn three_hundred_conditions_and_299_facts() {
     let table = conditions(301, 299);
-    let successes: Vec<[u16; 4]> = (0..299).map(|fact| [3, 299, fact, 0]).collect();
+    let successes: Vec<[u16; 4]> = (0..299).map(|fact| [3, 299, fact, fact]).collect();
     reduced_by(&table, &[&successes[..], &[[6, 299, 0, 299]]].concat());
+    assert_eq!(check(&table, &(0..299).flat_map(|fact| [3, 299, fact, 0]).collect::<Vec<_>>()), refused(29, 1));
     assert_eq!(check(&table, &[&successes[..], &[[3, 299, 0, 0]]].concat().concat()), refused(16, 299));
     assert_eq!(check(&table, &[&successes[..], &[[5, 298, 299, 0]]].concat().concat()), refused(16, 299));
     let facts = parse(301, &(0..299).map(|i| format!("{i}.")).collect::<String>());
@@ -82,7 +83,7 @@ fn three_hundred_conditions_and_299_facts() {
 #[test]
 fn three_hundred_conditions_and_300_facts() {
     let table = conditions(301, 300);
-    let successes: Vec<[u16; 4]> = (0..300).map(|fact| [3, 300, fact, 0]).collect();
+    let successes: Vec<[u16; 4]> = (0..300).map(|fact| [3, 300, fact, fact]).collect();
     reduced_by(&table, &successes);
     assert_eq!(check(&table, &[&successes[..], &[[8, 300, 300, 0]]].concat().concat()), refused(14, 300));
     let facts = parse(301, &(0..301).map(|i| format!("{i}.")).collect::<String>());
@@ -91,7 +92,21 @@ fn three_hundred_conditions_and_300_facts() {
 
 #[test]
 fn a_thousand_conditions() {
-    reduced_by(&conditions(1001, 1000), &(0..1000).map(|fact| [3, 1000, fact, 0]).collect::<Vec<_>>());
+    reduced_by(&conditions(1001, 1000), &(0..1000).map(|fact| [3, 1000, fact, fact]).collect::<Vec<_>>());
+}
+
+/// Slip 1 of document 02.
+#[test]
+fn successes_name_their_atoms() {
+    assert_eq!(steps(&table(2, "1. 0 <- 1.")), [[3, 1, 0, 1]]);
+    let check = |atoms: u16, program: &str, list: &[u16]| check(&table(atoms, program), list);
+    assert_eq!(check(2, "0. 1 <- 0.", &[3, 1, 0, 0]), Ok(1));
+    assert_eq!(check(2, "1. 0 <- 1.", &[3, 1, 0, 0]), refused(29, 0));
+    assert_eq!(check(2, "1. 0 <- 1.", &[3, 1, 0, 1]), Ok(1));
+    assert_eq!(check(3, "0 <- 1. 2 <- 0.", &[3, 1, 0, 1]), refused(29, 0), "one head atom, and no fact");
+    assert_eq!(check(3, "0 <- 1. 2 <- 0.", &[3, 1, 0, 0]), refused(16, 0));
+    assert_eq!(check(3, "0|1. 2 <- 0.", &[3, 1, 0, 0]), refused(16, 0));
+    assert_eq!(check(3, "0|1. 2 <- 0.", &[3, 1, 0, 2]), refused(16, 0), "two head atoms pass 29");
 }
 
 #[test]

@@ -83,11 +83,17 @@ fn of_texts() -> Vec<(&'static str, u64)> {
     ]
 }
 
+/// Those of document 02, in the order of their numbers.
+fn of_requests() -> Vec<(&'static str, u64)> {
+    let success = words(&parse(2, "1. 0 <- 1."));
+    vec![("ATOM_MATCHES", number(Tally::new().check(&success, &[1; 11], &[3, 1, 0, 0]).0))]
+}
+
 #[test]
 fn questions() {
-    let expected = named(&[of_tables(), of_steps_and_sets(), of_texts()].concat());
+    let expected = named(&[of_tables(), of_steps_and_sets(), of_texts(), of_requests()].concat());
     assert_eq!(values("gambrolt_question"), expected);
-    assert!(expected.iter().map(|(_, number)| *number).eq(1..=28), "a number is missing or stands twice");
+    assert!(expected.iter().map(|(_, number)| *number).eq(1..=29), "a number is missing or stands twice");
 }
 
 /// Each question has one message, and no message is said twice.
@@ -101,7 +107,7 @@ fn messages() {
     }
     said.sort_unstable();
     said.dedup();
-    assert_eq!(said.len(), 28);
+    assert_eq!(said.len(), 29);
 }
 
 /// The kind of the first step on a program.

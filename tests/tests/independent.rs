@@ -1,6 +1,7 @@
 //! Document 01's own examples, asked of its literal implementation alone.
 use gambrolt_tests::independent::program::{parse, words, Set};
 use gambrolt_tests::independent::stable::{is_stable, models};
+use gambrolt_tests::independent::steps::{Left, Step};
 use gambrolt_tests::independent::{cycle, list, reduce, reduced, stable, table, text, Answer, Refused};
 
 fn refused(number: u64, place: u64) -> Answer {
@@ -111,6 +112,36 @@ fn checked_lists() {
     assert_eq!(check(2, "0 <- 0.", &[1, 0, 1, 0]), refused(14, 0));
     assert_eq!(check(2, "0.", &[1, 0, 0]), refused(11, 0));
     assert_eq!(check(2, "0.", &[0; 32764]), refused(11, 0));
+}
+
+/// Slip 1 of document 02. A partner with one head atom that is no fact, a disjunctive fact, the empty clause; 15 comes before 29, and 29 before 16.
+#[test]
+fn a_success_names_its_atom() {
+    assert_eq!(check(2, "0. 1 <- 0.", &[3, 1, 0, 0]), Ok(1));
+    assert_eq!(check(2, "1. 0 <- 1.", &[3, 1, 0, 0]), refused(29, 0));
+    assert_eq!(check(2, "1. 0 <- 1.", &[3, 1, 0, 1]), Ok(1));
+    assert_eq!(steps(2, "1. 0 <- 1."), [[3, 1, 0, 1]]);
+    assert_eq!(check(3, "0 <- 1. 2 <- 0.", &[3, 1, 0, 1]), refused(29, 0));
+    assert_eq!(check(3, "0 <- 1. 2 <- 0.", &[3, 1, 0, 0]), refused(16, 0));
+    assert_eq!(check(3, "0|1. 2 <- 0.", &[3, 1, 0, 0]), refused(16, 0));
+    assert_eq!(check(2, "<- . 0 <- 1.", &[3, 1, 0, 1]), refused(16, 0));
+    assert_eq!(check(2, "1. 0 <- 0.", &[3, 1, 0, 1]), refused(16, 0));
+    assert_eq!(check(2, "1. 0 <- 1.", &[3, 1, 0, 2]), refused(15, 0));
+    assert_eq!(check(0, "<- . <- .", &[3, 0, 1, 0]), refused(15, 0));
+    assert_eq!(check(2, "1. 0 <- ~1.", &[5, 1, 0, 0]), Ok(1), "29 is asked of kind 3 only");
+}
+
+/// The steps that the reducer chooses among are those that the questions let through, of all four words near the program's.
+#[test]
+fn choices_are_all_that_pass() {
+    for program in ["1. 0 <- 1. 0|1. 0 <- 0, ~1. <- .", "0. 0 <- 0, 1, ~2. 1 <- ~0. 2 <- 2.", "<- 1. 1 <- 2, ~1. 2 <- 1. 2.", "0|2. 1 <- 0, 2. 0 <- 1."] {
+        let words = words(&parse(3, program));
+        let table = table::Table::read(&words).unwrap();
+        let left = Left::new(&table, &vec![1; words.len()]);
+        let all = (0..5 * 5 * 5 * 10u16).map(|k| Step::new(k / 125, k / 25 % 5, k / 5 % 5, k % 5));
+        let passed: Vec<Step> = all.filter(|&step| list::questions(&left, step, 0).is_ok()).collect();
+        assert_eq!(reduce::applicable(&left), passed, "{program}");
+    }
 }
 
 #[test]

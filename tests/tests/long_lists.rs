@@ -20,7 +20,7 @@ fn compared(shape: &Shape, size: usize) -> u64 {
     assert!(library::check(&table, &fresh, made) == (steps, marks.clone()), "{name}: the list is not accepted");
     for more in steps_more(&table, made) {
         let (answer, left) = library::check(&table, &fresh, &[made, &more].concat());
-        assert!((12..=16).contains(&(answer >> 48)), "{name}: {more:?} behind the list is taken");
+        assert!(matches!(answer >> 48, 12..=16 | 29), "{name}: {more:?} behind the list is taken");
         assert_eq!(answer & 0xffff_ffff_ffff, steps, "{name}: {more:?} behind the list is refused at another step");
         assert!(left == marks, "{name}: {more:?} behind the list changes marks");
     }
@@ -34,6 +34,7 @@ fn steps_more(table: &[u16], list: &[u16]) -> Vec<[u16; 4]> {
     let mut steps: Vec<[u16; 4]> = (1..=8).map(|kind| [kind, below(table[1]), 0, 0]).collect();
     steps.extend([3, 5, 8].map(|kind| [kind, below(table[1]), below(table[1]), 0]));
     steps.extend([1, 2, 4, 6, 7].map(|kind| [kind, below(table[1]), 0, below(table[0])]));
+    steps.extend([0; 4].map(|_| [3, below(table[1]), below(table[1]), below(table[0])]));
     steps.extend([[0; 4], [65535; 4]]);
     let own = |step: &[u16]| [step[0], step[1], step[2], step[3]];
     steps.extend(list.chunks(4).take(1).chain(list.chunks(4).last()).map(own));

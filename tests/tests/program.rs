@@ -80,6 +80,21 @@ fn taken_texts() {
     assert!(taken > 50 && refused > 50, "{taken} taken, {refused} refused");
 }
 
+/// Slip 1: facts 0 to 298 and 300 <- 0 .. 299, with 301 atoms, then with 299 a fact too; the line of each success names its atom.
+#[test]
+fn success_lines() {
+    let conditions = (0..300).map(|atom| atom.to_string()).collect::<Vec<_>>().join(",");
+    for facts in [299, 300] {
+        let fact = |atom: u16| format!("head={atom}\npos=\nneg=\n");
+        let clauses = (0..facts).map(fact).collect::<String>();
+        let text = format!("atoms=301\nclauses={}\n{clauses}head=300\npos={conditions}\nneg=\n", facts + 1);
+        let success = |fact: u16| format!("step=3,{facts},{fact},{fact}\n");
+        let last = if facts == 299 { "step=6,299,0,299\n" } else { "" };
+        let lines = format!("steps=300\n{}{last}", (0..facts).map(success).collect::<String>());
+        assert!(compared(text.as_bytes()).ends_with(&lines));
+    }
+}
+
 /// "22 Are there at most 65,536 bytes?"
 #[test]
 fn one_byte_too_many() {

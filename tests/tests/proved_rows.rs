@@ -1,5 +1,5 @@
-//! The rows of `crates/claims/proofs/Refusals.antt` and `OpenSteps.antt`, in their order: document 01's literal implementation and the library give the values that
-//! are proved there.
+//! The rows of `crates/claims/proofs/Refusals.antt`, `OpenSteps.antt` and `Requests.antt`, in their order: the literal implementation of the documents and the library
+//! give the values that are proved there.
 #![deny(warnings)]
 use gambrolt_tests::compare::Tally;
 use gambrolt_tests::independent::{Answer, Refused};
@@ -114,14 +114,43 @@ fn texts() {
     assert_eq!(write(18), Ok(18));
 }
 
+/// The reducer writes this list for the table.
+fn writes(words: &[u16], list: &[u16]) {
+    let (answer, _, after) = Tally::new().reduce(words, &vec![0; words.len()], &[0; 64]);
+    assert_eq!((answer, &after[..list.len()]), (Ok(list.len() as u64 / 4), list));
+    assert!(after[list.len()..].iter().all(|&word| word == 0));
+}
+
+/// `Requests.antt`, slip 1.
+#[test]
+fn successes() {
+    let check = |words: &[u16], list: &[u16]| Tally::new().check(words, &vec![1; words.len()], list).0;
+    let success = [2, 2, 1, 0, 0, 1, 1, 1, 0, 0, 1];
+    let rules = [3, 2, 1, 1, 0, 0, 1, 1, 1, 0, 2, 0];
+    let disjunctive = [3, 2, 2, 0, 0, 0, 1, 1, 1, 0, 2, 0];
+    assert_eq!(check(&[2, 2, 1, 0, 0, 0, 1, 1, 0, 1, 0], &[3, 1, 0, 0]), Ok(1));
+    assert_eq!(check(&success, &[3, 1, 0, 0]), no(29, 0));
+    assert_eq!(check(&success, &[3, 1, 0, 1]), Ok(1));
+    writes(&success, &[3, 1, 0, 1]);
+    assert_eq!(check(&rules, &[3, 1, 0, 1]), no(29, 0));
+    assert_eq!(check(&rules, &[3, 1, 0, 0]), no(16, 0));
+    assert_eq!(check(&disjunctive, &[3, 1, 0, 0]), no(16, 0));
+    assert_eq!(check(&disjunctive, &[3, 1, 0, 2]), no(16, 0));
+    assert_eq!(check(&[2, 2, 0, 0, 0, 1, 1, 0, 0, 1], &[3, 1, 0, 1]), no(16, 0));
+    assert_eq!(check(&[2, 2, 1, 0, 0, 1, 1, 1, 0, 0, 0], &[3, 1, 0, 1]), no(16, 0));
+    assert_eq!(check(&success, &[3, 1, 0, 2]), no(15, 0));
+    assert_eq!(check(&[0, 2, 0, 0, 0, 0, 0, 0], &[3, 0, 1, 0]), no(15, 0));
+    assert_eq!(check(&success, &[3, 1, 1, 0]), no(14, 0));
+    assert_eq!(check(&[2, 2, 1, 0, 0, 1, 1, 0, 1, 0, 1], &[5, 1, 0, 0]), Ok(1));
+    assert_eq!(check(&[2, 2, 1, 0, 0, 1, 1, 0, 0, 1], &[8, 0, 1, 0]), Ok(1));
+    let both = [3, 3, 1, 0, 0, 0, 1, 0, 0, 1, 1, 2, 0, 2, 0, 1];
+    assert_eq!(check(&both, &[3, 2, 0, 0, 3, 2, 1, 0]), no(29, 1));
+    writes(&both, &[3, 2, 0, 0, 3, 2, 1, 1]);
+}
+
 /// `OpenSteps.antt`: the lists that the reducer has to write.
 #[test]
 fn open_steps() {
-    let writes = |words: &[u16], list: &[u16]| {
-        let (answer, _, after) = Tally::new().reduce(words, &vec![0; words.len()], &[0; 64]);
-        assert_eq!((answer, &after[..list.len()]), (Ok(list.len() as u64 / 4), list));
-        assert!(after[list.len()..].iter().all(|&word| word == 0));
-    };
     writes(&[3, 4, 1, 0, 0, 0, 1, 0, 1, 1, 0, 1, 1, 0, 2, 1, 1, 1, 0, 1, 2], &[5, 1, 0, 0, 7, 2, 0, 1, 6, 3, 0, 2]);
     writes(&[2, 3, 2, 0, 0, 0, 1, 0, 1, 0, 0, 0, 2, 0, 0, 1], &[8, 2, 1, 0]);
     writes(&[3, 3, 1, 0, 0, 0, 1, 1, 0, 1, 0, 1, 0, 1, 2, 1], &[3, 1, 0, 0, 5, 2, 1, 0]);

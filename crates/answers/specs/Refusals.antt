@@ -1,11 +1,11 @@
--- Document 01's number and place of every refusal.
+-- The number and place of every refusal: document 01's, and 29 of slip 1.
 use Prim.Native.Nat.{ℕ}
 use Rattle.answers.specs.declared.CallQuestion.{CallQuestion}
 use Rattle.answers.specs.declared.CallQuestion.the-variants.{TableLength, MarksLength, ListLength, ListRoom, TableRoom, SetLength, TextLength, TableSlice, TextRoom}
 use Rattle.answers.specs.declared.WordQuestion.{WordQuestion}
 use Rattle.answers.specs.declared.WordQuestion.the-variants.{AtomLimit, ClauseLimit, CountsLeft, LiteralsLeft, AtomBelow, Ascending, AllUsed, MarkAllowed}
 use Rattle.answers.specs.declared.StepQuestion.{StepQuestion}
-use Rattle.answers.specs.declared.StepQuestion.the-variants.{KindKnown, TargetKept, PartnerKept, AtomKnown, ConditionHolds}
+use Rattle.answers.specs.declared.StepQuestion.the-variants.{KindKnown, TargetKept, PartnerKept, AtomKnown, AtomMatches, ConditionHolds}
 use Rattle.answers.specs.declared.EntryQuestion.{EntryQuestion}
 use Rattle.answers.specs.declared.EntryQuestion.the-variants.{EntryBelow, EntryAscending}
 use Rattle.answers.specs.declared.ByteQuestion.{ByteQuestion}
@@ -39,6 +39,7 @@ stepNumber KindKnown = 12
 stepNumber TargetKept = 13
 stepNumber PartnerKept = 14
 stepNumber AtomKnown = 15
+stepNumber AtomMatches = 29
 stepNumber ConditionHolds = 16
 
 abbrev pub entryNumber : EntryQuestion → ℕ

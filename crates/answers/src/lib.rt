@@ -1,4 +1,4 @@
-// What a call answers: the questions of document 01, the refusal that holds the first one answered no, the answer of every call, and the one
+// What a call answers: the questions of documents 01 and 02, the refusal that holds the first one answered no, the answer of every call, and the one
 // number that it is for a caller in C.
 ghost use mathlib.Core.Path.{_≡_};
 ghost use Prim.Native.Nat.{_≤_};
@@ -58,6 +58,8 @@ pub enum StepQuestion {
     PartnerKept,
     // 15: an atom below n, or 0 where unused.
     AtomKnown,
+    // 29: for kind 3, the partner's head atom, where it has exactly one.
+    AtomMatches,
     // 16: the kind's condition.
     ConditionHolds,
 }
@@ -146,6 +148,7 @@ fn step_number(q: StepQuestion) -> u64
         StepQuestion::TargetKept => 13,
         StepQuestion::PartnerKept => 14,
         StepQuestion::AtomKnown => 15,
+        StepQuestion::AtomMatches => 29,
         StepQuestion::ConditionHolds => 16,
     }
 }

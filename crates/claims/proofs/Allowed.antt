@@ -10,16 +10,14 @@ use lib.Dec.{eqb, leb, ltb}
 use lib.ListN.{length, getD, set}
 use lib.Seq.{getD-set-same, getD-set-other}
 use borrow.Author.Tests.{eq-eqb, le-leb, lt-ltb}
-use Rattle.semantics.specs.Programs.{Clause}
 use Rattle.semantics.proofs.Tests.{or-left, or-right, and-iff}
-use Rattle.rewriting.specs.Marked.{entry}
 use Rattle.rewriting.specs.Steps.{Step, applies}
 use Rattle.rewriting.specs.Runs.{accepted}
-use Rattle.rewriting.specs.Kinds.{Kind, tautology, contradiction, success, noHead, blocked, failure, loop, subsumed}
+use Rattle.rewriting.specs.Kinds.{Deed, deletes, dropsPos, dropsNeg, rowOf}
 use Rattle.table.specs.Questions.{Passed}
 use Rattle.table.specs.Places.{posAt, negAt, nextAt, startFrom, startOf}
 use Rattle.table.specs.View.{view, allKept}
-use Rattle.table.specs.Effects.{find, clears, marksAfter, marksAfterAll}
+use Rattle.table.specs.Effects.{find, clearedBy, clears, marksAfter, marksAfterAll}
 use Rattle.table.proofs.View.{at-step, view-after, length-after}
 use Rattle.table.proofs.Parts.{allKept-one, length-allKept, view-allKept}
 use Rattle.answers.specs.declared.Answer.the-variants.{Accepted}
@@ -41,16 +39,10 @@ find-from ws a at (suc k) = go (eqb (getD ws at 0) a) (find-from ws a (suc at) k
     go true h = omega arith
     go false h = omega arith
 
-clears-where : (ws : List ℕ) (k : Kind) (at : ℕ) (d : Clause) (a : ℕ) → (clears ws k at d a ≡ at) ⊎ (posAt ws at ≤ clears ws k at d a)
-unfolding clears
-clears-where ws tautology at d a = inl refl
-clears-where ws contradiction at d a = inl refl
-clears-where ws success at d a = inr (find-from ws (getD (d .head) 0 0) (posAt ws at) (getD ws (at + 1) 0))
-clears-where ws noHead at d a = inr (omega (arith, find-from ws a (negAt ws at) (getD ws (at + 2) 0)))
-clears-where ws blocked at d a = inl refl
-clears-where ws failure at d a = inl refl
-clears-where ws loop at d a = inl refl
-clears-where ws subsumed at d a = inl refl
+clears-where : (ws : List ℕ) (x : Deed) (at a : ℕ) → (clearedBy ws x at a ≡ at) ⊎ (posAt ws at ≤ clearedBy ws x at a)
+clears-where ws deletes at a = inl refl
+clears-where ws dropsPos at a = inr (find-from ws a (posAt ws at) (getD ws (at + 1) 0))
+clears-where ws dropsNeg at a = inr (omega (arith, find-from ws a (negAt ws at) (getD ws (at + 2) 0)))
 
 clearable-in : (ws : List ℕ) (at i : ℕ) → (i ≡ at) ⊎ (posAt ws at ≤ i) → i < nextAt ws at → So (clearableIn ws at i)
 clearable-in ws at i (inl e) h = or-left (eqb i at) _ (eq-eqb i at e)
@@ -74,13 +66,13 @@ zero-allowed : (ws ms : List ℕ) (i : ℕ) → getD ms i 0 ≡ 0 → So (cleara
 zero-allowed ws ms i e h = or-right (eqb (getD ms i 0) 1) _ (and-iff (eqb (getD ms i 0) 0) (clearableFrom ws (getD ws 1 0) 2 i) .1 (eq-eqb _ 0 e, h))
 
 step-allowed : (ws ms : List ℕ) → Passed ws → length ws ≤ length ms → (s : Step) → So (applies (getD ws 0 0) (view ws ms) s) → Allowed ws ms → Allowed ws (marksAfter ws ms s)
-unfolding marksAfter
+unfolding marksAfter clears
 step-allowed ws ms p l s h o i b =
     let (x, y, z, v, u, w) = at-step ws ms p l (getD ws 0 0) s h in
-    let j = clears ws (s .kind) (startOf ws (s .target)) (entry (view ws ms) (s .partner) .clause) (s .atom) in
+    let j = clears ws s in
     by-cases (ℕ-discrete i j)
     (λ e. subst (λ q. So (allowed ws (set ms j 0) q)) (sym e) (zero-allowed ws (set ms j 0) j (getD-set-same ms j 0 0 (omega arith))
-    (clearable-at ws (getD ws 1 0) 2 (s .target) j x (clearable-in ws (startOf ws (s .target)) j (clears-where ws (s .kind) (startOf ws (s .target)) (entry (view ws ms) (s .partner) .clause) (s .atom)) v))))
+    (clearable-at ws (getD ws 1 0) 2 (s .target) j x (clearable-in ws (startOf ws (s .target)) j (clears-where ws (rowOf (s .kind) .deed) (startOf ws (s .target)) (s .atom)) v))))
     (λ e. subst (λ q. So (eqb q 1 || (eqb q 0 && clearableFrom ws (getD ws 1 0) 2 i))) (sym (getD-set-other ms j i 0 0 e)) (o i b))
 
 list-allowed : (ws : List ℕ) → Passed ws → (l : List Step) (ms : List ℕ) → length ws ≤ length ms → So (accepted (getD ws 0 0) (view ws ms) l) → Allowed ws ms → Allowed ws (marksAfterAll ws ms l)

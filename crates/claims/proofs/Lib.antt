@@ -2,6 +2,8 @@ pub mod Demand1
 pub mod Demand2
 pub mod Demand3
 pub mod Examples
+pub mod Requests
+pub mod Successes
 pub mod OpenSteps
 pub mod Refusals
 pub mod Said

@@ -59,7 +59,7 @@ front-made ws ms ls k p l f h =
     let (a, b) = front-fits ls k f h in
     check-made ws ms (take (4 * k) ls) _ (p .valid) l a ∙ ap (stepsFrom ws (allKept ws ms) (take (4 * k) ls) 0) b ∙ steps-front ws ls (4 * k) k 0 (allKept ws ms) (omega arith)
 
--- ---- a list is accepted exactly when each step gets a yes to 12 to 16 on what the steps before it leave
+-- ---- a list is accepted exactly when each step gets a yes to 12 to 16 and 29 on what the steps before it leave
 
 module _ (ws ls : List ℕ) where
   abbrev pub Fine-at : List ℕ → ℕ → ℕ → Type 0
@@ -102,7 +102,7 @@ module _ (ws ls : List ℕ) where
       ∙ all-fine rest (k + 1) (next ms k) (λ i h. fine-on k ms q i .0 (f (suc i) (omega arith)))
       ∙ ap Accepted (let z : k + 1 + rest ≡ k + suc rest = omega arith in z)
 
--- a step gets a yes to all of 12 to 16 exactly where none of them is its first no
+-- a step gets a yes to all of 12 to 16 and 29 exactly where none of them is its first no
 pub none-fine : (ws ms ls : List ℕ) (k : ℕ) → (firstNo ws ms ls k ≡ none) ↔ (verdictOn ws ms ls k ≡ Fine)
 none-fine ws ms ls k = (go (verdictOn ws ms ls k) refl, on-fine some none (getD ws 0 0) (view ws ms) (wordsAt ls k))
   where

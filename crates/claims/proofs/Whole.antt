@@ -14,7 +14,7 @@ use Rattle.rewriting.specs.Marked.{Marked, whole}
 use Rattle.rewriting.specs.Steps.{Step, step, applies}
 use Rattle.rewriting.specs.Runs.{accepted, leaves}
 use Rattle.rewriting.specs.Kinds.{number}
-use Rattle.rewriting.proofs.Rows.{kindOf-number, number-bounds}
+use Rattle.rewriting.proofs.Rows.{kindOf-number, number-bounds, condition-matches}
 use Rattle.rewriting.proofs.Greedy.{greedy-end}
 use Rattle.answers.specs.declared.StepQuestion.{StepQuestion}
 use Rattle.answers.specs.declared.Refusal.the-variants as refusal
@@ -76,7 +76,7 @@ unfolding stepQuestions shapeQuestions ask applies
 applies-fine n P s h =
     let b = number-bounds (s .kind) in
     let w = simp and-iff at (subst (λ u. So (applies n P u)) (sym (step-words s)) h) in
-    rw (known-kind (number (s .kind)) (b .0) (b .1), w .0, w .1 .0, w .1 .1 .0, w .1 .1 .1)
+    rw (known-kind (number (s .kind)) (b .0) (b .1), w .0, w .1 .0, w .1 .1 .0, condition-matches P (stepOf (wordsStep s)) (w .1 .1 .1), w .1 .1 .1)
 
 -- ---- the steps of a list, one after the other
 
@@ -174,16 +174,16 @@ module _ (ws ms : List ℕ) (p : Passed ws) (l : length ws ≤ length ms) where
       no (No q) e = (q, e)
 
 -- the marks of the table's words that the reducer's list leaves don't depend on the marks before
-left-agree : (ws ks ms : List ℕ) → Passed ws → length ws ≤ length ks → length ws ≤ length ms
+left-agree : (ws ks ms : List ℕ) → length ws ≤ length ks → length ws ≤ length ms
     → take (length ws) (marksAfterAll ws (allKept ws ks) (stepsOf ws)) ≡ take (length ws) (marksAfterAll ws (allKept ws ms) (stepsOf ws))
-left-agree ws ks ms p a b =
+left-agree ws ks ms a b =
     let x = marksAfterAll ws (allKept ws ks) (stepsOf ws) in
     let y = marksAfterAll ws (allKept ws ms) (stepsOf ws) in
     let u : length (take (length ws) x) ≡ length ws = length-take-le (length ws) x (omega (arith, length-afterAll ws (stepsOf ws) (allKept ws ks), length-allKept ws ks a)) in
     let v : length (take (length ws) y) ≡ length ws = length-take-le (length ws) y (omega (arith, length-afterAll ws (stepsOf ws) (allKept ws ms), length-allKept ws ms b)) in
     ext-getD 0 (take (length ws) x) (take (length ws) y) (u ∙ sym v) (λ i h.
     getD-take (length ws) x i 0 (omega arith)
-    ∙ afterAll-agree ws p (stepsOf ws) (allKept ws ks) (allKept ws ms) (omega (arith, length-allKept ws ks a)) (omega (arith, length-allKept ws ms b)) (λ j _ k. allKept-one ws ks j k ∙ sym (allKept-one ws ms j k)) i (omega arith) (omega arith)
+    ∙ afterAll-agree ws (stepsOf ws) (allKept ws ks) (allKept ws ms) (omega (arith, length-allKept ws ks a)) (omega (arith, length-allKept ws ms b)) (λ j _ k. allKept-one ws ks j k ∙ sym (allKept-one ws ms j k)) i (omega arith) (omega arith)
     ∙ sym (getD-take (length ws) y i 0 (omega arith)))
 
 -- the marks at 0 that the reducer's list leaves are its steps
@@ -213,7 +213,7 @@ module _ (ws ms ls ks : List ℕ) (s : ℕ) (h : reduction ws ms ls .answer ≡ 
       let t = reducer-taken ws ms ls s h in
       ap (λ x. take (length ws) (checkList ws ks x .marks)) (list-words ws ms ls s h)
       ∙ ap (λ o. take (length ws) (o .marks)) (list-accepted ws ks (t .passed) l)
-      ∙ left-agree ws ks ms (t .passed) l (t .marked)
+      ∙ left-agree ws ks ms l (t .marked)
       ∙ ap (take (length ws)) (sym (t .marks))
 
   -- "s is exactly the marks at 0 among the table's words after that list is checked."

@@ -8,7 +8,7 @@ use lib.ListN.{length, set}
 use Rattle.semantics.specs.Lists.{mem, count, bit}
 use Rattle.semantics.specs.Programs.{Clause}
 use Rattle.rewriting.specs.Marked.{Entry, Marked, entry, left}
-use Rattle.rewriting.specs.Steps.{Step, applies, rewritten, leftBy, dropped, effect}
+use Rattle.rewriting.specs.Steps.{Step, applies, leftBy, effect}
 use Rattle.rewriting.specs.Kinds.{Deed, deletes, dropsPos, dropsNeg, rowOf}
 use Rattle.rewriting.specs.Uses.{dropping, drops}
 use Rattle.rewriting.proofs.Left.{kept-lt}
@@ -41,8 +41,8 @@ pub heads-effect : (n : ℕ) (P : Marked) (s : Step) → So (applies n P s) → 
 unfolding heads effect
 heads-effect n P s h a =
     let c = entry P (s .target) in
-    let e = rewritten (s .kind) (c .clause) (entry P (s .partner) .clause) (s .atom) in
-    omega (arith, count-left (λ d. mem a (d .head)) P (s .target) e (kept-lt P (s .target) (target-kept n P s h)), at (rowOf (s .kind) .deed) (dropped (s .kind) (entry P (s .partner) .clause) (s .atom)) c (target-kept n P s h))
+    let e = leftBy (rowOf (s .kind) .deed) (s .atom) (c .clause) in
+    omega (arith, count-left (λ d. mem a (d .head)) P (s .target) e (kept-lt P (s .target) (target-kept n P s h)), at (rowOf (s .kind) .deed) (s .atom) c (target-kept n P s h))
   where
     at : (x : Deed) (b : ℕ) (c : Entry) → So (c .kept)
         → bit (leftBy x b (c .clause) .kept && mem a (leftBy x b (c .clause) .clause .head)) + bit (not (dropping x) && mem a (c .clause .head)) ≡ bit (c .kept && mem a (c .clause .head))

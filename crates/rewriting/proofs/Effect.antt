@@ -6,7 +6,7 @@ use mathlib.Core.List.{List·Memᴰ·head, List·Memᴰ·not-nil}
 use Prim.Native.Nat.{ℕ}
 use native.Mathlib.Decide.{ℕ-discrete}
 use lib.Dec.{eqb}
-use lib.ListN.{length, getD, length-set}
+use lib.ListN.{length, length-set}
 use lib.Seq.{getD-set-same, getD-set-other}
 use Rattle.semantics.specs.Lists.{_∈_, mem}
 use Rattle.semantics.specs.Programs.{Clause, Atoms}
@@ -14,13 +14,13 @@ use Rattle.semantics.proofs.Tests.{without-keeps, and-iff, null-iff}
 use Rattle.semantics.proofs.Models.{All}
 use Rattle.rewriting.specs.Marked.{Entry, Marked, gone, entry, left}
 use Rattle.rewriting.specs.Reaches.{reach}
-use Rattle.rewriting.specs.Steps.{dropped, Step, fact, single, inNoHead, condition, applies, rewritten, effect}
+use Rattle.rewriting.specs.Steps.{Step, fact, inNoHead, condition, applies, leftBy, effect}
 use Rattle.rewriting.specs.Kinds.{Kind, rowOf, usesPartner}
 use Rattle.rewriting.specs.Uses.{drops}
 use Rattle.rewriting.proofs.Left.{left-each, kept-lt, closed-left}
 use Rattle.rewriting.proofs.Reach.{inNoHead-iff, reach-closed, reach-least}
-use Rattle.rewriting.proofs.Sound.{single-elim, partner-other, applies-ask}
-use Rattle.rewriting.proofs.Rows.{kinds-drop}
+use Rattle.rewriting.proofs.Sound.{partner-other, applies-ask}
+use Rattle.rewriting.proofs.Rows.{kinds-drop, succeeds}
 use Rattle.rewriting.proofs.Subclauses.{Subclause, below-same, below-left, left-kept}
 
 -- ---- heads and the reach of what is left, by the clauses' numbers
@@ -61,18 +61,18 @@ module _ (n : ℕ) (P : Marked) (s : Step) (h : So (applies n P s)) where
   unfolding effect
   at-other i d = getD-set-other P (s .target) i _ gone d
 
-  pub at-target : entry (effect P s) (s .target) ≡ rewritten (s .kind) the (entry P (s .partner) .clause) (s .atom)
+  pub at-target : entry (effect P s) (s .target) ≡ leftBy (rowOf (s .kind) .deed) (s .atom) the
   unfolding effect
   at-target = getD-set-same P (s .target) _ gone (kept-lt P (s .target) target-kept)
 
   pub effect-below : (i : ℕ) → Subclause (entry (effect P s) i) (entry P i)
   effect-below i = by-cases (ℕ-discrete i (s .target))
       (λ e. subst (λ j. Subclause (entry (effect P s) j) (entry P j)) (sym e)
-      (subst (λ c. Subclause c (entry P (s .target))) (sym at-target) (below-left (rowOf (s .kind) .deed) (dropped (s .kind) (entry P (s .partner) .clause) (s .atom)) (entry P (s .target)) target-kept)))
+      (subst (λ c. Subclause c (entry P (s .target))) (sym at-target) (below-left (rowOf (s .kind) .deed) (s .atom) (entry P (s .target)) target-kept)))
       (λ d. below-same (at-other i d))
 
   kept-after : entry (effect P s) (s .target) .kept ≡ drops (s .kind)
-  kept-after = ap (λ c. c .kept) at-target ∙ left-kept (rowOf (s .kind) .deed) (dropped (s .kind) (entry P (s .partner) .clause) (s .atom)) the
+  kept-after = ap (λ c. c .kept) at-target ∙ left-kept (rowOf (s .kind) .deed) (s .atom) the
 
   pub is-deleted : ¬ So (drops (s .kind)) → ¬ So (entry (effect P s) (s .target) .kept)
   is-deleted d k = d (subst So kept-after k)
@@ -134,12 +134,10 @@ module _ (n : ℕ) (P : Marked) (s : Step) (h : So (applies n P s)) where
       (λ e. subst (λ j. FiresAt before (entry (effect P s) j)) (sym e) at k g)
       (λ d. subst (FiresAt before) (sym (at-other i d)) (reach-fires P i) k g))
     where
-      fires : (c d : Clause) (b : ℕ) (k : Kind) → So (drops k) → So (condition k (left P) c d b) → (So (usesPartner k) → So (fact d) → All before (d .head)) → All before (rewritten k c d b .clause .pos) → All before (c .pos)
-      fires c d b = kinds-drop (λ k. So (condition k (left P) c d b) → (So (usesPartner k) → So (fact d) → All before (d .head)) → All before (rewritten k c d b .clause .pos) → All before (c .pos))
-          (λ q f g e m. let w = and-iff (fact d) (single (λ x. mem x (c .pos)) (d .head)) .0 q in
-          by-cases (ℕ-discrete e (getD (d .head) 0 0))
-          (λ z. f refl (w .0) e (subst (λ l. e ∈ l) (sym (single-elim (λ x. mem x (c .pos)) (d .head) (w .1))) (List·Memᴰ·head z)))
-          (λ z. g e (without-keeps (getD (d .head) 0 0) e (c .pos) m z)))
+      fires : (c d : Clause) (b : ℕ) (k : Kind) → So (drops k) → So (condition k (left P) c d b) → (So (usesPartner k) → So (fact d) → All before (d .head)) → All before (leftBy (rowOf k .deed) b c .clause .pos) → All before (c .pos)
+      fires c d b = kinds-drop (λ k. So (condition k (left P) c d b) → (So (usesPartner k) → So (fact d) → All before (d .head)) → All before (leftBy (rowOf k .deed) b c .clause .pos) → All before (c .pos))
+          (λ q f g e m. let w = succeeds (left P) c d b q in
+          by-cases (ℕ-discrete e b) (λ z. f refl (w .isFact) e (subst (λ l. e ∈ l) (sym (w .head)) (List·Memᴰ·head z))) (λ z. g e (without-keeps b e (c .pos) m z)))
           (λ q f g e m. g e m)
 
       fact-fires : (p : ℕ) → So (entry P p .kept) → So (fact (entry P p .clause)) → All before (entry P p .clause .head)

@@ -8,7 +8,7 @@ use lib.ListN.{set}
 use Rattle.semantics.specs.Lists.{ascending}
 use Rattle.semantics.proofs.Tests.{bit-true, length-without, ascending-without}
 use Rattle.rewriting.specs.Marked.{Entry, Marked, entry}
-use Rattle.rewriting.specs.Steps.{Step, applies, rewritten, leftBy, dropped, effect}
+use Rattle.rewriting.specs.Steps.{Step, applies, leftBy, effect}
 use Rattle.rewriting.specs.Kinds.{Deed, deletes, dropsPos, dropsNeg, rowOf}
 use Rattle.rewriting.specs.Measure.{weight, measure}
 use Rattle.rewriting.proofs.Rows.{There, drops-there}
@@ -37,8 +37,8 @@ unfolding effect
 step-measure n P s u h =
     let w = applies-ask n P s h in
     let c = entry P (s .target) in
-    let d = entry P (s .partner) .clause in
-    omega (arith, measure-set P (s .target) (rewritten (s .kind) (c .clause) d (s .atom)) (w .0), weight-left (rowOf (s .kind) .deed) (dropped (s .kind) d (s .atom)) c (u (s .target)) (w .0) (drops-there _ (c .clause) d (s .atom) (s .kind) (w .2)))
+    let x = rowOf (s .kind) .deed in
+    omega (arith, measure-set P (s .target) (leftBy x (s .atom) (c .clause)) (w .0), weight-left x (s .atom) c (u (s .target)) (w .0) (drops-there _ (c .clause) (entry P (s .partner) .clause) (s .atom) (s .kind) (w .2)))
 
 tidy-left : (x : Deed) (a : ℕ) (e : Entry) → Tidy e → Tidy (leftBy x a (e .clause))
 tidy-left deletes a e u = u
@@ -48,5 +48,5 @@ tidy-left dropsNeg a e u = (u .0, ascending-without a (e .clause .neg) (u .1))
 pub tidy-effect : (P : Marked) (s : Step) → ((i : ℕ) → Tidy (entry P i)) → (i : ℕ) → Tidy (entry (effect P s) i)
 unfolding effect
 tidy-effect P s u =
-    let d = entry P (s .partner) .clause in
-    each-set Tidy P (s .target) (rewritten (s .kind) (entry P (s .target) .clause) d (s .atom)) (tidy-left (rowOf (s .kind) .deed) (dropped (s .kind) d (s .atom)) (entry P (s .target)) (u (s .target))) u
+    let x = rowOf (s .kind) .deed in
+    each-set Tidy P (s .target) (leftBy x (s .atom) (entry P (s .target) .clause)) (tidy-left x (s .atom) (entry P (s .target)) (u (s .target))) u

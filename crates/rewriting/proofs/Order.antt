@@ -17,9 +17,10 @@ use Rattle.rewriting.specs.Marked.{Marked, entry, left}
 use Rattle.rewriting.specs.Reaches.{reach}
 use Rattle.rewriting.specs.Steps.{Step, step, inNoHead, condition, conditionHolds, applies}
 use Rattle.rewriting.specs.Kinds.{Kind, tautology, contradiction, success, noHead, blocked, failure, loop, subsumed, kindOf, usesPartner, usesAtom}
-use Rattle.rewriting.specs.Search.{least, given, firstAtom, firstPartner, firstTarget, firstStep}
+use Rattle.rewriting.specs.Search.{partnerAtom, stepWith, least, given, firstAtom, firstPartner, firstTarget, firstStep}
+use Rattle.rewriting.proofs.Search.{atom-bound}
 use Rattle.rewriting.proofs.Quiet.{least-none, least-some}
-use Rattle.rewriting.proofs.Rows.{alone-atom, partner-alone}
+use Rattle.rewriting.proofs.Rows.{alone-atom, atom-settled}
 
 -- ---- the first atom of an ascending part that passes a test is the first atom below n that is in it and passes
 
@@ -115,22 +116,30 @@ atom-first n P k t u h o s = rw (u, alone-atom k u) (part-first n (λ a. step k 
     d : Clause
     d = entry P 0 .clause
 
--- The inner search of the kinds with a partner: one question a partner.
-pub partner-first : (n : ℕ) (P : Marked) (k : Kind) (t p : ℕ) → So (usesPartner k) → firstAtom n P k t p ≡ given (applies n P (step k t p 0)) (step k t p 0)
-unfolding firstAtom least
-partner-first n P k t p u = ap (λ b. least (cond b n 1) (λ a. given (applies n P (step k t p a)) (step k t p a))) (partner-alone k u)
+-- The inner search of the kinds with a partner: one question a partner, since the partner settles the atom.
+pub partner-first : (n : ℕ) (P : Marked) (k : Kind) (t p : ℕ) → So (usesPartner k) → firstAtom n P k t p ≡ given (applies n P (stepWith P k t p)) (stepWith P k t p)
+unfolding firstAtom
+partner-first n P k t p u = go (applies n P (stepWith P k t p)) refl
+  where
+    other : (a : ℕ) → ¬ (So (applies n P (step k t p a)) × (a ≡ partnerAtom k (entry P p .clause))) → given (applies n P (step k t p a)) (step k t p a) ≡ none
+    other a x = ap (λ b. given b (step k t p a)) (so-false _ (λ h. x (h, atom-settled n P k t p a u h)))
 
-pub partner-end : (n : ℕ) (P : Marked) (k : Kind) (t : ℕ) → So (usesPartner k) → ((p : ℕ) → p < length P → applies n P (step k t p 0) ≡ false) → firstPartner n P k t ≡ none
+    go : (b : Bool) → applies n P (stepWith P k t p) ≡ b → least (cond (usesAtom k) n 1) (λ a. given (applies n P (step k t p a)) (step k t p a)) ≡ given b (stepWith P k t p)
+    go true e = least-some (cond (usesAtom k) n 1) _ (stepWith P k t p) (partnerAtom k (entry P p .clause)) (atom-bound n P k t p _ e) (ap (λ b. given b (stepWith P k t p)) e)
+        (λ a l. other a (λ x. omega (arith, x .1)))
+    go false e = least-none (cond (usesAtom k) n 1) _ (λ a l. other a (λ x. not-so e (subst (λ c. So (applies n P (step k t p c))) (x .1) (x .0))))
+
+pub partner-end : (n : ℕ) (P : Marked) (k : Kind) (t : ℕ) → So (usesPartner k) → ((p : ℕ) → p < length P → applies n P (stepWith P k t p) ≡ false) → firstPartner n P k t ≡ none
 unfolding firstPartner
 partner-end n P k t u h = ap (λ b. least (cond b (length P) 1) (λ p. firstAtom n P k t p)) u
-    ∙ least-none (length P) (λ p. firstAtom n P k t p) (λ p l. partner-first n P k t p u ∙ ap (λ b. given b (step k t p 0)) (h p l))
+    ∙ least-none (length P) (λ p. firstAtom n P k t p) (λ p l. partner-first n P k t p u ∙ ap (λ b. given b (stepWith P k t p)) (h p l))
 
-pub partner-hit : (n : ℕ) (P : Marked) (k : Kind) (t p : ℕ) → So (usesPartner k) → p < length P → ((q : ℕ) → q < p → applies n P (step k t q 0) ≡ false) → So (applies n P (step k t p 0))
-    → firstPartner n P k t ≡ some (step k t p 0)
+pub partner-hit : (n : ℕ) (P : Marked) (k : Kind) (t p : ℕ) → So (usesPartner k) → p < length P → ((q : ℕ) → q < p → applies n P (stepWith P k t q) ≡ false) → So (applies n P (stepWith P k t p))
+    → firstPartner n P k t ≡ some (stepWith P k t p)
 unfolding firstPartner
 partner-hit n P k t p u l h a = ap (λ b. least (cond b (length P) 1) (λ p. firstAtom n P k t p)) u
-    ∙ least-some (length P) (λ p. firstAtom n P k t p) (step k t p 0) p l (partner-first n P k t p u ∙ ap (λ b. given b (step k t p 0)) a)
-    (λ q i. partner-first n P k t q u ∙ ap (λ b. given b (step k t q 0)) (h q i))
+    ∙ least-some (length P) (λ p. firstAtom n P k t p) (stepWith P k t p) p l (partner-first n P k t p u ∙ ap (λ b. given b (stepWith P k t p)) a)
+    (λ q i. partner-first n P k t q u ∙ ap (λ b. given b (stepWith P k t q)) (h q i))
 
 -- ---- targets and kinds in order
 

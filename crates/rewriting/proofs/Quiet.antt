@@ -9,10 +9,10 @@ use native.Mathlib.Omega.{arith}
 use native.Mathlib.Decide.{ℕ-discrete, decLt}
 use lib.ListN.{length}
 use Rattle.semantics.proofs.Tests.{so-false}
-use Rattle.rewriting.specs.Marked.{Marked}
+use Rattle.rewriting.specs.Marked.{Marked, entry}
 use Rattle.rewriting.specs.Steps.{Step, step, applies}
 use Rattle.rewriting.specs.Kinds.{Kind, usesPartner, usesAtom}
-use Rattle.rewriting.specs.Search.{least, given, firstAtom, firstPartner}
+use Rattle.rewriting.specs.Search.{partnerAtom, stepWith, least, given, firstAtom, firstPartner}
 use Rattle.rewriting.proofs.Search.{no-step}
 
 -- ---- the search's answer
@@ -31,6 +31,10 @@ least-some (suc k) f b i l e h = by-cases (decLt i k) (λ x. rw (least-some k f 
 
 abbrev pub key : Step → ℕ
 key u = cond (usesPartner (u .kind)) (u .partner) (u .atom)
+
+-- the key of a step with a partner is the partner
+pub key-partner : (P : Marked) (k : Kind) (t p : ℕ) → So (usesPartner k) → key (stepWith P k t p) ≡ p
+key-partner P k t p u = ap (λ b. cond b p (partnerAtom k (entry P p .clause))) u
 
 -- nothing that is 0 in the second was more in the first
 abbrev pub Raised : (ℕ → ℕ) → (ℕ → ℕ) → Type 0

@@ -1,16 +1,21 @@
 -- Laws over the table of kinds: what holds of each of its lines holds of every kind.
-use mathlib.Core.Path.{_≡_, refl}
-use mathlib.Core.Bool.{Bool, true, false, So, false≢true, true≢false}
+use mathlib.Core.Path.{_≡_, refl, sym, ap, subst}
+use mathlib.Core.Logic.{_↔_, _≢_}
+use mathlib.Core.Bool.{Bool, true, false, not, cond, _&&_, So, false≢true, true≢false}
 use mathlib.Core.List.{List, [], _∷_}
 use Prim.Native.Nat.{ℕ, zero, suc, _≤_, _<_}
 use native.Mathlib.Omega.{arith}
+use lib.Dec.{eqb, ltb}
 use lib.ListN.{getD}
+use borrow.Author.Tests.{eqb-true, eq-eqb, ne-eqb}
 use Rattle.semantics.specs.Lists.{_∈_, mem}
 use Rattle.semantics.specs.Programs.{Clause}
-use Rattle.semantics.proofs.Tests.{and-iff, mem-iff}
-use Rattle.rewriting.specs.Steps.{fact, single, inNoHead, condition, dropped}
+use Rattle.semantics.proofs.Tests.{and-iff, not-iff, mem-iff}
+use Rattle.rewriting.specs.Marked.{Marked, entry, left}
+use Rattle.rewriting.specs.Steps.{Step, step, fact, single, inNoHead, condition, conditionHolds, atomMatches, applies}
 use Rattle.rewriting.specs.Kinds.{Kind, tautology, contradiction, success, noHead, blocked, failure, loop, subsumed, Deed, deletes, dropsPos, dropsNeg, Scope, clausesAlone, keptHeads, wholeReach, rowOf, number, kindOf, usesPartner, usesAtom}
 use Rattle.rewriting.specs.Uses.{drops, isHeads, isReach, asksHeads, asksReach}
+use Rattle.rewriting.specs.Search.{partnerAtom}
 
 -- what holds of the eight kinds, in the order of their numbers
 pub each-kind : (Q : Kind → Type 0) → Q tautology → Q contradiction → Q success → Q noHead → Q blocked → Q failure → Q loop → Q subsumed → (k : Kind) → Q k
@@ -61,15 +66,11 @@ number-kindOf (suc (suc (suc (suc (suc zero))))) h = refl
 number-kindOf (suc (suc (suc (suc (suc (suc zero)))))) h = refl
 number-kindOf (suc (suc (suc (suc (suc (suc (suc i))))))) h = omega arith
 
--- ---- "Kinds 1, 2, 4, 6, 7 have no partner word, kinds 3, 5, 8 no atom word"
+-- ---- which words a kind has
 
 -- a kind without a partner has an atom
 pub alone-atom : (k : Kind) → usesPartner k ≡ false → usesAtom k ≡ true
 alone-atom = each-kind (λ k. usesPartner k ≡ false → usesAtom k ≡ true) (λ e. refl) (λ e. refl) (λ e. absurd (true≢false e)) (λ e. refl) (λ e. absurd (true≢false e)) (λ e. refl) (λ e. refl) (λ e. absurd (true≢false e))
-
--- a kind with a partner has none
-pub partner-alone : (k : Kind) → So (usesPartner k) → usesAtom k ≡ false
-partner-alone = kinds-partner (λ k. usesAtom k ≡ false) refl refl refl
 
 -- ---- what a kind asks for
 
@@ -86,6 +87,12 @@ one-scope k = go (rowOf k .scope)
 pub partner-scope : (k : Kind) → So (usesPartner k) → rowOf k .scope ≡ clausesAlone
 partner-scope = kinds-partner (λ k. rowOf k .scope ≡ clausesAlone) refl refl refl
 
+-- the list is that atom alone
+pub single-is : (a : ℕ) (l : List ℕ) → So (single (eqb a) l) → l ≡ a ∷ []
+single-is a [] h = absurd (false≢true h)
+single-is a (b ∷ []) h = ap (λ x. x ∷ []) (sym (eqb-true a b h))
+single-is a (b ∷ c ∷ l) h = absurd (false≢true h)
+
 -- ---- what a step drops
 
 -- the atom is in the part that the deed drops it from
@@ -94,14 +101,58 @@ There deletes b c = Unit {0}
 There dropsPos b c = b ∈ c .pos
 There dropsNeg b c = b ∈ c .neg
 
-pub single-at : (f : ℕ → Bool) (l : List ℕ) → So (single f l) → So (f (getD l 0 0))
-single-at f [] h = absurd (false≢true h)
-single-at f (b ∷ []) h = h
-single-at f (b ∷ c ∷ l) h = absurd (false≢true h)
+-- kind 3: the partner is a fact, its head is the atom, and the target has it
+pub record Succeeds (c d : Clause) (a : ℕ) : Type 0 where
+  pub isFact : So (fact d)
+  pub head : d .head ≡ a ∷ []
+  pub there : a ∈ c .pos
+
+pub succeeds : (cs : List Clause) (c d : Clause) (a : ℕ) → So (condition success cs c d a) → Succeeds c d a
+unfolding condition
+succeeds cs c d a h = let w = simp and-iff at h in
+    record { isFact = and-iff _ _ .1 (w .0 .0, w .0 .1); head = single-is a (d .head) (w .1 .0); there = mem-iff _ _ .0 (w .1 .1) }
 
 -- where a kind's condition holds, what it drops is there
-pub drops-there : (cs : List Clause) (c d : Clause) (a : ℕ) (k : Kind) → So (condition k cs c d a) → There (rowOf k .deed) (dropped k d a) c
+pub drops-there : (cs : List Clause) (c d : Clause) (a : ℕ) (k : Kind) → So (condition k cs c d a) → There (rowOf k .deed) a c
 unfolding condition
-drops-there cs c d a = each-kind (λ k. So (condition k cs c d a) → There (rowOf k .deed) (dropped k d a) c)
-    (λ h. tt) (λ h. tt) (λ h. mem-iff _ _ .0 (single-at (λ b. mem b (c .pos)) (d .head) (and-iff (fact d) (single (λ b. mem b (c .pos)) (d .head)) .0 h .1)))
-    (λ h. mem-iff _ _ .0 (and-iff (mem a (c .neg)) (inNoHead cs a) .0 h .0)) (λ h. tt) (λ h. tt) (λ h. tt) (λ h. tt)
+drops-there cs c d a = each-kind (λ k. So (condition k cs c d a) → There (rowOf k .deed) a c)
+    (λ h. tt) (λ h. tt) (λ h. succeeds cs c d a h .there) (λ h. mem-iff _ _ .0 (and-iff (mem a (c .neg)) (inNoHead cs a) .0 h .0)) (λ h. tt) (λ h. tt) (λ h. tt) (λ h. tt)
+
+-- ---- the atom of a step with a partner
+
+-- 29 is answered no exactly of a success whose partner's head is one atom, and another than the step's
+pub matches-no : (P : Marked) (s : Step) → (atomMatches P s ≡ false) ↔ ((number (s .kind) ≡ 3) × (b : ℕ) × (entry P (s .partner) .clause .head ≡ b ∷ []) × (s .atom ≢ b))
+matches-no P s = (
+  λ e. let w = and-iff (eqb (number (s .kind)) 3) (single (λ b. not (eqb (s .atom) b)) l) .0 (no-not _ e) in let v = one l (w .1) in (eqb-true _ _ (w .0), v .0, v .1, v .2),
+  λ (k, b, e, d). ap not (and-iff (eqb (number (s .kind)) 3) (single (λ b. not (eqb (s .atom) b)) l) .1 (eq-eqb _ _ k, subst (λ l. So (single (λ b. not (eqb (s .atom) b)) l)) (sym e) (ap not (ne-eqb _ _ d)))),
+)
+  where
+    l : List ℕ
+    l = entry P (s .partner) .clause .head
+
+    no-not : (b : Bool) → not b ≡ false → So b
+    no-not true e = refl
+    no-not false e = absurd (true≢false e)
+
+    one : (l : List ℕ) → So (single (λ b. not (eqb (s .atom) b)) l) → (b : ℕ) × (l ≡ b ∷ []) × (s .atom ≢ b)
+    one [] h = absurd (false≢true h)
+    one (b ∷ []) h = (b, refl, λ e. not-iff _ .0 h (eq-eqb _ _ e))
+    one (b ∷ c ∷ l) h = absurd (false≢true h)
+
+-- where 16 is answered yes, so is 29
+pub condition-matches : (P : Marked) (s : Step) → So (conditionHolds P s) → So (atomMatches P s)
+unfolding conditionHolds
+condition-matches P s = each-kind
+    (λ k. So (condition k (left P) (entry P (s .target) .clause) d (s .atom)) → So (not (eqb (number k) 3 && single (λ b. not (eqb (s .atom) b)) (d .head))))
+    (λ h. refl) (λ h. refl) (λ h. subst (λ l. So (not (single (λ b. not (eqb (s .atom) b)) l))) (sym (succeeds (left P) (entry P (s .target) .clause) d (s .atom) h .head)) (not-iff _ .1 (λ x. not-iff _ .0 x (eq-eqb (s .atom) (s .atom) refl))))
+    (λ h. refl) (λ h. refl) (λ h. refl) (λ h. refl) (λ h. refl) (s .kind)
+  where
+    d : Clause
+    d = entry P (s .partner) .clause
+
+-- the partner settles the atom
+pub atom-settled : (n : ℕ) (P : Marked) (k : Kind) (t p a : ℕ) → So (usesPartner k) → So (applies n P (step k t p a)) → a ≡ partnerAtom k (entry P p .clause)
+unfolding applies conditionHolds
+atom-settled n P k t p a u h = let w = simp and-iff at h in
+    kinds-partner (λ k. So (cond (usesAtom k) (ltb a n) (eqb a 0)) → So (condition k (left P) (entry P t .clause) (entry P p .clause) a) → a ≡ partnerAtom k (entry P p .clause))
+    (λ x y. sym (ap (λ l. getD l 0 0) (succeeds (left P) (entry P t .clause) (entry P p .clause) a y .head))) (λ x y. eqb-true a 0 x) (λ x y. eqb-true a 0 x) k u (w .1 .1 .0) (w .1 .1 .1)

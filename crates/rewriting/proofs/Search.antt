@@ -81,8 +81,8 @@ module _ (n : ℕ) (P : Marked) where
   OfKind : ℕ → Type 0
   OfKind i = (i < 8) × (t : ℕ) × (p : ℕ) × (a : ℕ) × So (applies n P (step (kindOf (suc i)) t p a))
 
-  atom-bound : (k : Kind) (t p a : ℕ) → Atom k t p a → a < cond (usesAtom k) n 1
-  unfolding applies Atom
+  pub atom-bound : (k : Kind) (t p a : ℕ) → So (applies n P (step k t p a)) → a < cond (usesAtom k) n 1
+  unfolding applies
   atom-bound k t p a h = let w = simp and-iff at h in atom-lt (usesAtom k) n a (w .1 .1 .0)
 
   partner-bound : (k : Kind) (t p : ℕ) → Partner k t p → p < cond (usesPartner k) (length P) 1

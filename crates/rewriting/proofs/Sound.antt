@@ -5,7 +5,7 @@ use mathlib.Core.Bool.{Bool, true, false, not, cond, _&&_, So, false≢true}
 use mathlib.Core.List.{List, [], _∷_}
 use Prim.Native.Nat.{ℕ}
 use lib.Dec.{eqb}
-use lib.ListN.{getD, set}
+use lib.ListN.{set}
 use borrow.Author.Tests.{eq-eqb}
 use Rattle.semantics.specs.Lists.{all, mem}
 use Rattle.semantics.specs.Programs.{Clause, Atoms, Stable, program}
@@ -13,10 +13,11 @@ use Rattle.semantics.proofs.Tests.{and-iff, not-iff, mem-iff, within-iff, null-
 use Rattle.semantics.proofs.Models.{Same, same-iff, same-trans, Closed}
 use Rattle.rewriting.specs.Marked.{Entry, Marked, entry, left}
 use Rattle.rewriting.specs.Reaches.{reach}
-use Rattle.rewriting.specs.Steps.{Step, single, inNoHead, condition, conditionHolds, applies, deleted, dropNeg, rewritten, effect}
+use Rattle.rewriting.specs.Steps.{Step, inNoHead, condition, conditionHolds, applies, deleted, dropNeg, leftBy, effect}
 use Rattle.rewriting.specs.Runs.{leaves}
-use Rattle.rewriting.specs.Kinds.{Kind, tautology, contradiction, success, noHead, blocked, failure, loop, subsumed, usesPartner}
+use Rattle.rewriting.specs.Kinds.{Kind, tautology, contradiction, success, noHead, blocked, failure, loop, subsumed, rowOf, usesPartner}
 use Rattle.rewriting.proofs.Left.{each-set, ClosedAt, closed-left}
+use Rattle.rewriting.proofs.Rows.{succeeds}
 use Rattle.rewriting.proofs.ByKind.{same-tautology, same-contradiction, same-outside, same-dropNeg, same-blocked, same-subsumed, same-success}
 use Rattle.rewriting.proofs.Reach.{allBut, others-closed, others-not, reach-closed, same-without}
 
@@ -26,11 +27,6 @@ closed-set R P t e f h = let a = closed-left R P .0 h in closed-left R (set P t 
 
 closed-deleted : (R : Atoms) (P : Marked) (t : ℕ) → Closed R (left P) → Closed R (left (set P t (deleted (entry P t .clause))))
 closed-deleted R P t h = closed-set R P t (deleted (entry P t .clause)) (λ _ k. absurd (false≢true k)) h
-
-pub single-elim : (f : ℕ → Bool) (l : List ℕ) → So (single f l) → l ≡ getD l 0 0 ∷ []
-single-elim f [] h = absurd (false≢true h)
-single-elim f (b ∷ []) h = refl
-single-elim f (b ∷ c ∷ l) h = absurd (false≢true h)
 
 pub partner-other : (P : Marked) (p t : ℕ) → So (entry P p .kept && not (eqb p t)) → So (entry P p .kept) × (p ≢ t)
 partner-other P p t h =
@@ -53,15 +49,15 @@ module _ (P : Marked) (t p a : ℕ) where
   Ask k = So (entry P t .kept) × So (cond (usesPartner k) (entry P p .kept && not (eqb p t)) (eqb p 0)) × So (condition k (left P) (entry P t .clause) (entry P p .clause) a)
 
   abbrev After : Kind → List Clause
-  After k = left (set P t (rewritten k (entry P t .clause) (entry P p .clause) a))
+  After k = left (set P t (leftBy (rowOf k .deed) a (entry P t .clause)))
 
   pub strong-same : (k : Kind) → So (strong k) → Ask k → (M : Atoms) → Same M (left P) (After k)
   unfolding condition
   strong-same tautology s (kt, u, h) M = let w = simp (and-iff, mem-iff) at h in same-tautology M P t a (w .0) (w .1)
   strong-same contradiction s (kt, u, h) M = let w = simp (and-iff, mem-iff) at h in same-contradiction M P t a (w .0) (w .1)
   strong-same success s (kt, u, h) M =
-      let w = simp (and-iff, null-iff) at h in let v = partner-other P p t u in
-      same-success M P t p (v .1) (v .0) (getD (entry P p .clause .head) 0 0) kt (w .0 .0) (w .0 .1) (single-elim _ _ (w .1))
+      let x = succeeds (left P) (entry P t .clause) (entry P p .clause) a h in let w = simp (and-iff, null-iff) at (x .isFact) in let v = partner-other P p t u in
+      same-success M P t p (v .1) (v .0) a kt (w .0) (w .1) (x .head)
   strong-same noHead s (kt, u, h) M = absurd (false≢true s)
   strong-same blocked s (kt, u, h) M =
       let w = simp (and-iff, null-iff, within-iff) at h in let v = partner-other P p t u in

@@ -49,11 +49,6 @@ Keeps failure P Q p a = So (inNoHead (left Q) a) → So (inNoHead (left P) a)
 Keeps loop P Q p a = So (reach (left P) a) → So (reach (left Q) a)
 Keeps subsumed P Q p a = entry Q p ≡ entry P p
 
-single-more : (f g : ℕ → Bool) (l : List ℕ) → ((b : ℕ) → So (f b) → So (g b)) → So (single f l) → So (single g l)
-single-more f g [] k h = h
-single-more f g (b ∷ []) k h = k b h
-single-more f g (b ∷ c ∷ l) k h = h
-
 mem-more : (a : ℕ) (k l : List ℕ) → ((b : ℕ) → b ∈ k → b ∈ l) → So (mem a k) → So (mem a l)
 mem-more a k l f h = mem-iff a l .1 (f a (mem-iff a k .0 h))
 
@@ -76,9 +71,9 @@ module _ (P Q : Marked) (t p a : ℕ) (b : Subclause (entry Q t) (entry P t)) wh
       and-iff _ _ .1 (subst (λ l. So (mem a l)) (b .head) (w .0), mem-more a (new .pos) (old .pos) (b .pos) (w .1))
   condition-back contradiction e h = let w = and-iff _ _ .0 h in
       and-iff _ _ .1 (mem-more a (new .pos) (old .pos) (b .pos) (w .0), mem-more a (new .neg) (old .neg) (b .neg) (w .1))
-  condition-back success e h = let w = and-iff (fact by) (single (λ x. mem x (new .pos)) (by .head)) .0 (rw e at h) in
-      and-iff (fact by) (single (λ x. mem x (old .pos)) (by .head)) .1
-      (w .0, single-more (λ x. mem x (new .pos)) (λ x. mem x (old .pos)) (by .head) (λ x. mem-more x (new .pos) (old .pos) (b .pos)) (w .1))
+  condition-back success e h = let w = and-iff (fact by) (single (eqb a) (by .head) && mem a (new .pos)) .0 (rw e at h) in
+      let v = and-iff (single (eqb a) (by .head)) (mem a (new .pos)) .0 (w .1) in
+      and-iff (fact by) (single (eqb a) (by .head) && mem a (old .pos)) .1 (w .0, and-iff _ _ .1 (v .0, mem-more a (new .pos) (old .pos) (b .pos) (v .1)))
   condition-back noHead e h = let w = and-iff _ _ .0 h in and-iff _ _ .1 (mem-more a (new .neg) (old .neg) (b .neg) (w .0), e (w .1))
   condition-back blocked e h = let w = and-iff (fact by) (within (by .head) (new .neg)) .0 (rw e at h) in
       and-iff (fact by) (within (by .head) (old .neg)) .1 (w .0, within-more (by .head) (new .neg) (old .neg) (b .neg) (w .1))

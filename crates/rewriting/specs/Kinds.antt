@@ -13,7 +13,8 @@ pub data Deed : Type 0 where
 pub data Scope : Type 0 where
   clausesAlone keptHeads wholeReach : Scope
 
--- The number of a kind; "Kinds 1, 2, 4, 6, 7 have no partner word, kinds 3, 5, 8 no atom word"; what it does and asks for.
+-- The number of a kind; "Kinds 1, 2, 4, 6, 7 have no partner word, kinds 3, 5, 8 no atom word", but slip 1: "The atom word of kind 3 now holds that atom, and
+-- question 15 treats it as used."; what it does and asks for.
 pub record Row : Type 0 where
   pub number : ℕ
   pub partner : Bool
@@ -28,7 +29,7 @@ abbrev pub rowOf : Kind → Row
 --                    number partner atom deed scope
 rowOf tautology = row 1 false true deletes clausesAlone
 rowOf contradiction = row 2 false true deletes clausesAlone
-rowOf success = row 3 true false dropsPos clausesAlone
+rowOf success = row 3 true true dropsPos clausesAlone
 rowOf noHead = row 4 false true dropsNeg keptHeads
 rowOf blocked = row 5 true false deletes clausesAlone
 rowOf failure = row 6 false true deletes keptHeads

@@ -3,11 +3,20 @@ use mathlib.Core.Bool.{Bool, true, false, cond}
 use mathlib.Core.List.{List, [], _∷_}
 use mathlib.Core.Option.{Option, none, some}
 use Prim.Native.Nat.{ℕ, zero, suc}
-use lib.ListN.{length}
-use Rattle.rewriting.specs.Marked.{Marked}
+use lib.ListN.{length, getD}
+use Rattle.semantics.specs.Programs.{Clause}
+use Rattle.rewriting.specs.Marked.{Marked, entry}
 use Rattle.rewriting.specs.Kinds.{Kind, kindOf, usesPartner, usesAtom}
 use Rattle.rewriting.specs.Steps.{Step, step, applies, effect}
 use Rattle.rewriting.specs.Reducer.{eligible}
+
+-- the one atom that a step of a kind with a partner can name: the partner's head atom for kind 3, and 0 where unused
+abbrev pub partnerAtom : Kind → Clause → ℕ
+partnerAtom k d = cond (usesAtom k) (getD (d .head) 0 0) 0
+
+-- the one step of a kind with a partner that can apply with target t and partner p
+abbrev pub stepWith : Marked → Kind → ℕ → ℕ → Step
+stepWith P k t p = step k t p (partnerAtom k (entry P p .clause))
 
 -- the first of f 0, .., f (k - 1) that is something
 unfoldable pub least : {B : Type 0} → ℕ → (ℕ → Option B) → Option B

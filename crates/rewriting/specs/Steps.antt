@@ -1,14 +1,14 @@
--- The eight steps, after document 01, "Eight steps".
+-- The eight steps, after document 01, "Eight steps", and slip 1 of document 02.
 use mathlib.Core.Bool.{Bool, true, false, not, cond, _&&_}
 use mathlib.Core.List.{List, [], _∷_}
 use Prim.Native.Nat.{ℕ}
 use lib.Dec.{eqb, ltb}
-use lib.ListN.{getD, set}
+use lib.ListN.{set}
 use Rattle.semantics.specs.Lists.{any, null, mem, within, without}
 use Rattle.semantics.specs.Programs.{Clause}
 use Rattle.rewriting.specs.Marked.{Entry, Marked, entry, left}
 use Rattle.rewriting.specs.Reaches.{reach}
-use Rattle.rewriting.specs.Kinds.{Kind, tautology, contradiction, success, noHead, blocked, failure, loop, subsumed, Deed, deletes, dropsPos, dropsNeg, rowOf, usesPartner, usesAtom}
+use Rattle.rewriting.specs.Kinds.{Kind, tautology, contradiction, success, noHead, blocked, failure, loop, subsumed, Deed, deletes, dropsPos, dropsNeg, rowOf, number, usesPartner, usesAtom}
 
 -- "A list is a slice of words, four a step: kind, target, partner, atom."
 pub record Step : Type 0 where
@@ -37,7 +37,7 @@ inNoHead cs a = not (any (λ c. mem a (c .head)) cs)
 -- Each kind's condition, with the kept clauses cs, the target c, the partner d and the atom a, all as left:
 -- 1 "the atom is in the target's head and its positive body"
 -- 2 "the atom is in its positive and negative body"
--- 3 "the partner is a fact with exactly one head atom, which is in the target's positive body"
+-- 3 "the partner is a fact with exactly one head atom, which is in the target's positive body"; slip 1: "The atom word of kind 3 now holds that atom"
 -- 4 "the atom is in its negative body and in the head of no kept clause"
 -- 5 "the partner is a fact whose head atoms are all in the target's negative body"
 -- 6 "the atom is in its positive body and in the head of no kept clause"
@@ -47,7 +47,7 @@ unfoldable pub condition : Kind → List Clause → Clause → Clause → ℕ �
 unfolding inNoHead reach
 condition tautology cs c d a = mem a (c .head) && mem a (c .pos)
 condition contradiction cs c d a = mem a (c .pos) && mem a (c .neg)
-condition success cs c d a = fact d && single (λ b. mem b (c .pos)) (d .head)
+condition success cs c d a = fact d && (single (eqb a) (d .head) && mem a (c .pos))
 condition noHead cs c d a = mem a (c .neg) && inNoHead cs a
 condition blocked cs c d a = fact d && within (d .head) (c .neg)
 condition failure cs c d a = mem a (c .pos) && inNoHead cs a
@@ -66,12 +66,16 @@ partnerKept P s = cond (usesPartner (s .kind)) (entry P (s .partner) .kept && no
 abbrev pub atomKnown : ℕ → Step → Bool
 atomKnown n s = cond (usesAtom (s .kind)) (ltb (s .atom) n) (eqb (s .atom) 0)
 
+-- 29, slip 1: a no is "for kind 3 only, where the partner's head as left is one atom and the word differs from it"
+abbrev pub atomMatches : Marked → Step → Bool
+atomMatches P s = not (eqb (number (s .kind)) 3 && single (λ b. not (eqb (s .atom) b)) (entry P (s .partner) .clause .head))
+
 -- 16 "Does the kind's condition hold?"
 unfoldable pub conditionHolds : Marked → Step → Bool
 unfolding condition left
 conditionHolds P s = condition (s .kind) (left P) (entry P (s .target) .clause) (entry P (s .partner) .clause) (s .atom)
 
--- the step is applicable: questions 13 to 16
+-- the step is applicable: questions 13 to 16; where 16 is answered yes, so is 29 (`condition-matches`, `proofs/Rows`)
 unfoldable pub applies : ℕ → Marked → Step → Bool
 unfolding conditionHolds
 applies n P s = targetKept P s && (partnerKept P s && (atomKnown n s && conditionHolds P s))
@@ -85,19 +89,11 @@ dropPos a c = record { kept = true; clause = record { head = c .head; pos = with
 abbrev pub dropNeg : ℕ → Clause → Entry
 dropNeg a c = record { kept = true; clause = record { head = c .head; pos = c .pos; neg = without a (c .neg) } }
 
--- what a deed leaves of its target c, with the atom a
+-- what a deed leaves of its target c, with the atom a that the step names
 abbrev pub leftBy : Deed → ℕ → Clause → Entry
 leftBy deletes a c = deleted c
 leftBy dropsPos a c = dropPos a c
 leftBy dropsNeg a c = dropNeg a c
 
--- the atom that a step drops: the one that it names, or else the partner's one head atom
-abbrev pub dropped : Kind → Clause → ℕ → ℕ
-dropped k d a = cond (usesAtom k) a (getD (d .head) 0 0)
-
--- what a step leaves of its target c, with the partner d and the atom a
-abbrev pub rewritten : Kind → Clause → Clause → ℕ → Entry
-rewritten k c d a = leftBy (rowOf k .deed) (dropped k d a) c
-
 unfoldable pub effect : Marked → Step → Marked
-effect P s = set P (s .target) (rewritten (s .kind) (entry P (s .target) .clause) (entry P (s .partner) .clause) (s .atom))
+effect P s = set P (s .target) (leftBy (rowOf (s .kind) .deed) (s .atom) (entry P (s .target) .clause))

@@ -10,7 +10,8 @@ use lib.ListN.{length, getD, set, length-set}
 use lib.Seq.{getD-set-same, getD-set-other}
 use Rattle.semantics.proofs.Tests.{so-false}
 use Rattle.rewriting.specs.Marked.{entry}
-use Rattle.rewriting.specs.Steps.{Step, step, applies}
+use Rattle.rewriting.specs.Steps.{Step, applies}
+use Rattle.rewriting.specs.Search.{stepWith}
 use Rattle.rewriting.specs.Kinds.{kindOf}
 use Rattle.rewriting.proofs.Quiet.{stale}
 use Rattle.table.specs.Questions.{Passed}
@@ -71,9 +72,9 @@ module _ (ws ms flags : List ℕ) (kind t : ℕ) (c : Calm ws ms flags kind) (k 
         below u h = omega (arith, target-lt ws ms u h, passed-limits ws ok .fewClauses)
 
     -- no clause before r makes a step
-    none-before : (q : ℕ) → q < r → applies (getD ws 0 0) (view ws ms) (step (kindOf kind) t q 0) ≡ false
+    none-before : (q : ℕ) → q < r → applies (getD ws 0 0) (view ws ms) (stepWith (view ws ms) (kindOf kind) t q) ≡ false
     none-before q h = by-cases (decLt (q + 1) (flagAt flags kind t)) (λ x. calm-from ws ms flags kind c k t q x)
-        (λ x. so-false _ (λ y. s .gone q (omega arith) h (partner-kept (view ws ms) (getD ws 0 0) (kindOf kind) t q 0 (k .uses) y)))
+        (λ x. so-false _ (λ y. s .gone q (omega arith) h (partner-kept (view ws ms) (getD ws 0 0) (kindOf kind) t q _ (k .uses) y)))
 
     pub lifted-on : Lifted ws ms flags (set flags' (kind * 2048 + t) (r + 1)) kind t
     lifted-on = record {

@@ -1,7 +1,7 @@
 -- A search of a kind changes flags of its own: a target without a flag, or before a flag's key, has no step.
 use mathlib.Core.Path.{_≡_, refl, sym, ap, subst, _∙_}
 use mathlib.Core.Logic.{_≢_, _⊎_, by-cases, ⊎-elim}
-use mathlib.Core.Bool.{false, cond, So}
+use mathlib.Core.Bool.{false, So}
 use mathlib.Core.List.{List}
 use mathlib.Core.Option.{none}
 use Prim.Native.Nat.{ℕ, _+_, _*_, _≤_, _<_}
@@ -10,11 +10,11 @@ use native.Mathlib.Decide.{ℕ-discrete, decLt}
 use lib.ListN.{getD, set}
 use lib.Seq.{getD-set-same, getD-set-other}
 use Rattle.semantics.proofs.Tests.{so-false, not-so}
-use Rattle.rewriting.specs.Steps.{step, applies}
+use Rattle.rewriting.specs.Steps.{applies}
 use Rattle.rewriting.specs.Kinds.{kindOf}
-use Rattle.rewriting.specs.Search.{firstPartner}
+use Rattle.rewriting.specs.Search.{stepWith, firstPartner}
 use Rattle.rewriting.proofs.Order.{Before}
-use Rattle.rewriting.proofs.Quiet.{stale, key, quiet-more, quiet-clear, quiet-target}
+use Rattle.rewriting.proofs.Quiet.{stale, key, key-partner, quiet-more, quiet-clear, quiet-target}
 use Rattle.table.specs.View.{view}
 use Rattle.search_flags.specs.Flags.{flagAt, most, Inside, mosts, nexts}
 use Rattle.step_kinds.specs.Kinds.{PartnerKind}
@@ -23,10 +23,9 @@ use Rattle.search_flags.proofs.Flags.{outside, rows-set, flag-cleared}
 use Rattle.search_spreads.proofs.Spreads.{by-partner}
 
 -- a target has no step with a partner before its flag's key
-pub calm-from : (ws ms flags : List ℕ) (kind : ℕ) → Calm ws ms flags kind → PartnerKind kind → (t q : ℕ) → q + 1 < flagAt flags kind t → applies (getD ws 0 0) (view ws ms) (step (kindOf kind) t q 0) ≡ false
+pub calm-from : (ws ms flags : List ℕ) (kind : ℕ) → Calm ws ms flags kind → PartnerKind kind → (t q : ℕ) → q + 1 < flagAt flags kind t → applies (getD ws 0 0) (view ws ms) (stepWith (view ws ms) (kindOf kind) t q) ≡ false
 calm-from ws ms flags kind c k t q l = so-false _ (λ h.
-    let v = c .least (k .uses) (step (kindOf kind) t q 0) refl refl h in
-    let w : key (step (kindOf kind) t q 0) ≡ q = ap (λ b. cond b q 0) (k .uses) in omega (arith, v, w, l))
+    let v = c .least (k .uses) (stepWith (view ws ms) (kindOf kind) t q) refl refl h in omega (arith, v, key-partner (view ws ms) (kindOf kind) t q (k .uses), l))
 
 pub swept-none : (ws ms flags : List ℕ) (kind : ℕ) → Calm ws ms flags kind → Swept ws ms flags flags kind
 swept-none ws ms flags kind c = record { calm = c; frame = λ j _ _. refl }
@@ -62,7 +61,7 @@ module _ (ws ms flags flags' : List ℕ) (kind : ℕ) (s : Swept ws ms flags fla
   }
 
   -- the flag of a target goes up to the first partner that it has a step with
-  pub swept-later : PartnerKind kind → (t p : ℕ) → t < 2048 → flagAt flags' kind t ≢ 0 → ((q : ℕ) → q < p → applies (getD ws 0 0) (view ws ms) (step (kindOf kind) t q 0) ≡ false)
+  pub swept-later : PartnerKind kind → (t p : ℕ) → t < 2048 → flagAt flags' kind t ≢ 0 → ((q : ℕ) → q < p → applies (getD ws 0 0) (view ws ms) (stepWith (view ws ms) (kindOf kind) t q) ≡ false)
       → Swept ws ms flags (set flags' (kind * 2048 + t) (p + 1)) kind
   swept-later k t p l f b = record {
     calm = record {
@@ -71,7 +70,7 @@ module _ (ws ms flags flags' : List ℕ) (kind : ℕ) (s : Swept ws ms flags fla
           (λ i z. by-cases (ℕ-discrete i t) (λ d. absurd (let q = at i d in omega arith)) (λ d. sym (beside i d) ∙ z)) (λ i z. z);
       least = λ y u g h v. by-cases (ℕ-discrete (u .target) t)
           (λ d. let q = at (u .target) d in by-cases (decLt (key u) p)
-          (λ x. absurd (not-so (b (key u) x) (subst (λ i. So (applies (getD ws 0 0) (view ws ms) (step (kindOf kind) i (key u) 0))) d (by-partner (getD ws 0 0) (view ws ms) u (kindOf kind) g v y))))
+          (λ x. absurd (not-so (b (key u) x) (subst (λ i. So (applies (getD ws 0 0) (view ws ms) (stepWith (view ws ms) (kindOf kind) i (key u)))) d (by-partner (getD ws 0 0) (view ws ms) u (kindOf kind) g v y))))
           (λ x. omega (arith, q)))
           (λ d. omega (arith, beside (u .target) d, s .calm .least y u g h v));
       bounded = λ d u g h y. omega (arith, most-same t (p + 1) (u .target) (let z = k .high in omega arith) l, s .calm .bounded d u g h y);

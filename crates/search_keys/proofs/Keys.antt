@@ -17,16 +17,17 @@ use Rattle.table.specs.Questions.{Passed}
 use Rattle.table.proofs.Encoding.{passed-limits}
 use Rattle.search_flags.specs.Flags.{Raising, AllFlagged}
 use Rattle.search_keys.specs.State.{KeySpread}
-use Rattle.search_spreads.specs.Spreads.{Spread, NoPartner}
+use Rattle.rewriting.specs.Search.{stepWith}
+use Rattle.search_spreads.specs.Spreads.{Spread, PartnerSpread, NoPartner}
 use Rattle.search_flags.proofs.Flags.{raising-none}
 use Rattle.search_spreads.proofs.Limits.{target-lt}
 use Rattle.search_spreads.proofs.Spreads.{by-partner, partner-lt, by-atom}
 
 module _ (ws ms flags flags' : List ℕ) (kind x : ℕ) where
-  pub key-partner : So (usesPartner (kindOf kind)) → Spread ws ms flags flags' kind x 0 → KeySpread ws ms flags flags' kind x
+  pub key-partner : So (usesPartner (kindOf kind)) → PartnerSpread ws ms flags flags' kind x → KeySpread ws ms flags flags' kind x
   key-partner p s = record {
     raising = s .raising;
-    flagged = λ u e d h. let w = s .flagged (u .target) (subst (λ y. So (applies (getD ws 0 0) (view ws ms) (step (kindOf kind) (u .target) y 0))) d (by-partner (getD ws 0 0) (view ws ms) u (kindOf kind) e h p)) in (w .0 .0, λ _. w);
+    flagged = λ u e d h. let w = s .flagged (u .target) (subst (λ y. So (applies (getD ws 0 0) (view ws ms) (stepWith (view ws ms) (kindOf kind) (u .target) y))) d (by-partner (getD ws 0 0) (view ws ms) u (kindOf kind) e h p)) in (w .0 .0, λ _. w);
   }
 
   pub key-all : usesPartner (kindOf kind) ≡ false → Raising flags flags' kind (getD ws 1 0) → AllFlagged flags' kind (getD ws 1 0) → KeySpread ws ms flags flags' kind x
@@ -35,7 +36,7 @@ module _ (ws ms flags flags' : List ℕ) (kind x : ℕ) where
 pub key-none : (ws ms flags : List ℕ) (kind x : ℕ) → So (usesPartner (kindOf kind)) → getD ws 1 0 ≤ x → KeySpread ws ms flags flags kind x
 key-none ws ms flags kind x p l = record {
   raising = raising-none flags kind (getD ws 1 0);
-  flagged = λ u e d h. absurd (let q = partner-lt ws ms (kindOf kind) (u .target) (key u) p (by-partner (getD ws 0 0) (view ws ms) u (kindOf kind) e h p) in omega arith);
+  flagged = λ u e d h. absurd (let q = partner-lt ws ms (kindOf kind) (u .target) (key u) _ p (by-partner (getD ws 0 0) (view ws ms) u (kindOf kind) e h p) in omega arith);
 }
 
 module _ (ws ms flags flags' : List ℕ) (kind x : ℕ) where
@@ -49,7 +50,7 @@ module _ (ws ms flags : List ℕ) (kind x : ℕ) where
   pub key-without : So (usesPartner (kindOf kind)) → NoPartner ws ms kind x → KeySpread ws ms flags flags kind x
   key-without p n = record {
     raising = raising-none flags kind (getD ws 1 0);
-    flagged = λ u e d h. absurd (n (u .target) (subst (λ y. So (applies (getD ws 0 0) (view ws ms) (step (kindOf kind) (u .target) y 0))) d (by-partner (getD ws 0 0) (view ws ms) u (kindOf kind) e h p)));
+    flagged = λ u e d h. absurd (n (u .target) _ (subst (λ y. So (applies (getD ws 0 0) (view ws ms) (stepWith (view ws ms) (kindOf kind) (u .target) y))) d (by-partner (getD ws 0 0) (view ws ms) u (kindOf kind) e h p)));
   }
 
   pub key-empty : getD ws 1 0 ≡ 0 → KeySpread ws ms flags flags kind x

@@ -11,13 +11,13 @@ use Rattle.semantics.specs.Lists.{within}
 use Rattle.semantics.specs.Programs.{Clause}
 use Rattle.semantics.proofs.Tests.{and-iff, within-iff}
 use Rattle.rewriting.specs.Marked.{entry, left}
-use Rattle.rewriting.specs.Steps.{step, condition, applies}
+use Rattle.rewriting.specs.Steps.{step, condition, conditionHolds, applies}
 use Rattle.rewriting.specs.Kinds.{subsumed, kindOf, usesPartner}
 use Rattle.rewriting.proofs.Sound.{applies-ask}
 use Rattle.table.specs.View.{view}
 use Rattle.search_flags.specs.Flags.{Covered, Raising}
 use Rattle.search_keys.specs.State.{State, Subsumer}
-use Rattle.search_spreads.specs.Spreads.{Spread}
+use Rattle.search_spreads.specs.Spreads.{Spread, PartnerSpread}
 use Rattle.step_kinds.proofs.Applies.{other-applies}
 use Rattle.search_flags.proofs.Flags.{raising-none, raising-more, raising-below}
 use Rattle.search_keys.proofs.States.{few-clauses}
@@ -42,9 +42,10 @@ subsumed-trans cs c d e x y =
 module _ (ws ms index hs rs flags : List ℕ) (z : State ws ms index hs rs flags) (x q : ℕ) (s : Subsumer ws ms flags x q) where
   -- a target of x that is not q is one of q
   subsumer-applies : (t : ℕ) → ¬ (t ≡ q) → So (applies (getD ws 0 0) (view ws ms) (step subsumed t x 0)) → So (applies (getD ws 0 0) (view ws ms) (step subsumed t q 0))
+  unfolding conditionHolds
   subsumer-applies t d h =
       let w = applies-ask (getD ws 0 0) (view ws ms) (step subsumed t x 0) h in
-      sym (other-applies (getD ws 0 0) (view ws ms) subsumed refl t q (w .0) (s .kept) (λ e. d (sym e)))
+      sym (other-applies (getD ws 0 0) (view ws ms) subsumed refl t q (λ _. refl) (w .0) (s .kept) (λ e. d (sym e)))
       ∙ subsumed-trans (left (view ws ms)) (entry (view ws ms) t .clause) (entry (view ws ms) x .clause) (entry (view ws ms) q .clause) (w .2) (s .holds)
 
   -- so it is flagged already
@@ -63,6 +64,6 @@ module _ (ws ms index hs rs flags : List ℕ) (z : State ws ms index hs rs flags
   }
 
   pub subsumer-kind : (kind : ℕ) → kind ≡ 8 → (flags' : List ℕ) → q < getD ws 1 0 → Raising flags flags' kind (q + 1) × (So (applies (getD ws 0 0) (view ws ms) (step (kindOf kind) q x 0)) → Covered flags' kind q x)
-      → Spread ws ms flags flags' kind x 0
-  subsumer-kind kind e flags' l r = subst (λ k. Spread ws ms flags flags' k x 0) (sym e)
+      → PartnerSpread ws ms flags flags' kind x
+  subsumer-kind kind e flags' l r = subst (λ k. PartnerSpread ws ms flags flags' k x) (sym e)
       (subsumer-spread flags' l (subst (λ k. Raising flags flags' k (q + 1) × (So (applies (getD ws 0 0) (view ws ms) (step (kindOf k) q x 0)) → Covered flags' k q x)) e r))

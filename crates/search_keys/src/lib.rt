@@ -6,7 +6,7 @@ ghost use Rattle.search_flags.specs.Flags.{flagAt, allFlags};
 ghost use mathlib.Core.Bool.{true};
 ghost use Rattle.step_kinds.specs.Kinds.{PartnerKind, HeadsKind};
 ghost use Rattle.search_keys.specs.State.{Subsumer, KeySpread, KeyPassed, State, Settled, Prepared};
-ghost use Rattle.search_spreads.specs.Spreads.{Spread};
+ghost use Rattle.search_spreads.specs.Spreads.{Spread, PartnerSpread};
 
 // ---- the targets of a key
 
@@ -65,7 +65,7 @@ fn spread_clause(
     m: usize,
 )
     requires { ⌜ (State (now words) (now marks) (now index) (now heads) (now reach) (now flags)) × ((m ≡ getD (now words) 1 0) × ((x < getD (now words) 1 0) × (PartnerKind kind))) ⌝ }
-    ensures { λ _. ⌜ Spread (now (words .entry)) (now (marks .entry)) (now (flags .entry)) (now (flags .exit)) kind x 0 ⌝ }
+    ensures { λ _. ⌜ PartnerSpread (now (words .entry)) (now (marks .entry)) (now (flags .entry)) (now (flags .exit)) kind x ⌝ }
 {
     let q = least_before(flags, x);
     if !is_subsumed(words, marks, index, heads, reach, flags, kind, x, q) {

@@ -1,6 +1,6 @@
 -- The kinds with a partner: what a test by stamps says.
 use mathlib.Core.Path.{_≡_, refl, sym, ap, _∙_}
-use mathlib.Core.Bool.{Bool, true, false, _&&_}
+use mathlib.Core.Bool.{Bool, true, false, _&&_, So}
 use mathlib.Core.List.{List, [], _∷_, List·Memᴰ·head}
 use Prim.Native.Nat.{ℕ, _+_, _-_, _<_}
 use native.Mathlib.Omega.{arith}
@@ -9,21 +9,25 @@ use lib.ListN.{getD, drop, replicate, length-take, length-drop}
 use lib.Seq.{getD-take, getD-drop}
 use Rattle.semantics.specs.Lists.{_∈_, all, mem}
 use Rattle.semantics.specs.Programs.{Clause}
-use Rattle.rewriting.specs.Marked.{entry, left}
-use Rattle.rewriting.specs.Steps.{fact, single, condition}
-use Rattle.rewriting.specs.Kinds.{Kind, success, blocked, subsumed}
+use borrow.Author.Tests.{eq-eqb}
+use Rattle.rewriting.specs.Marked.{entry}
+use Rattle.rewriting.specs.Steps.{fact, single, atomKnown, condition, conditionHolds}
+use Rattle.rewriting.specs.Search.{stepWith}
+use Rattle.rewriting.specs.Kinds.{Kind, success, blocked, subsumed, usesPartner}
 use Rattle.table.specs.Questions.{Passed}
 use Rattle.table.specs.View.{view}
 use Rattle.table.proofs.Encoding.{passed-limits}
 use Rattle.table.proofs.Parts.{view-straight}
 use Rattle.step_parts.specs.declared.Part.{Part}
 use Rattle.step_parts.specs.declared.Bounds.{Bounds}
-use Rattle.step_parts.specs.declared.Single.the-variants.{One, Other}
+use Rattle.step_parts.specs.declared.Single.the-variants.{One}
 use Rattle.step_parts.specs.Parts.{singleOf, Spanned}
 use Rattle.step_parts.proofs.Laws.{partWords}
 use Rattle.search_partners.specs.Stamps.{stamped, isStamped, allStamped, Stamps, Below}
 use Rattle.search_partners.proofs.Stamps.{all-same, stamps-of}
 use Rattle.step_parts.proofs.Laws.{words-below}
+use Rattle.step_conditions.proofs.Tests.{single-one}
+use Rattle.step_kinds.proofs.Applies.{with-known}
 
 -- ---- atoms are below 1,024
 
@@ -46,12 +50,17 @@ module _ (ws ms : List ℕ) (p : Passed ws) (i a : ℕ) where
   pub neg-below : a ∈ the .neg → a < 1024
   neg-below m = omega (arith, view-straight ws ms p i .negBelow a m, passed-limits ws p .fewAtoms)
 
+-- so 15 is answered yes where the partner settles the atom
+pub settled-known : (ws ms : List ℕ) → Passed ws → (k : Kind) → So (usesPartner k) → (t p : ℕ) → So (conditionHolds (view ws ms) (stepWith (view ws ms) k t p)) → So (atomKnown (getD ws 0 0) (stepWith (view ws ms) k t p))
+settled-known ws ms ok k u t p = with-known (getD ws 0 0) (view ws ms) k t p u (view-straight ws ms ok p .headBelow)
+
 -- ---- a test by stamps is the kind's condition
 
-single-same : (f g : ℕ → Bool) (l : List ℕ) → ((a : ℕ) → a ∈ l → f a ≡ g a) → single f l ≡ single g l
-single-same f g [] h = refl
-single-same f g (b ∷ []) h = h b (List·Memᴰ·head refl)
-single-same f g (b ∷ c ∷ l) h = refl
+-- the one atom of a list, by its name
+single-named : (f g : ℕ → Bool) (l : List ℕ) → ((a : ℕ) → a ∈ l → f a ≡ g a) → single f l ≡ (single (eqb (getD l 0 0)) l && g (getD l 0 0))
+single-named f g [] h = refl
+single-named f g (b ∷ []) h = h b (List·Memᴰ·head refl) ∙ ap (λ x. x && g b) (sym (eq-eqb b b refl))
+single-named f g (b ∷ c ∷ l) h = refl
 
 module _ (ws ms : List ℕ) (ok : Passed ws) (t p : ℕ) (st : List ℕ) (s : Stamps (entry (view ws ms) t .clause) st) where
   abbrev target : Clause
@@ -61,18 +70,18 @@ module _ (ws ms : List ℕ) (ok : Passed ws) (t p : ℕ) (st : List ℕ) (s : St
   partner = entry (view ws ms) p .clause
 
   abbrev Cond : Kind → Bool
-  Cond k = condition k (left (view ws ms)) target partner 0
+  Cond k = conditionHolds (view ws ms) (stepWith (view ws ms) k t p)
 
   pub fit-success : (fact partner && single (isStamped st 1024) (partner .head)) ≡ Cond success
-  unfolding condition
-  fit-success = ap (λ b. fact partner && b) (single-same (isStamped st 1024) (λ b. mem b (target .pos)) (partner .head) (λ a m. s .pos a (head-below ws ms ok p a m)))
+  unfolding condition conditionHolds
+  fit-success = ap (λ b. fact partner && b) (single-named (isStamped st 1024) (λ b. mem b (target .pos)) (partner .head) (λ a m. s .pos a (head-below ws ms ok p a m)))
 
   pub fit-blocked : (fact partner && all (isStamped st 2048) (partner .head)) ≡ Cond blocked
-  unfolding condition
+  unfolding condition conditionHolds
   fit-blocked = ap (λ b. fact partner && b) (all-same (isStamped st 2048) (λ b. mem b (target .neg)) (partner .head) (λ a m. s .neg a (head-below ws ms ok p a m)))
 
   pub fit-subsumed : allStamped st partner ≡ Cond subsumed
-  unfolding condition
+  unfolding condition conditionHolds
   fit-subsumed = rw (
     all-same (isStamped st 0) (λ b. mem b (target .head)) (partner .head) (λ a m. s .head a (head-below ws ms ok p a m)),
     all-same (isStamped st 1024) (λ b. mem b (target .pos)) (partner .pos) (λ a m. s .pos a (pos-below ws ms ok p a m)),
@@ -90,21 +99,16 @@ fits-fact false r c e d = e
 
 -- ---- the only atom of a head
 
-single-found : (f : ℕ → Bool) (l : List ℕ) (b : ℕ) → singleOf l ≡ One b → (single f l ≡ f b) × (b ∈ l)
-single-found f [] b e = absurd (let z : _≡_ {A = ℕ} 0 1 = cc in omega arith)
-single-found f (x ∷ []) b e = let q : x ≡ b = cc in (ap f q, List·Memᴰ·head (sym q))
-single-found f (x ∷ y ∷ l) b e = absurd (let z : _≡_ {A = ℕ} 0 1 = cc in omega arith)
-
-pub single-other : (f : ℕ → Bool) (l : List ℕ) → singleOf l ≡ Other → false ≡ single f l
-single-other f [] e = refl
-single-other f (x ∷ []) e = absurd (let z : _≡_ {A = ℕ} 0 1 = cc in omega arith)
-single-other f (x ∷ y ∷ l) e = refl
-
 pub single-is : (st l : List ℕ) (b w : ℕ) → singleOf l ≡ One b → w ≡ b → eqb (getD st (1024 + w) 0) 1 ≡ single (isStamped st 1024) l
-single-is st l b w e q = ap (λ x. eqb (getD st (1024 + x) 0) 1) q ∙ sym (single-found (isStamped st 1024) l b e .0)
+single-is st l b w e q = ap (λ x. eqb (getD st (1024 + x) 0) 1) q ∙ sym (single-one (isStamped st 1024) l b e)
 
 pub single-below : (ws ms : List ℕ) → Passed ws → (p b : ℕ) → singleOf (entry (view ws ms) p .clause .head) ≡ One b → b < 1024
-single-below ws ms ok p b e = head-below ws ms ok p b (single-found (λ x. true) (entry (view ws ms) p .clause .head) b e .1)
+single-below ws ms ok p b e = head-below ws ms ok p b (there (entry (view ws ms) p .clause .head) e)
+  where
+    there : (l : List ℕ) → singleOf l ≡ One b → b ∈ l
+    there [] e = absurd (let z : _≡_ {A = ℕ} 0 1 = cc in omega arith)
+    there (x ∷ []) e = let q : x ≡ b = cc in List·Memᴰ·head (sym q)
+    there (x ∷ y ∷ l) e = absurd (let z : _≡_ {A = ℕ} 0 1 = cc in omega arith)
 
 pub clause-stamps : (ws ms : List ℕ) → Passed ws → (t : ℕ) → let c = entry (view ws ms) t .clause in
     Stamps c (stamped (stamped (stamped (replicate 3072 0) 0 (c .head)) 1024 (c .pos)) 2048 (c .neg))

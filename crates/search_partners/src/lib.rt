@@ -4,8 +4,9 @@ ghost use mathlib.Core.Bool.{So, _&&_};
 ghost use Prim.Native.Nat.{_≤_, _<_};
 ghost use lib.ListN.{length, getD, replicate};
 ghost use Rattle.semantics.specs.Lists.{all};
-ghost use Rattle.rewriting.specs.Marked.{entry, left};
-ghost use Rattle.rewriting.specs.Steps.{fact, single, step, condition, applies};
+ghost use Rattle.rewriting.specs.Marked.{entry};
+ghost use Rattle.rewriting.specs.Steps.{fact, single, conditionHolds, applies};
+ghost use Rattle.rewriting.specs.Search.{stepWith};
 ghost use Rattle.rewriting.specs.Kinds.{kindOf};
 ghost use Rattle.table.specs.View.{view};
 ghost use Rattle.table.specs.Slices.{kept-of};
@@ -134,7 +135,7 @@ fn fact_fits(
     p: usize,
 ) -> bool
     requires { ⌜ (Ready (now words) (now marks) (now index)) × ((p < getD (now words) 1 0) × ((length (now stamps) ≡ 3072) × ((Stamps (entry (view (now words) (now marks)) t .clause) (now stamps)) × ((PartnerKind kind) × (kind ≡ 8 → ⊥))))) ⌝ }
-    ensures { λ r. ⌜ (fact (entry (view (now (words .entry)) (now (marks .entry))) p .clause) && r) ≡ condition (kindOf kind) (left (view (now (words .entry)) (now (marks .entry)))) (entry (view (now (words .entry)) (now (marks .entry))) t .clause) (entry (view (now (words .entry)) (now (marks .entry))) p .clause) 0 ⌝ }
+    ensures { λ r. ⌜ (fact (entry (view (now (words .entry)) (now (marks .entry))) p .clause) && r) ≡ conditionHolds (view (now (words .entry)) (now (marks .entry))) (stepWith (view (now (words .entry)) (now (marks .entry))) (kindOf kind) t p) ⌝ }
 {
     if kind == 3 {
         single_stamped(words, marks, index, p, stamps)
@@ -154,7 +155,7 @@ fn partner_fits(
     p: usize,
 ) -> bool
     requires { ⌜ (Ready (now words) (now marks) (now index)) × ((p < getD (now words) 1 0) × ((length (now stamps) ≡ 3072) × ((Stamps (entry (view (now words) (now marks)) t .clause) (now stamps)) × PartnerKind kind))) ⌝ }
-    ensures { λ r. ⌜ r ≡ condition (kindOf kind) (left (view (now (words .entry)) (now (marks .entry)))) (entry (view (now (words .entry)) (now (marks .entry))) t .clause) (entry (view (now (words .entry)) (now (marks .entry))) p .clause) 0 ⌝ }
+    ensures { λ r. ⌜ r ≡ conditionHolds (view (now (words .entry)) (now (marks .entry))) (stepWith (view (now (words .entry)) (now (marks .entry))) (kindOf kind) t p) ⌝ }
 {
     if kind == 8 {
         return clause_stamped(words, marks, index, p, stamps);
@@ -165,7 +166,7 @@ fn partner_fits(
     step_conditions::is_fact(words, marks, index, p)
 }
 
-// Whether the step of kind 3, 5 or 8 with the kept target that is stamped and the partner p applies.
+// Whether the step of kind 3, 5 or 8 with the kept target that is stamped and the partner p, which settles its atom, applies.
 pub fn partner_applies(
     words: &[u16],
     marks: &[u8],
@@ -176,7 +177,7 @@ pub fn partner_applies(
     p: usize,
 ) -> bool
     requires { ⌜ (Ready (now words) (now marks) (now index)) × ((p < getD (now words) 1 0) × ((length (now stamps) ≡ 3072) × ((Stamps (entry (view (now words) (now marks)) t .clause) (now stamps)) × ((PartnerKind kind) × So (entry (view (now words) (now marks)) t .kept))))) ⌝ }
-    ensures { λ r. ⌜ r ≡ applies (getD (now (words .entry)) 0 0) (view (now (words .entry)) (now (marks .entry))) (step (kindOf kind) t p 0) ⌝ }
+    ensures { λ r. ⌜ r ≡ applies (getD (now (words .entry)) 0 0) (view (now (words .entry)) (now (marks .entry))) (stepWith (view (now (words .entry)) (now (marks .entry))) (kindOf kind) t p) ⌝ }
 {
     if p == t {
         return false;

@@ -1,7 +1,7 @@
 -- Where the targets of a partner or an atom stand: an atom that each of them has, and the walk along that atom's places.
-use mathlib.Core.Path.{_≡_, refl, sym, subst, _∙_}
+use mathlib.Core.Path.{_≡_, refl, sym, ap, subst, _∙_}
 use mathlib.Core.Logic.{_≢_, inl, inr, by-cases}
-use mathlib.Core.Bool.{Bool, true, false, _&&_, So, false≢true}
+use mathlib.Core.Bool.{Bool, true, false, cond, _&&_, So, false≢true}
 use mathlib.Core.List.{List, [], _∷_, List·Memᴰ·head}
 use Prim.Native.Nat.{ℕ, zero, suc, _+_, _≤_, _<_}
 use native.Mathlib.Omega.{arith}
@@ -12,8 +12,9 @@ use Rattle.semantics.specs.Lists.{_∈_, null, mem, within}
 use Rattle.semantics.specs.Programs.{Clause}
 use Rattle.semantics.proofs.Tests.{and-iff, mem-iff, within-iff, not-so}
 use Rattle.rewriting.specs.Marked.{entry, left}
-use Rattle.rewriting.specs.Steps.{step, fact, single, inNoHead, condition, applies}
-use Rattle.rewriting.specs.Kinds.{kindOf}
+use Rattle.rewriting.specs.Steps.{step, fact, inNoHead, condition, applies}
+use Rattle.rewriting.specs.Kinds.{kindOf, usesAtom}
+use Rattle.rewriting.proofs.Rows.{succeeds}
 use Rattle.rewriting.proofs.Sound.{applies-ask}
 use Rattle.table.specs.Questions.{Passed}
 use Rattle.table.specs.View.{view}
@@ -27,7 +28,8 @@ use Rattle.step_conditions.specs.Known.{Heads}
 use Rattle.step_conditions.proofs.Heads.{no-head-is}
 use Rattle.search_flags.specs.Flags.{Covered, Raising}
 use Rattle.step_kinds.specs.Kinds.{PartnerKind, HeadsKind, walkedPart, targetPart}
-use Rattle.search_spreads.specs.Spreads.{Clue, NoPartner, Spread}
+use Rattle.step_kinds.proofs.Numbers.{partner-number, no-atom}
+use Rattle.search_spreads.specs.Spreads.{Clue, NoPartner, Spread, PartnerSpread}
 use Rattle.search_flags.proofs.Flags.{raising-none, raising-more, raising-below}
 use Rattle.search_spreads.proofs.Limits.{target-lt}
 use Rattle.search_spreads.proofs.Spreads.{partner-kept}
@@ -47,43 +49,36 @@ asked-of : (ws ms : List ℕ) (kind t p a : ℕ) → So (applies (getD ws 0 0) (
     → So (condition (kindOf kind) (left (view ws ms)) (entry (view ws ms) t .clause) (entry (view ws ms) p .clause) a)
 asked-of ws ms kind t p a h = applies-ask (getD ws 0 0) (view ws ms) (step (kindOf kind) t p a) h .2
 
--- kind 3: the only head atom of the fact
-single-first : (f : ℕ → Bool) (l : List ℕ) → So (single f l) → So (f (getD l 0 0))
-single-first f [] h = absurd (false≢true h)
-single-first f (b ∷ []) h = h
-single-first f (b ∷ c ∷ l) h = absurd (false≢true h)
-
-head-clue : (kind : ℕ) (cs : List Clause) (c d : Clause) → PartnerKind kind → null (d .head) ≡ false → So (condition (kindOf kind) cs c d 0) → getD (d .head) 0 0 ∈ partOf (targetPart kind) c
+-- the partner's first head atom is in the part of the target that its kind names
+head-clue : (kind : ℕ) (cs : List Clause) (c d : Clause) (a : ℕ) → PartnerKind kind → null (d .head) ≡ false → So (condition (kindOf kind) cs c d a) → getD (d .head) 0 0 ∈ partOf (targetPart kind) c
 unfolding condition
-head-clue zero cs c d k e h = absurd (let z = k .low in omega arith)
-head-clue (suc zero) cs c d k e h = absurd (false≢true (k .uses))
-head-clue (suc (suc zero)) cs c d k e h = absurd (false≢true (k .uses))
-head-clue (suc (suc (suc zero))) cs c d k e h = mem-iff _ _ .0 (single-first (λ b. mem b (c .pos)) (d .head) (and-iff (fact d) (single (λ b. mem b (c .pos)) (d .head)) .0 h .1))
-head-clue (suc (suc (suc (suc zero)))) cs c d k e h = absurd (false≢true (k .uses))
-head-clue (suc (suc (suc (suc (suc zero))))) cs c d k e h = within-iff _ _ .0 (and-iff (fact d) (within (d .head) (c .neg)) .0 h .1) (getD (d .head) 0 0) (first-in (d .head) e)
-head-clue (suc (suc (suc (suc (suc (suc zero)))))) cs c d k e h = absurd (false≢true (k .uses))
-head-clue (suc (suc (suc (suc (suc (suc (suc zero))))))) cs c d k e h = absurd (false≢true (k .uses))
-head-clue (suc (suc (suc (suc (suc (suc (suc (suc zero)))))))) cs c d k e h = within-iff _ _ .0 (and-iff (within (d .head) (c .head)) (within (d .pos) (c .pos) && within (d .neg) (c .neg)) .0 h .0) (getD (d .head) 0 0) (first-in (d .head) e)
-head-clue (suc (suc (suc (suc (suc (suc (suc (suc (suc n))))))))) cs c d k e h = absurd (let z = k .high in omega arith)
+head-clue kind cs c d a k e = partner-number (λ i. So (condition (kindOf i) cs c d a) → getD (d .head) 0 0 ∈ partOf (targetPart i) c) kind k
+    (λ h. let w = succeeds cs c d a h in subst (λ l. getD l 0 0 ∈ c .pos) (sym (w .head)) (w .there))
+    (λ h. within-iff _ _ .0 (and-iff (fact d) (within (d .head) (c .neg)) .0 h .1) (getD (d .head) 0 0) (first-in (d .head) e))
+    (λ h. within-iff _ _ .0 (and-iff (within (d .head) (c .head)) (within (d .pos) (c .pos) && within (d .neg) (c .neg)) .0 h .0) (getD (d .head) 0 0) (first-in (d .head) e))
 
-pub clue-head : (ws ms : List ℕ) (kind x : ℕ) → PartnerKind kind → null (entry (view ws ms) x .clause .head) ≡ false → Clue ws ms kind x 0 (targetPart kind) (getD (entry (view ws ms) x .clause .head) 0 0)
-clue-head ws ms kind x k e t h = head-clue kind (left (view ws ms)) (entry (view ws ms) t .clause) (entry (view ws ms) x .clause) k e (asked-of ws ms kind t x 0 h)
+pub clue-head : (ws ms : List ℕ) (kind x a : ℕ) → PartnerKind kind → null (entry (view ws ms) x .clause .head) ≡ false → Clue ws ms kind x a (targetPart kind) (getD (entry (view ws ms) x .clause .head) 0 0)
+clue-head ws ms kind x a k e t h = head-clue kind (left (view ws ms)) (entry (view ws ms) t .clause) (entry (view ws ms) x .clause) a k e (asked-of ws ms kind t x a h)
 
 -- a fact without a head serves no step of kind 3
-headless : (f : ℕ → Bool) (l : List ℕ) → null l ≡ true → ¬ So (single f l)
-headless f [] e h = false≢true h
-headless f (b ∷ l) e h = false≢true e
-
-pub spread-headless : (ws ms flags : List ℕ) (kind x : ℕ) → kind ≡ 3 → null (entry (view ws ms) x .clause .head) ≡ true → Spread ws ms flags flags kind x 0
-unfolding condition
-spread-headless ws ms flags kind x k e = record {
+pub spread-headless : (ws ms flags : List ℕ) (kind x a : ℕ) → kind ≡ 3 → null (entry (view ws ms) x .clause .head) ≡ true → Spread ws ms flags flags kind x a
+spread-headless ws ms flags kind x a k e = record {
   raising = raising-none flags kind (getD ws 1 0);
   flagged = λ t h.
       let c = entry (view ws ms) t .clause in
       let d = entry (view ws ms) x .clause in
-      let w = subst (λ j. So (condition (kindOf j) (left (view ws ms)) c d 0)) k (asked-of ws ms kind t x 0 h) in
-      absurd (headless (λ b. mem b (c .pos)) (d .head) e (and-iff (fact d) (single (λ b. mem b (c .pos)) (d .head)) .0 w .1));
+      let w = succeeds (left (view ws ms)) c d a (subst (λ j. So (condition (kindOf j) (left (view ws ms)) c d a)) k (asked-of ws ms kind t x a h)) in
+      absurd (false≢true (subst (λ l. null l ≡ true) (w .head) e));
 }
+
+module _ (ws ms flags flags' : List ℕ) (kind x : ℕ) where
+  -- the atom named is the partner's
+  pub spread-named : (a r : ℕ) → r ≡ cond (usesAtom (kindOf kind)) a 0 → a ≡ getD (entry (view ws ms) x .clause .head) 0 0 → Spread ws ms flags flags' kind x r → PartnerSpread ws ms flags flags' kind x
+  spread-named a r e d = subst (Spread ws ms flags flags' kind x) (e ∙ ap (λ b. cond (usesAtom (kindOf kind)) b 0) d)
+
+  -- of the kinds with a partner only 3 names an atom
+  pub spread-unnamed : PartnerKind kind → kind ≢ 3 → Spread ws ms flags flags' kind x 0 → PartnerSpread ws ms flags flags' kind x
+  spread-unnamed k e = subst (Spread ws ms flags flags' kind x) (sym (ap (λ b. cond b (getD (entry (view ws ms) x .clause .head) 0 0) 0) (no-atom kind k e)))
 
 pub clue-pos : (ws ms : List ℕ) (x : ℕ) → null (entry (view ws ms) x .clause .pos) ≡ false → Clue ws ms 8 x 0 Pos (getD (entry (view ws ms) x .clause .pos) 0 0)
 unfolding condition
@@ -166,22 +161,14 @@ module _ (ws ms index flags flags' : List ℕ) (kind p atom : ℕ) (x : Part) (a
 
 -- ---- a clause that is no partner
 
-fact-asked : (kind : ℕ) (cs : List Clause) (c d : Clause) → PartnerKind kind → kind ≢ 8 → So (condition (kindOf kind) cs c d 0) → So (fact d)
+fact-asked : (kind : ℕ) (cs : List Clause) (c d : Clause) (a : ℕ) → PartnerKind kind → kind ≢ 8 → So (condition (kindOf kind) cs c d a) → So (fact d)
 unfolding condition
-fact-asked zero cs c d k e h = absurd (let z = k .low in omega arith)
-fact-asked (suc zero) cs c d k e h = absurd (false≢true (k .uses))
-fact-asked (suc (suc zero)) cs c d k e h = absurd (false≢true (k .uses))
-fact-asked (suc (suc (suc zero))) cs c d k e h = and-iff (fact d) (single (λ b. mem b (c .pos)) (d .head)) .0 h .0
-fact-asked (suc (suc (suc (suc zero)))) cs c d k e h = absurd (false≢true (k .uses))
-fact-asked (suc (suc (suc (suc (suc zero))))) cs c d k e h = and-iff (fact d) (within (d .head) (c .neg)) .0 h .0
-fact-asked (suc (suc (suc (suc (suc (suc zero)))))) cs c d k e h = absurd (false≢true (k .uses))
-fact-asked (suc (suc (suc (suc (suc (suc (suc zero))))))) cs c d k e h = absurd (false≢true (k .uses))
-fact-asked (suc (suc (suc (suc (suc (suc (suc (suc zero)))))))) cs c d k e h = absurd (e refl)
-fact-asked (suc (suc (suc (suc (suc (suc (suc (suc (suc n))))))))) cs c d k e h = absurd (let z = k .high in omega arith)
+fact-asked kind cs c d a k = partner-number (λ i. i ≢ 8 → So (condition (kindOf i) cs c d a) → So (fact d)) kind k
+    (λ e h. succeeds cs c d a h .isFact) (λ e h. and-iff (fact d) (within (d .head) (c .neg)) .0 h .0) (λ e h. absurd (e refl))
 
 -- a clause that is gone, or is no fact, is no partner
 pub gone-partner : (ws ms : List ℕ) (kind x : ℕ) → PartnerKind kind → entry (view ws ms) x .kept ≡ false → NoPartner ws ms kind x
-gone-partner ws ms kind x k e t h = not-so e (partner-kept (view ws ms) (getD ws 0 0) (kindOf kind) t x 0 (k .uses) h)
+gone-partner ws ms kind x k e t a h = not-so e (partner-kept (view ws ms) (getD ws 0 0) (kindOf kind) t x a (k .uses) h)
 
 pub open-partner : (ws ms : List ℕ) (kind x : ℕ) → PartnerKind kind → kind ≢ 8 → fact (entry (view ws ms) x .clause) ≡ false → NoPartner ws ms kind x
-open-partner ws ms kind x k d e t h = not-so e (fact-asked kind (left (view ws ms)) (entry (view ws ms) t .clause) (entry (view ws ms) x .clause) k d (asked-of ws ms kind t x 0 h))
+open-partner ws ms kind x k d e t a h = not-so e (fact-asked kind (left (view ws ms)) (entry (view ws ms) t .clause) (entry (view ws ms) x .clause) a k d (asked-of ws ms kind t x a h))

@@ -6,15 +6,16 @@ use mathlib.Core.List.{List}
 use Prim.Native.Nat.{ℕ, _+_, _≤_, _<_}
 use native.Mathlib.Omega.{arith}
 use native.Mathlib.Decide.{ℕ-discrete}
-use lib.Dec.{eqb, ltb}
+use lib.Dec.{eqb}
 use lib.ListN.{getD}
 use borrow.Author.Tests.{eqb-true, eq-eqb}
 use Rattle.semantics.proofs.Tests.{not-so, and-iff}
 use Rattle.rewriting.specs.Marked.{Marked, entry}
-use Rattle.rewriting.specs.Steps.{Step, step, conditionHolds, applies}
-use Rattle.rewriting.specs.Kinds.{Kind, subsumed, kindOf, usesPartner, usesAtom}
+use Rattle.rewriting.specs.Steps.{Step, step, applies}
+use Rattle.rewriting.specs.Kinds.{Kind, subsumed, kindOf, usesPartner}
 use Rattle.rewriting.proofs.Left.{kept-lt}
-use Rattle.rewriting.proofs.Rows.{partner-alone}
+use Rattle.rewriting.specs.Search.{stepWith}
+use Rattle.rewriting.proofs.Rows.{atom-settled}
 use Rattle.rewriting.proofs.Quiet.{key}
 use Rattle.rewriting.proofs.Sound.{applies-ask}
 use Rattle.table.specs.View.{view}
@@ -27,24 +28,22 @@ use Rattle.search_spreads.proofs.Limits.{target-lt}
 -- ---- a step by its key
 
 module _ (n : ℕ) (P : Marked) (u : Step) (k : Kind) (e : u .kind ≡ k) (h : So (applies n P u)) where
-  asks : (j : Kind) → u .kind ≡ j → So (cond (usesPartner j) (entry P (u .partner) .kept && not (eqb (u .partner) (u .target))) (eqb (u .partner) 0)) × So (cond (usesAtom j) (ltb (u .atom) n) (eqb (u .atom) 0))
-  unfolding applies conditionHolds
-  asks j q = let w = simp and-iff at h in
-      subst (λ j. So (cond (usesPartner j) (entry P (u .partner) .kept && not (eqb (u .partner) (u .target))) (eqb (u .partner) 0)) × So (cond (usesAtom j) (ltb (u .atom) n) (eqb (u .atom) 0))) q (w .1 .0, w .1 .1 .0)
+  of-kind : So (applies n P (step k (u .target) (u .partner) (u .atom)))
+  of-kind = subst (λ j. So (applies n P (step j (u .target) (u .partner) (u .atom)))) e h
 
-  -- a kind with a partner: the key is the partner, and the atom is 0
-  pub by-partner : So (usesPartner k) → So (applies n P (step k (u .target) (key u) 0))
+  -- a kind with a partner: the key is the partner, which settles the atom
+  pub by-partner : So (usesPartner k) → So (applies n P (stepWith P k (u .target) (key u)))
   by-partner p =
-      let a : u .atom ≡ 0 = eqb-true _ _ (subst (λ b. So (cond b (ltb (u .atom) n) (eqb (u .atom) 0))) (partner-alone k p) (asks k e .1)) in
       let x : key u ≡ u .partner = ap (λ j. cond (usesPartner j) (u .partner) (u .atom)) e ∙ ap (λ b. cond b (u .partner) (u .atom)) p in
-      subst (λ y. So (applies n P (step k (u .target) y 0))) (sym x) (subst (λ y. So (applies n P (step k (u .target) (u .partner) y))) a (subst (λ j. So (applies n P (step j (u .target) (u .partner) (u .atom)))) e h))
+      subst (λ y. So (applies n P (stepWith P k (u .target) y))) (sym x)
+      (subst (λ y. So (applies n P (step k (u .target) (u .partner) y))) (atom-settled n P k (u .target) (u .partner) (u .atom) p of-kind) of-kind)
 
   -- a kind without a partner: the key is the atom, and the partner is 0
   pub by-atom : usesPartner k ≡ false → So (applies n P (step k (u .target) 0 (key u)))
   by-atom p =
-      let a : u .partner ≡ 0 = eqb-true _ _ (subst (λ b. So (cond b (entry P (u .partner) .kept && not (eqb (u .partner) (u .target))) (eqb (u .partner) 0))) p (asks k e .0)) in
+      let a : u .partner ≡ 0 = eqb-true _ _ (subst (λ b. So (cond b (entry P (u .partner) .kept && not (eqb (u .partner) (u .target))) (eqb (u .partner) 0))) p (applies-ask n P (step k (u .target) (u .partner) (u .atom)) of-kind .1)) in
       let x : key u ≡ u .atom = ap (λ j. cond (usesPartner j) (u .partner) (u .atom)) e ∙ ap (λ b. cond b (u .partner) (u .atom)) p in
-      subst (λ y. So (applies n P (step k (u .target) 0 y))) (sym x) (subst (λ y. So (applies n P (step k (u .target) y (u .atom)))) a (subst (λ j. So (applies n P (step j (u .target) (u .partner) (u .atom)))) e h))
+      subst (λ y. So (applies n P (step k (u .target) 0 y))) (sym x) (subst (λ y. So (applies n P (step k (u .target) y (u .atom)))) a of-kind)
 
 -- ---- one target after the other
 
@@ -85,5 +84,5 @@ partner-kept P n k t p a u h =
     and-iff (entry P p .kept) (not (eqb p t)) .0 v .0
 
 -- a number that is no clause's is no partner
-pub partner-lt : (ws ms : List ℕ) (k : Kind) (t p : ℕ) → So (usesPartner k) → So (applies (getD ws 0 0) (view ws ms) (step k t p 0)) → p < getD ws 1 0
-partner-lt ws ms k t p u h = omega (arith, kept-lt (view ws ms) p (partner-kept (view ws ms) (getD ws 0 0) k t p 0 u h), length-view ws ms)
+pub partner-lt : (ws ms : List ℕ) (k : Kind) (t p a : ℕ) → So (usesPartner k) → So (applies (getD ws 0 0) (view ws ms) (step k t p a)) → p < getD ws 1 0
+partner-lt ws ms k t p a u h = omega (arith, kept-lt (view ws ms) p (partner-kept (view ws ms) (getD ws 0 0) k t p a u h), length-view ws ms)

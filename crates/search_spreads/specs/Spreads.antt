@@ -6,6 +6,7 @@ use lib.ListN.{getD}
 use Rattle.rewriting.specs.Marked.{entry}
 use Rattle.rewriting.specs.Steps.{step, applies}
 use Rattle.rewriting.specs.Kinds.{kindOf}
+use Rattle.rewriting.specs.Search.{partnerAtom}
 use Rattle.table.specs.View.{view}
 use Rattle.semantics.specs.Lists.{_∈_}
 use Rattle.step_parts.specs.declared.Part.{Part}
@@ -18,7 +19,7 @@ Clue ws ms kind p atom x a = (t : ℕ) → So (applies (getD ws 0 0) (view ws ms
 
 -- No step of the kind has the partner.
 abbrev pub NoPartner : List ℕ → List ℕ → ℕ → ℕ → Type 0
-NoPartner ws ms kind p = (t : ℕ) → ¬ So (applies (getD ws 0 0) (view ws ms) (step (kindOf kind) t p 0))
+NoPartner ws ms kind p = (t a : ℕ) → ¬ So (applies (getD ws 0 0) (view ws ms) (step (kindOf kind) t p a))
 
 -- No step of the kind has the target and the partner.
 abbrev pub NoTarget : List ℕ → List ℕ → ℕ → ℕ → ℕ → Type 0
@@ -28,3 +29,7 @@ NoTarget ws ms kind t p = (a : ℕ) → ¬ So (applies (getD ws 0 0) (view ws ms
 pub record Spread (ws ms flags flags' : List ℕ) (kind p a : ℕ) : Type 0 where
   pub raising : Raising flags flags' kind (getD ws 1 0)
   pub flagged : (t : ℕ) → So (applies (getD ws 0 0) (view ws ms) (step (kindOf kind) t p a)) → Covered flags' kind t p
+
+-- Every target that has a step with the partner p, which settles the atom, is flagged.
+abbrev pub PartnerSpread : List ℕ → List ℕ → List ℕ → List ℕ → ℕ → ℕ → Type 0
+PartnerSpread ws ms flags flags' kind p = Spread ws ms flags flags' kind p (partnerAtom (kindOf kind) (entry (view ws ms) p .clause))

@@ -10,7 +10,7 @@ ghost use Rattle.step_parts.specs.Parts.{Ready};
 ghost use Rattle.search_flags.specs.Flags.{Covered, Raising, allFlags};
 ghost use Rattle.step_kinds.specs.Kinds.{PartnerKind};
 ghost use Rattle.step_conditions.specs.Known.{Known};
-ghost use Rattle.search_spreads.specs.Spreads.{Clue, NoPartner, NoTarget, Spread};
+ghost use Rattle.search_spreads.specs.Spreads.{Clue, NoPartner, NoTarget, Spread, PartnerSpread};
 use step_parts::Part;
 
 // Whether the target of kind 8 is the partner.
@@ -187,7 +187,7 @@ pub fn spread_partner(
     m: usize,
 )
     requires { ⌜ (Ready (now words) (now marks) (now index)) × ((m ≡ getD (now words) 1 0) × ((x < getD (now words) 1 0) × ((PartnerKind kind) × (length (now flags) ≡ allFlags)))) ⌝ }
-    ensures { λ _. ⌜ Spread (now (words .entry)) (now (marks .entry)) (now (flags .entry)) (now (flags .exit)) kind x 0 ⌝ }
+    ensures { λ _. ⌜ PartnerSpread (now (words .entry)) (now (marks .entry)) (now (flags .entry)) (now (flags .exit)) kind x ⌝ }
 {
     if !step_parts::empty(words, marks, index, x, Part::Head) {
         let a = step_conditions::first_atom(words, marks, index, x, Part::Head);
@@ -200,7 +200,7 @@ pub fn spread_partner(
             flags,
             kind,
             x,
-            0,
+            step_kinds::named_atom(kind, a),
             step_kinds::target_part(kind),
             a,
         );

@@ -15,10 +15,10 @@ use Rattle.semantics.proofs.Tests.{so-false, not-so, and-iff}
 use Rattle.rewriting.specs.Marked.{entry, left}
 use Rattle.rewriting.specs.Steps.{Step, step, inNoHead, applies}
 use Rattle.rewriting.specs.Kinds.{kindOf}
-use Rattle.rewriting.specs.Search.{firstPartner, firstTarget}
+use Rattle.rewriting.specs.Search.{stepWith, firstPartner, firstTarget}
 use Rattle.rewriting.proofs.Order.{firstIn, asked, walked, atom-first, target-gone, partner-end, partner-hit, Before, search-end, search-hit}
 use Rattle.rewriting.proofs.Sound.{applies-ask}
-use Rattle.rewriting.proofs.Quiet.{key}
+use Rattle.rewriting.proofs.Quiet.{key-partner}
 use Rattle.table.specs.View.{part, view}
 use Rattle.table.proofs.View.{length-view}
 use Rattle.table.proofs.Parts.{Straight, view-straight, part-slice}
@@ -130,29 +130,29 @@ module _ (ws ms : List ℕ) (kind t i e : ℕ) (w : PartWalk ws ms kind t i e) w
 
 module _ (ws ms : List ℕ) (kind t : ℕ) (k : PartnerKind kind) where
   pub partners-kept : (m : ℕ) → m ≡ getD ws 1 0 → entry (view ws ms) t .kept ≡ true → Partners ws ms kind t m
-  partners-kept m e y = record { most = omega arith; kept = λ _. y; all = λ p h. omega (arith, partner-lt ws ms (kindOf kind) t p (k .uses) h) }
+  partners-kept m e y = record { most = omega arith; kept = λ _. y; all = λ p h. omega (arith, partner-lt ws ms (kindOf kind) t p _ (k .uses) h) }
 
   -- kind 3: none is above the greatest
   pub partners-most : (flags : List ℕ) (e m : ℕ) → kind ≡ 3 → Calm ws ms flags kind → m ≡ getD ws 1 0 → e ≤ m → (e ≡ m) ⊎ (e ≡ most flags t) → entry (view ws ms) t .kept ≡ true → Partners ws ms kind t e
   partners-most flags e m three c q l o y = record {
     most = omega arith;
     kept = λ _. y;
-    all = λ p h. ⊎-elim (λ d. omega (arith, partner-lt ws ms (kindOf kind) t p (k .uses) h)) (λ d. let v = c .bounded three (step (kindOf kind) t p 0) (ap kindOf three) refl h in
-        let w : key (step (kindOf kind) t p 0) ≡ p = ap (λ b. cond b p 0) (k .uses) in omega (arith, v, w, d)) o;
+    all = λ p h. ⊎-elim (λ d. omega (arith, partner-lt ws ms (kindOf kind) t p _ (k .uses) h))
+        (λ d. omega (arith, c .bounded three (stepWith (view ws ms) (kindOf kind) t p) (ap kindOf three) refl h, key-partner (view ws ms) (kindOf kind) t p (k .uses), d)) o;
   }
 
   pub partners-gone : entry (view ws ms) t .kept ≡ false → Partners ws ms kind t 0
-  partners-gone y = record { most = omega arith; kept = λ z. absurd (omega arith); all = λ p h. absurd (not-so y (applies-ask (getD ws 0 0) (view ws ms) (step (kindOf kind) t p 0) h .0)) }
+  partners-gone y = record { most = omega arith; kept = λ z. absurd (omega arith); all = λ p h. absurd (not-so y (applies-ask (getD ws 0 0) (view ws ms) (stepWith (view ws ms) (kindOf kind) t p) h .0)) }
 
 module _ (ws ms : List ℕ) (kind t e : ℕ) (q : Partners ws ms kind t e) (k : PartnerKind kind) where
   abbrev applies-at : ℕ → Bool
-  applies-at p = applies (getD ws 0 0) (view ws ms) (step (kindOf kind) t p 0)
+  applies-at p = applies (getD ws 0 0) (view ws ms) (stepWith (view ws ms) (kindOf kind) t p)
 
   pub partners-none : ((p : ℕ) → p < e → applies-at p ≡ false) → firstPartner (getD ws 0 0) (view ws ms) (kindOf kind) t ≡ none
   partners-none h = partner-end (getD ws 0 0) (view ws ms) (kindOf kind) t (k .uses) (λ p l. so-false _ (λ y. not-so (h p (q .all p y)) y))
 
   pub partners-hit : (p : ℕ) → p < e → ((i : ℕ) → i < p → applies-at i ≡ false) → applies-at p ≡ true
-      → firstPartner (getD ws 0 0) (view ws ms) (kindOf kind) t ≡ some (step (kindOf kind) t p 0)
+      → firstPartner (getD ws 0 0) (view ws ms) (kindOf kind) t ≡ some (stepWith (view ws ms) (kindOf kind) t p)
   partners-hit p l h a = partner-hit (getD ws 0 0) (view ws ms) (kindOf kind) t p (k .uses) (omega (arith, q .most, length-view ws ms)) h a
 
 -- ---- targets

@@ -8,7 +8,7 @@ use lib.ListN.{length, getD}
 use Rattle.rewriting.specs.Marked.{entry, left}
 use Rattle.rewriting.specs.Steps.{Step, step, applies}
 use Rattle.rewriting.specs.Kinds.{number, kindOf}
-use Rattle.rewriting.specs.Search.{firstPartner}
+use Rattle.rewriting.specs.Search.{stepWith, firstPartner}
 use Rattle.rewriting.proofs.Order.{firstIn, asked}
 use Rattle.table.specs.View.{view, part}
 use Rattle.search_targets.specs.declared.Found.{Found}
@@ -37,4 +37,4 @@ pub record PartWalk (ws ms : List ℕ) (kind t i e : ℕ) : Type 0 where
 pub record Partners (ws ms : List ℕ) (kind t e : ℕ) : Type 0 where
   pub most : e ≤ getD ws 1 0
   pub kept : 0 < e → So (entry (view ws ms) t .kept)
-  pub all : (p : ℕ) → So (applies (getD ws 0 0) (view ws ms) (step (kindOf kind) t p 0)) → p < e
+  pub all : (p : ℕ) → So (applies (getD ws 0 0) (view ws ms) (stepWith (view ws ms) (kindOf kind) t p)) → p < e

@@ -9,7 +9,7 @@ ghost use Rattle.rewriting.specs.Kinds.{kindOf};
 ghost use Rattle.table.specs.View.{view};
 ghost use Rattle.step_parts.specs.Parts.{Ready};
 ghost use Rattle.search_flags.specs.Flags.{Inside};
-ghost use Rattle.rewriting.specs.Search.{firstTarget};
+ghost use Rattle.rewriting.specs.Search.{partnerAtom, firstTarget};
 ghost use Rattle.rewriting.proofs.Order.{asked};
 ghost use Rattle.step_kinds.specs.Kinds.{PartnerKind, AtomKind};
 ghost use Rattle.search_keys.specs.State.{Arrays, Calm, Swept};
@@ -140,6 +140,16 @@ fn partners_end(
     search_flags::lesser(m, table::wide(flags[search_flags::MOST + t]))
 }
 
+// The step of a kind with target t and partner p, which settles its atom.
+fn step_with(words: &[u16], marks: &[u8], index: &[u16], kind: u16, t: usize, p: usize) -> Step
+    requires { ⌜ (Ready (now words) (now marks) (now index)) × ((t < getD (now words) 1 0) × ((p < getD (now words) 1 0) × PartnerKind kind)) ⌝ }
+    ensures { λ r. ⌜ r ≡ record { kind = kind; target = t; partner = p; atom = partnerAtom (kindOf kind) (entry (view (now (words .entry)) (now (marks .entry))) p .clause) } ⌝ }
+{
+    let first = step_conditions::first_atom(words, marks, index, p, Part::Head);
+    let atom = step_kinds::named_atom(kind, first);
+    Step::new(kind, search_flags::narrow(t), search_flags::narrow(p), atom)
+}
+
 // The smallest step of a kind with a partner, in the same way; the target's atoms are stamped for the tests.
 // The flag of the target found goes up to the partner found: none before it makes a step.
 pub fn first_by_partner(
@@ -170,12 +180,7 @@ pub fn first_by_partner(
             for p in from..e {
                 if search_partners::partner_applies(words, marks, index, &stamps, kind, t, p) {
                     flags[base + t] = search_flags::narrow(p + 1);
-                    found = Found::One(Step::new(
-                        kind,
-                        search_flags::narrow(t),
-                        search_flags::narrow(p),
-                        0,
-                    ));
+                    found = Found::One(step_with(words, marks, index, kind, t, p));
                     break 'search;
                 }
             }

@@ -12,10 +12,11 @@ use Rattle.semantics.proofs.Tests.{and-iff, not-iff, or-iff, mem-iff, within-if
 use Rattle.semantics.proofs.Models.{Same}
 use Rattle.rewriting.specs.Marked.{Entry, Marked, entry, left}
 use Rattle.rewriting.specs.Reaches.{reach}
-use Rattle.rewriting.specs.Steps.{Step, fact, single, inNoHead, condition, applies, rewritten, effect}
+use Rattle.rewriting.specs.Steps.{Step, fact, inNoHead, condition, applies, leftBy, effect}
 use Rattle.rewriting.specs.Runs.{leaves}
-use Rattle.rewriting.specs.Kinds.{Kind, tautology, contradiction, success, noHead, blocked, failure, loop, subsumed, usesPartner}
+use Rattle.rewriting.specs.Kinds.{Kind, tautology, contradiction, success, noHead, blocked, failure, loop, subsumed, rowOf, usesPartner}
 use Rattle.rewriting.specs.Uses.{drops}
+use Rattle.rewriting.proofs.Rows.{succeeds}
 use Rattle.rewriting.proofs.ByKind.{same-outside, same-dropNeg}
 use Rattle.rewriting.proofs.Reach.{allBut, others-closed, others-not, reach-least}
 use Rattle.rewriting.proofs.Sound.{strong, strong-same, applies-ask}
@@ -39,7 +40,7 @@ module _ (P : Marked) (U : Atoms) (no-body : NoBody U P) (M : Atoms) (sub : Subs
   outside m r y = no-body t kt a m (or-iff _ _ .0 (sub a y) r)
 
   -- kinds 4, 6 and 7: the atom is outside the reach
-  weak-same : (k : Kind) → ¬ So (strong k) → So (condition k (left P) the (entry P p .clause) a) → Same M (left P) (left (set P t (rewritten k the (entry P p .clause) a)))
+  weak-same : (k : Kind) → ¬ So (strong k) → So (condition k (left P) the (entry P p .clause) a) → Same M (left P) (left (set P t (leftBy (rowOf k .deed) a the)))
   unfolding condition
   weak-same noHead s h = let w = and-iff (mem a (the .neg)) (inNoHead (left P) a) .0 h in same-dropNeg M P t a kt (outside (Memᴰ·append-right (the .pos) (mem-iff _ _ .0 (w .0))) (bare-out (left P) a (w .1)))
   weak-same failure s h = let w = and-iff (mem a (the .pos)) _ .0 h in let m = mem-iff a (the .pos) .0 (w .0) in same-outside M P t a (outside (Memᴰ·append-left (the .neg) m) (bare-out (left P) a (w .1))) m
@@ -83,11 +84,6 @@ fact-by c p q = and-iff (null (c .pos)) (null (c .neg)) .1 (null-by (c .pos) p, 
 pub fact-below : (d c : Entry) → Subclause d c → So (fact (c .clause)) → So (fact (d .clause))
 fact-below d c b f = fact-by (d .clause) (λ a m. fact-pos (c .clause) f a (b .pos a m)) (λ a m. fact-neg (c .clause) f a (b .neg a m))
 
-single-in : (f : ℕ → Bool) (l : List ℕ) → So (single f l) → (b : ℕ) × So (f b)
-single-in f [] h = absurd (false≢true h)
-single-in f (b ∷ []) h = (b, h)
-single-in f (b ∷ c ∷ l) h = absurd (false≢true h)
-
 -- a step that targets a fact has a partner that is a fact with no other head atoms
 fact-partner : (k : Kind) (cs : List Clause) (c d : Clause) (a : ℕ) → So (fact c) → So (condition k cs c d a)
     → So (usesPartner k) × So (fact d) × ((b : ℕ) → b ∈ d .head → b ∈ c .head)
@@ -96,8 +92,7 @@ fact-partner blocked cs c d a f h =
     let w = and-iff (fact d) (within (d .head) (c .neg)) .0 h in (refl, w .0, λ b m. absurd (fact-neg c f b (within-iff _ _ .0 (w .1) b m)))
 fact-partner subsumed cs c d a f h =
     let w = simp (and-iff, within-iff) at h in (refl, fact-by d (λ b m. fact-pos c f b (w .1 .0 b m)) (λ b m. fact-neg c f b (w .1 .1 b m)), w .0)
-fact-partner success cs c d a f h =
-    let w = single-in (λ b. mem b (c .pos)) (d .head) (and-iff (fact d) _ .0 h .1) in absurd (fact-pos c f (w .0) (mem-iff _ _ .0 (w .1)))
+fact-partner success cs c d a f h = absurd (fact-pos c f a (succeeds cs c d a h .there))
 fact-partner tautology cs c d a f h = absurd (fact-pos c f a (mem-iff _ _ .0 (and-iff (mem a (c .head)) _ .0 h .1)))
 fact-partner contradiction cs c d a f h = absurd (fact-pos c f a (mem-iff _ _ .0 (and-iff (mem a (c .pos)) _ .0 h .0)))
 fact-partner noHead cs c d a f h = absurd (fact-neg c f a (mem-iff _ _ .0 (and-iff (mem a (c .neg)) _ .0 h .0)))

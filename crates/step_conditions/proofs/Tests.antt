@@ -8,16 +8,14 @@ use native.Mathlib.Numerals.{add-one}
 use lib.Dec.{eqb}
 use lib.ListN.{length, getD, set, List·getD-eq-default}
 use borrow.Author.Tests.{eq-eqb, ne-eqb}
-use Rattle.semantics.specs.Programs.{Clause}
-use Rattle.rewriting.specs.Marked.{entry}
 use Rattle.rewriting.specs.Steps.{Step, single, applies}
-use Rattle.rewriting.specs.Kinds.{kindOf, usesPartner}
+use Rattle.rewriting.specs.Kinds.{dropsPos, dropsNeg, rowOf, kindOf, usesPartner}
 use Rattle.rewriting.proofs.Left.{kept-lt}
 use Rattle.rewriting.proofs.Sound.{applies-ask}
 use Rattle.rewriting.proofs.Search.{partner-lt}
 use Rattle.table.specs.Places.{posAt, negAt, nextAt, startOf}
 use Rattle.table.specs.View.{view}
-use Rattle.table.specs.Effects.{find, clears, marksAfter}
+use Rattle.table.specs.Effects.{find, clearedBy, clears, marksAfter}
 use Rattle.table.specs.Slices.{kept-of}
 use Rattle.table.proofs.View.{length-view, clears-lt}
 use Rattle.table.proofs.Laws.{one-left}
@@ -63,17 +61,16 @@ kind-last k a b n1 n2 n3 n4 n5 n6 n7 = eight k b (above k 7 (above k 6 (above k 
     eight k b c = omega arith
 
 -- a step that drops nothing clears its target's first mark
-pub clears-first : (ws : List ℕ) (k at : ℕ) (d : Clause) (a : ℕ) → Not k 3 → Not k 4 → clears ws (kindOf k) at d a ≡ at
-unfolding clears
-clears-first ws zero at d a n3 n4 = refl
-clears-first ws (suc zero) at d a n3 n4 = refl
-clears-first ws (suc (suc zero)) at d a n3 n4 = refl
-clears-first ws (suc (suc (suc zero))) at d a n3 n4 = absurd (n3 refl)
-clears-first ws (suc (suc (suc (suc zero)))) at d a n3 n4 = absurd (n4 refl)
-clears-first ws (suc (suc (suc (suc (suc zero))))) at d a n3 n4 = refl
-clears-first ws (suc (suc (suc (suc (suc (suc zero)))))) at d a n3 n4 = refl
-clears-first ws (suc (suc (suc (suc (suc (suc (suc zero))))))) at d a n3 n4 = refl
-clears-first ws (suc (suc (suc (suc (suc (suc (suc (suc k)))))))) at d a n3 n4 = refl
+pub clears-first : (ws : List ℕ) (k at a : ℕ) → Not k 3 → Not k 4 → clearedBy ws (rowOf (kindOf k) .deed) at a ≡ at
+clears-first ws zero at a n3 n4 = refl
+clears-first ws (suc zero) at a n3 n4 = refl
+clears-first ws (suc (suc zero)) at a n3 n4 = refl
+clears-first ws (suc (suc (suc zero))) at a n3 n4 = absurd (n3 refl)
+clears-first ws (suc (suc (suc (suc zero)))) at a n3 n4 = absurd (n4 refl)
+clears-first ws (suc (suc (suc (suc (suc zero))))) at a n3 n4 = refl
+clears-first ws (suc (suc (suc (suc (suc (suc zero)))))) at a n3 n4 = refl
+clears-first ws (suc (suc (suc (suc (suc (suc (suc zero))))))) at a n3 n4 = refl
+clears-first ws (suc (suc (suc (suc (suc (suc (suc (suc k)))))))) at a n3 n4 = refl
 
 -- ---- the place of a word
 
@@ -103,9 +100,14 @@ step-fits n ws ms s h =
     go true l t = omega (arith, length-view ws ms)
     go false l t = omega arith
 
-pub after-is : (ws ms : List ℕ) (s : Step) (at t p : ℕ) → t ≡ s .target → p ≡ s .partner → at ≡ clears ws (s .kind) (startOf ws t) (entry (view ws ms) p .clause) (s .atom) → set ms at 0 ≡ marksAfter ws ms s
+-- the place that a step clears, where its target is known by another name
+pub clears-at : (ws : List ℕ) (s : Step) (at t : ℕ) → t ≡ s .target → at ≡ clearedBy ws (rowOf (s .kind) .deed) (startOf ws t) (s .atom) → at ≡ clears ws s
+unfolding clears
+clears-at ws s at t a e = e ∙ rw a
+
+pub after-is : (ws ms : List ℕ) (s : Step) (at : ℕ) → at ≡ clears ws s → set ms at 0 ≡ marksAfter ws ms s
 unfolding marksAfter
-after-is ws ms s at t p a b e = rw (e, a, b)
+after-is ws ms s at e = rw e
 
 -- ---- two tests, one after the other
 
@@ -117,15 +119,11 @@ and-on x y r e q = rw e q
 
 -- ---- the place that a step clears
 
-pub clears-pos : (ws : List ℕ) (at : ℕ) (d : Clause) (a b r : ℕ) → b ≡ getD (d .head) 0 0 → r ≡ placeIn ws at Pos b → r ≡ clears ws (kindOf 3) at d a
-unfolding clears
-clears-pos ws at d a b r e q = let z : negAt ws at - posAt ws at ≡ getD ws (at + 1) 0 = omega arith in q ∙ rw (e, z)
+pub clears-pos : (ws : List ℕ) (at a r : ℕ) → r ≡ placeIn ws at Pos a → r ≡ clearedBy ws dropsPos at a
+clears-pos ws at a r q = let z : negAt ws at - posAt ws at ≡ getD ws (at + 1) 0 = omega arith in q ∙ rw z
 
-pub clears-neg : (ws : List ℕ) (at : ℕ) (d : Clause) (a r : ℕ) → r ≡ placeIn ws at Neg a → r ≡ clears ws (kindOf 4) at d a
-unfolding clears
-clears-neg ws at d a r q = let z : nextAt ws at - negAt ws at ≡ getD ws (at + 2) 0 = omega arith in q ∙ rw z
+pub clears-neg : (ws : List ℕ) (at a r : ℕ) → r ≡ placeIn ws at Neg a → r ≡ clearedBy ws dropsNeg at a
+clears-neg ws at a r q = let z : nextAt ws at - negAt ws at ≡ getD ws (at + 2) 0 = omega arith in q ∙ rw z
 
-pub clears-fits : (ws ms index : List ℕ) (n : ℕ) (s : Step) (at t p : ℕ) → Ready ws ms index → So (applies n (view ws ms) s) → t ≡ s .target → p ≡ s .partner → at ≡ clears ws (s .kind) (startOf ws t) (entry (view ws ms) p .clause) (s .atom) → at < length ms
-clears-fits ws ms index n s at t p r h a b e =
-    let q : at ≡ clears ws (s .kind) (startOf ws (s .target)) (entry (view ws ms) (s .partner) .clause) (s .atom) = e ∙ rw (a, b) in
-    omega (arith, clears-lt ws ms (r .placed .passed) (r .marks) n s h, r .marks)
+pub clears-fits : (ws ms index : List ℕ) (n : ℕ) (s : Step) (at : ℕ) → Ready ws ms index → So (applies n (view ws ms) s) → at ≡ clears ws s → at < length ms
+clears-fits ws ms index n s at r h e = omega (arith, clears-lt ws ms (r .placed .passed) (r .marks) n s h, r .marks)

@@ -7,11 +7,11 @@ ghost use lib.ListN.{length, getD, set, replicate};
 ghost use Rattle.semantics.specs.Lists.{mem};
 ghost use Rattle.rewriting.specs.Marked.{entry, left};
 ghost use Rattle.rewriting.specs.Reaches.{reach};
-ghost use Rattle.rewriting.specs.Steps.{fact, inNoHead, condition, applies};
-ghost use Rattle.rewriting.specs.Kinds.{success, blocked, subsumed, kindOf};
+ghost use Rattle.rewriting.specs.Steps.{fact, single, inNoHead, condition, applies};
+ghost use Rattle.rewriting.specs.Kinds.{success, blocked, subsumed, rowOf, kindOf};
 ghost use Rattle.table.specs.Places.{startOf};
 ghost use Rattle.table.specs.View.{view, allKept};
-ghost use Rattle.table.specs.Effects.{find, clears, marksAfter};
+ghost use Rattle.table.specs.Effects.{find, clearedBy, marksAfter};
 ghost use Rattle.table.specs.Slices.{kept-of};
 ghost use Rattle.step_parts.specs.Parts.{partOf, Placed, Ready, Ascends};
 ghost use Rattle.step_reach.specs.Bytes.{Reached};
@@ -221,19 +221,37 @@ pub fn is_fact(words: &[u16], marks: &[u8], index: &[u16], t: usize) -> bool
     step_parts::empty(words, marks, index, t, Part::Neg)
 }
 
-// Kind 3: clause p is a fact with exactly one head atom, which is in the positive body of clause t.
-pub fn success_holds(words: &[u16], marks: &[u8], index: &[u16], t: usize, p: usize) -> bool
+// Whether the atom is the only one of the part of clause p.
+fn is_only(words: &[u16], marks: &[u8], index: &[u16], p: usize, part: Part, atom: u16) -> bool
+    requires { ⌜ (Ready (now words) (now marks) (now index)) × (p < getD (now words) 1 0) ⌝ }
+    ensures { λ r. ⌜ r ≡ single (eqb atom) (partOf part (entry (view (now (words .entry)) (now (marks .entry))) p .clause)) ⌝ }
+{
+    let only = step_parts::only(words, marks, index, p, part);
+    let Single::One(b) = only else {
+        return false;
+    };
+    atom == b
+}
+
+// Kind 3: clause p is a fact whose only head atom is the atom, which is in the positive body of clause t.
+pub fn success_holds(
+    words: &[u16],
+    marks: &[u8],
+    index: &[u16],
+    t: usize,
+    p: usize,
+    atom: u16,
+) -> bool
     requires { ⌜ (Ready (now words) (now marks) (now index)) × ((t < getD (now words) 1 0) × (p < getD (now words) 1 0)) ⌝ }
-    ensures { λ r. ⌜ ((a : ℕ) → r ≡ condition success (left (view (now (words .entry)) (now (marks .entry)))) (entry (view (now (words .entry)) (now (marks .entry))) t .clause) (entry (view (now (words .entry)) (now (marks .entry))) p .clause) a) ⌝ }
+    ensures { λ r. ⌜ r ≡ condition success (left (view (now (words .entry)) (now (marks .entry)))) (entry (view (now (words .entry)) (now (marks .entry))) t .clause) (entry (view (now (words .entry)) (now (marks .entry))) p .clause) atom ⌝ }
 {
     if !is_fact(words, marks, index, p) {
         return false;
     }
-    let head = step_parts::only(words, marks, index, p, Part::Head);
-    match head {
-        Single::One(b) => step_parts::has(words, marks, index, t, Part::Pos, b),
-        Single::Other => false,
+    if !is_only(words, marks, index, p, Part::Head, atom) {
+        return false;
     }
+    step_parts::has(words, marks, index, t, Part::Pos, atom)
 }
 
 // Kind 5: clause p is a fact whose head atoms are all in the negative body of clause t.
@@ -279,7 +297,7 @@ pub fn holds(
     match kind {
         1 => in_both(words, marks, index, t, Part::Head, Part::Pos, atom),
         2 => in_both(words, marks, index, t, Part::Pos, Part::Neg, atom),
-        3 => success_holds(words, marks, index, t, p),
+        3 => success_holds(words, marks, index, t, p, atom),
         4 => headless(words, marks, index, heads, t, Part::Neg, atom),
         5 => blocked_holds(words, marks, index, t, p),
         6 => headless(words, marks, index, heads, t, Part::Pos, atom),
@@ -333,27 +351,13 @@ fn first_of(part: &[u16], marks: &[u8]) -> u16
     if i < part.len() { part[i] } else { 0 }
 }
 
-// The place of the mark that a step clears.
-pub fn cleared(
-    words: &[u16],
-    marks: &[u8],
-    index: &[u16],
-    kind: u16,
-    t: usize,
-    p: usize,
-    atom: u16,
-) -> usize
-    requires { ⌜ (Ready (now words) (now marks) (now index)) × (((t < getD (now words) 1 0) × (p < getD (now words) 1 0)) × ((1 ≤ kind) × (kind ≤ 8))) ⌝ }
-    ensures { λ r. ⌜ r ≡ clears (now (words .entry)) (kindOf kind) (startOf (now (words .entry)) t) (entry (view (now (words .entry)) (now (marks .entry))) p .clause) atom ⌝ }
+// The place of the mark that a step of the kind clears at clause t, with the atom that it names.
+fn cleared(words: &[u16], index: &[u16], kind: u16, t: usize, atom: u16) -> usize
+    requires { ⌜ (Placed (now words) (now index)) × (t < getD (now words) 1 0) ⌝ }
+    ensures { λ r. ⌜ r ≡ clearedBy (now (words .entry)) (rowOf (kindOf kind) .deed) (startOf (now (words .entry)) t) atom ⌝ }
 {
     match kind {
-        3 => place_of(
-            words,
-            index,
-            t,
-            Part::Pos,
-            first_atom(words, marks, index, p, Part::Head),
-        ),
+        3 => place_of(words, index, t, Part::Pos, atom),
         4 => place_of(words, index, t, Part::Neg, atom),
         _ => step_parts::first_word(words, index, t),
     }
@@ -364,14 +368,6 @@ pub fn make_step(words: &[u16], marks: &mut [u8], index: &[u16], s: Step)
     requires { ⌜ (Ready (now words) (now marks) (now index)) × (((1 ≤ s .kind) × (s .kind ≤ 8)) × (So (applies (getD (now words) 0 0) (view (now words) (now marks)) (stepOf s)))) ⌝ }
     ensures { λ _. ⌜ now (marks .exit) ≡ marksAfter (now (words .entry)) (now (marks .entry)) (stepOf s) ⌝ }
 {
-    let at = cleared(
-        words,
-        marks,
-        index,
-        s.kind,
-        table::wide(s.target),
-        table::wide(s.partner),
-        s.atom,
-    );
+    let at = cleared(words, index, s.kind, table::wide(s.target), s.atom);
     marks[at] = 0;
 }

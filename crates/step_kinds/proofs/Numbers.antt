@@ -5,7 +5,7 @@ use mathlib.Core.Bool.{true, false, So, false≢true}
 use Prim.Native.Nat.{ℕ, zero, suc, _≤_}
 use native.Mathlib.Omega.{arith}
 use lib.Dec.{eqb}
-use Rattle.rewriting.specs.Kinds.{kindOf, usesPartner, number}
+use Rattle.rewriting.specs.Kinds.{kindOf, usesPartner, usesAtom, number}
 use Rattle.rewriting.specs.Uses.{asksHeads}
 use Rattle.rewriting.proofs.Rows.{number-kindOf}
 use Rattle.step_kinds.specs.Kinds.{PartnerKind, AtomKind, HeadsKind}
@@ -44,11 +44,19 @@ by-number Q (suc (suc (suc (suc (suc (suc (suc (suc (suc k))))))))) a b q1 q2 q3
 pub uses-rest : (kind : ℕ) → 1 ≤ kind → kind ≤ 8 → kind ≢ 3 → kind ≢ 5 → eqb kind 8 ≡ usesPartner (kindOf kind)
 uses-rest kind a b x y = by-number (λ k. eqb k 8 ≡ usesPartner (kindOf k)) kind a b (λ _. refl) (λ _. refl) (λ e. absurd (x e)) (λ _. refl) (λ e. absurd (y e)) (λ _. refl) (λ _. refl) (λ _. refl)
 
--- of the kinds with a partner, the one that is not 3 and not 8
+-- what holds of the kinds with a partner
+pub partner-number : (Q : ℕ → Type 0) (kind : ℕ) → PartnerKind kind → Q 3 → Q 5 → Q 8 → Q kind
+partner-number Q kind k a b c = by-number (λ i. So (usesPartner (kindOf i)) → Q i) kind (k .low) (k .high)
+    (λ _ u. absurd (false≢true u)) (λ _ u. absurd (false≢true u)) (λ _ u. a) (λ _ u. absurd (false≢true u))
+    (λ _ u. b) (λ _ u. absurd (false≢true u)) (λ _ u. absurd (false≢true u)) (λ _ u. c) (k .uses)
+
+-- of these the one that is not 3 and not 8
 pub is-five : (kind : ℕ) → PartnerKind kind → kind ≢ 3 → kind ≢ 8 → kind ≡ 5
-is-five kind k a b = by-number (λ i. So (usesPartner (kindOf i)) → i ≡ 5) kind (k .low) (k .high)
-    (λ _ u. absurd (false≢true u)) (λ _ u. absurd (false≢true u)) (λ e u. absurd (a e)) (λ _ u. absurd (false≢true u))
-    (λ _ u. refl) (λ _ u. absurd (false≢true u)) (λ _ u. absurd (false≢true u)) (λ e u. absurd (b e)) (k .uses)
+is-five kind k = partner-number (λ i. i ≢ 3 → i ≢ 8 → i ≡ 5) kind k (λ a b. absurd (a refl)) (λ a b. refl) (λ a b. absurd (b refl))
+
+-- of these only 3 names an atom
+pub no-atom : (kind : ℕ) → PartnerKind kind → kind ≢ 3 → usesAtom (kindOf kind) ≡ false
+no-atom kind k = partner-number (λ i. i ≢ 3 → usesAtom (kindOf i) ≡ false) kind k (λ a. absurd (a refl)) (λ a. refl) (λ a. refl)
 
 pub heads-kind : (kind : ℕ) → 1 ≤ kind → kind ≤ 8 → So (asksHeads (kindOf kind)) → HeadsKind kind
 heads-kind kind a b = by-number (λ i. So (asksHeads (kindOf i)) → (i ≡ 4) ⊎ (i ≡ 6)) kind a b

@@ -3,7 +3,8 @@ ghost use mathlib.Core.Path.{_≡_};
 ghost use Prim.Native.Nat.{_≤_};
 ghost use Rattle.rewriting.specs.Kinds.{usesPartner, kindOf, usesAtom};
 ghost use Rattle.rewriting.specs.Uses.{asksHeads, asksReach, drops};
-ghost use Rattle.step_kinds.specs.Kinds.{walkedPart, targetPart};
+ghost use mathlib.Core.Bool.{cond};
+ghost use Rattle.step_kinds.specs.Kinds.{PartnerKind, walkedPart, targetPart};
 use step_parts::Part;
 
 // Whether a kind has a partner.
@@ -64,11 +65,18 @@ pub fn uses_atom(kind: u16) -> bool
     ensures { λ r. ⌜ r ≡ usesAtom (kindOf kind) ⌝ }
 {
     match kind {
-        3 => false,
         5 => false,
         8 => false,
         _ => true,
     }
+}
+
+// The atom that a step of a kind with a partner names, where its partner's first head atom is a.
+pub fn named_atom(kind: u16, a: u16) -> u16
+    requires { ⌜ PartnerKind kind ⌝ }
+    ensures { λ r. ⌜ r ≡ cond (usesAtom (kindOf kind)) a 0 ⌝ }
+{
+    if kind == 3 { a } else { 0 }
 }
 
 // Whether the kind asks for the reach.

@@ -1,6 +1,6 @@
 -- Laws of a step: its questions in order, and what is known from step to step.
 use mathlib.Core.Path.{_≡_, refl, sym, ap, subst, _∙_}
-use mathlib.Core.Bool.{Bool, true, false, cond, _&&_, So, true≢false}
+use mathlib.Core.Bool.{Bool, true, false, not, cond, _&&_, So, true≢false}
 use mathlib.Core.List.{List}
 use Prim.Native.Nat.{ℕ, _≤_, _<_}
 use native.Mathlib.Omega.{arith}
@@ -9,22 +9,25 @@ use lib.ListN.{length, getD, List·getD-eq-default}
 use borrow.Author.Tests.{le-leb, lt-leb, leb-true, eq-eqb, ne-eqb}
 use Rattle.semantics.proofs.Tests.{and-iff}
 use Rattle.rewriting.specs.Marked.{Marked, gone, entry, left}
-use Rattle.rewriting.specs.Steps.{targetKept, partnerKept, atomKnown, condition, conditionHolds, applies}
-use Rattle.rewriting.specs.Kinds.{Kind, kindOf, usesPartner, usesAtom}
+use Rattle.rewriting.specs.Steps.{targetKept, partnerKept, atomKnown, atomMatches, condition, conditionHolds, applies}
+use Rattle.rewriting.specs.Kinds.{Kind, number, kindOf, usesPartner, usesAtom}
 use Rattle.rewriting.specs.Uses.{asksHeads, asksReach, drops}
 use Rattle.rewriting.proofs.Left.{kept-lt}
 use Rattle.rewriting.proofs.Rows.{one-scope}
+use Rattle.step_kinds.proofs.Numbers.{kind-number}
 use Rattle.rewriting.proofs.Search.{partner-lt}
 use Rattle.answers.specs.declared.StepQuestion.{StepQuestion}
-use Rattle.answers.specs.declared.StepQuestion.the-variants.{KindKnown, TargetKept, PartnerKept, AtomKnown, ConditionHolds}
+use Rattle.answers.specs.declared.StepQuestion.the-variants.{KindKnown, TargetKept, PartnerKept, AtomKnown, AtomMatches, ConditionHolds}
 use Rattle.table.specs.View.{view}
 use Rattle.table.specs.Effects.{marksAfter}
 use Rattle.table.proofs.View.{length-view}
-use Rattle.step_parts.specs.Parts.{Ready}
+use Rattle.step_parts.specs.declared.Single.the-variants.{One, Other}
+use Rattle.step_parts.specs.Parts.{singleOf, Ready}
 use Rattle.step_reach.specs.Bytes.{Reached}
 use Rattle.step_conditions.specs.declared.Step.{Step}
 use Rattle.step_conditions.specs.Known.{stepOf, Heads}
 use Rattle.step_conditions.proofs.Drops.{heads-stay, reached-stays}
+use Rattle.step_conditions.proofs.Tests.{single-one, single-other}
 use Rattle.step_questions.specs.declared.Verdict.{Verdict}
 use Rattle.step_questions.specs.declared.Verdict.the-variants.{Fine, No}
 use Rattle.step_questions.specs.declared.Memo.{Memo}
@@ -46,7 +49,7 @@ low-kind k h = rw (lt-leb 1 k h)
 pub high-kind : (k : ℕ) → 1 ≤ k → 8 < k → kindKnown k ≡ false
 high-kind k a h = rw (le-leb 1 k a, lt-leb k 8 h)
 
--- ---- questions 12 to 15
+-- ---- questions 12 to 15 and 29
 
 pub kept-out : (ws ms : List ℕ) (t : ℕ) → getD ws 1 0 ≤ t → false ≡ entry (view ws ms) t .kept
 kept-out ws ms t h = sym (ap (λ e. e .kept) (List·getD-eq-default (view ws ms) gone (let q : length (view ws ms) ≤ t = omega (arith, length-view ws ms) in q)))
@@ -75,6 +78,25 @@ atom-unused n s u = rw u
 pub atom-used : (n : ℕ) (s : Step) → usesAtom (kindOf (s .kind)) ≡ true → ltb (s .atom) n ≡ atomKnown n (stepOf s)
 atom-used n s u = rw u
 
+pub success-partner : (ws ms : List ℕ) (s : Step) → s .kind ≡ 3 → So (partnerKept (view ws ms) (stepOf s)) → s .partner < getD ws 1 0
+success-partner ws ms s k h =
+    let w = subst (λ j. So (cond (usesPartner (kindOf j)) (entry (view ws ms) (s .partner) .kept && not (eqb (s .partner) (s .target))) (eqb (s .partner) 0))) k h in
+    omega (arith, kept-lt (view ws ms) (s .partner) (and-iff _ _ .0 w .0), length-view ws ms)
+
+module _ (P : Marked) (s : Step) where
+  pub matches-kind : (s .kind ≡ 3 → ⊥) → 1 ≤ s .kind → s .kind ≤ 8 → true ≡ atomMatches P (stepOf s)
+  matches-kind d l h = rw (ne-eqb (number (kindOf (s .kind))) 3 (λ e. d (sym (kind-number (s .kind) l h) ∙ e)))
+
+  pub matches-other : s .kind ≡ 3 → singleOf (entry P (s .partner) .clause .head) ≡ Other → true ≡ atomMatches P (stepOf s)
+  matches-other k e = rw k (rw (single-other (λ b. not (eqb (s .atom) b)) (entry P (s .partner) .clause .head) e))
+
+  pub matches-one : (b : ℕ) → s .kind ≡ 3 → singleOf (entry P (s .partner) .clause .head) ≡ One b → eqb (s .atom) b ≡ atomMatches P (stepOf s)
+  matches-one b k e = rw k (rw (single-one (λ b. not (eqb (s .atom) b)) (entry P (s .partner) .clause .head) b e) (twice (eqb (s .atom) b)))
+    where
+      twice : (x : Bool) → x ≡ not (not x)
+      twice true = refl
+      twice false = refl
+
 module _ (n : ℕ) (P : Marked) (s : Step) (v : Verdict) where
   pub shape-12 : kindKnown (s .kind) ≡ false → No KindKnown ≡ shapeOf n P s v
   unfolding shapeQuestions ask
@@ -92,9 +114,13 @@ module _ (n : ℕ) (P : Marked) (s : Step) (v : Verdict) where
   unfolding shapeQuestions ask
   shape-15 a b c d = rw (a, b, c, d)
 
-  pub shape-fine : kindKnown (s .kind) ≡ true → targetKept P (stepOf s) ≡ true → partnerKept P (stepOf s) ≡ true → atomKnown n (stepOf s) ≡ true → v ≡ shapeOf n P s v
+  pub shape-29 : kindKnown (s .kind) ≡ true → targetKept P (stepOf s) ≡ true → partnerKept P (stepOf s) ≡ true → atomKnown n (stepOf s) ≡ true → atomMatches P (stepOf s) ≡ false → No AtomMatches ≡ shapeOf n P s v
   unfolding shapeQuestions ask
-  shape-fine a b c d = rw (a, b, c, d)
+  shape-29 a b c d e = rw (a, b, c, d) (rw e)
+
+  pub shape-fine : kindKnown (s .kind) ≡ true → targetKept P (stepOf s) ≡ true → partnerKept P (stepOf s) ≡ true → atomKnown n (stepOf s) ≡ true → atomMatches P (stepOf s) ≡ true → v ≡ shapeOf n P s v
+  unfolding shapeQuestions ask
+  shape-fine a b c d e = rw (a, b, c, d) (rw e)
 
 ask-inv : (b : Bool) (q : StepQuestion) (v : Verdict) → ask No b q v ≡ Fine → (b ≡ true) × (v ≡ Fine)
 unfolding ask
@@ -114,18 +140,19 @@ module _ (n : ℕ) (P : Marked) (s : Step) where
       let (b, e2) = ask-inv _ _ _ e1 in
       let (c, e3) = ask-inv _ _ _ e2 in
       let (d, e4) = ask-inv _ _ _ e3 in
+      let (x, e5) = ask-inv _ _ _ e4 in
       let w = and-iff (leb 1 (s .kind)) (leb (s .kind) 8) .0 a in
-      (record { low = leb-true _ _ (w .0); high = leb-true _ _ (w .1); target = b; partner = c; atom = d }, e4)
+      (record { low = leb-true _ _ (w .0); high = leb-true _ _ (w .1); target = b; partner = c; atom = d; matches = x }, e5)
 
   pub shape-inv : Fine ≡ shapeOf n P s Fine → Shaped n P s
   shape-inv e = shape-both Fine e .0
 
   shape-no : (q : StepQuestion) (v : Verdict) → No q ≡ shapeOf n P s Fine → No q ≡ shapeOf n P s v
   unfolding shapeQuestions
-  shape-no q v e = ask-no (kindKnown (s .kind)) KindKnown q _ _ (ask-no (targetKept P (stepOf s)) TargetKept q _ _ (ask-no (partnerKept P (stepOf s)) PartnerKept q _ _ (ask-no (atomKnown n (stepOf s)) AtomKnown q Fine v (λ z. let y : _≡_ {A = ℕ} 0 1 = cc in absurd (omega arith))))) e
+  shape-no q v e = ask-no (kindKnown (s .kind)) KindKnown q _ _ (ask-no (targetKept P (stepOf s)) TargetKept q _ _ (ask-no (partnerKept P (stepOf s)) PartnerKept q _ _ (ask-no (atomKnown n (stepOf s)) AtomKnown q _ _ (ask-no (atomMatches P (stepOf s)) AtomMatches q Fine v (λ z. let y : _≡_ {A = ℕ} 0 1 = cc in absurd (omega arith)))))) e
 
   shape-on : Shaped n P s → (v : Verdict) → v ≡ shapeOf n P s v
-  shape-on h v = shape-fine n P s v (known-kind (s .kind) (h .low) (h .high)) (h .target) (h .partner) (h .atom)
+  shape-on h v = shape-fine n P s v (known-kind (s .kind) (h .low) (h .high)) (h .target) (h .partner) (h .atom) (h .matches)
 
   pub applies-of : Shaped n P s → conditionHolds P (stepOf s) ≡ true → So (applies n P (stepOf s))
   unfolding applies
@@ -237,9 +264,11 @@ module _ {A : Type 0} (stop : StepQuestion → A) (go : A) where
       let t = targetKept P (stepOf s) in
       let p = partnerKept P (stepOf s) in
       let a = atomKnown n (stepOf s) in
+      let b = atomMatches P (stepOf s) in
       let c = conditionHolds P (stepOf s) in
-      ap (λ x. ask stop k KindKnown (ask stop t TargetKept (ask stop p PartnerKept (ask stop a AtomKnown (ask stop c ConditionHolds x))))) on-go
-      ∙ ap (λ x. ask stop k KindKnown (ask stop t TargetKept (ask stop p PartnerKept (ask stop a AtomKnown x)))) (ask-verdict c ConditionHolds Fine)
+      ap (λ x. ask stop k KindKnown (ask stop t TargetKept (ask stop p PartnerKept (ask stop a AtomKnown (ask stop b AtomMatches (ask stop c ConditionHolds x)))))) on-go
+      ∙ ap (λ x. ask stop k KindKnown (ask stop t TargetKept (ask stop p PartnerKept (ask stop a AtomKnown (ask stop b AtomMatches x))))) (ask-verdict c ConditionHolds Fine)
+      ∙ ap (λ x. ask stop k KindKnown (ask stop t TargetKept (ask stop p PartnerKept (ask stop a AtomKnown x)))) (ask-verdict b AtomMatches _)
       ∙ ap (λ x. ask stop k KindKnown (ask stop t TargetKept (ask stop p PartnerKept x))) (ask-verdict a AtomKnown _)
       ∙ ap (λ x. ask stop k KindKnown (ask stop t TargetKept x)) (ask-verdict p PartnerKept _)
       ∙ ap (ask stop k KindKnown) (ask-verdict t TargetKept _)
@@ -261,7 +290,8 @@ questions-all S stop n P k s go h g =
     (ask-both S stop (targetKept P s) TargetKept _ (h TargetKept)
     (ask-both S stop (partnerKept P s) PartnerKept _ (h PartnerKept)
     (ask-both S stop (atomKnown n s) AtomKnown _ (h AtomKnown)
-    (ask-both S stop (conditionHolds P s) ConditionHolds _ (h ConditionHolds) g))))
+    (ask-both S stop (atomMatches P s) AtomMatches _ (h AtomMatches)
+    (ask-both S stop (conditionHolds P s) ConditionHolds _ (h ConditionHolds) g)))))
 
 -- A step that no question is answered no of is applicable.
 pub fine-applies : (n : ℕ) (P : Marked) (s : Step) → Fine ≡ verdictAt n P s → So (applies n P (stepOf s))

@@ -1,11 +1,11 @@
--- One step: questions 12 to 16 of document 01, in its order.
+-- One step: questions 12 to 16 of document 01, with 29 of slip 1, in their order.
 use mathlib.Core.Bool.{Bool, _&&_}
 use Prim.Native.Nat.{ℕ}
 use lib.Dec.{leb}
 use Rattle.rewriting.specs.Marked.{Marked}
-use Rattle.rewriting.specs.Steps.{Step, targetKept, partnerKept, atomKnown, conditionHolds}
+use Rattle.rewriting.specs.Steps.{Step, targetKept, partnerKept, atomKnown, atomMatches, conditionHolds}
 use Rattle.answers.specs.declared.StepQuestion.{StepQuestion}
-use Rattle.answers.specs.declared.StepQuestion.the-variants.{KindKnown, TargetKept, PartnerKept, AtomKnown, ConditionHolds}
+use Rattle.answers.specs.declared.StepQuestion.the-variants.{KindKnown, TargetKept, PartnerKept, AtomKnown, AtomMatches, ConditionHolds}
 use Rattle.answers.specs.Answers.{ask}
 
 -- "12 Is the kind 1 to 8?"
@@ -14,14 +14,15 @@ kindKnown k = leb 1 k && leb k 8
 
 module _ {A : Type 0} where
   -- "13 Is the target below m and kept? 14 Is the partner below m, kept and another clause, or 0 where unused? 15 Is the atom below n, or 0
-  -- where unused?": the questions of a step s whose kind is the number k, and what follows them
+  -- where unused?" Slip 1: "Refusal 29 comes after 15". The questions of a step s whose kind is the number k, and what follows them
   unfoldable pub shapeQuestions : (StepQuestion → A) → ℕ → Marked → ℕ → Step → A → A
   unfolding ask
   shapeQuestions stop n P k s go =
       ask stop (kindKnown k) KindKnown
       (ask stop (targetKept P s) TargetKept
       (ask stop (partnerKept P s) PartnerKept
-      (ask stop (atomKnown n s) AtomKnown go)))
+      (ask stop (atomKnown n s) AtomKnown
+      (ask stop (atomMatches P s) AtomMatches go))))
 
   -- "16 Does the kind's condition hold?"
   unfoldable pub stepQuestions : (StepQuestion → A) → ℕ → Marked → ℕ → Step → A → A

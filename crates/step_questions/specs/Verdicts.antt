@@ -5,7 +5,7 @@ use mathlib.Core.List.{List}
 use Prim.Native.Nat.{ℕ, _≤_}
 use lib.ListN.{getD}
 use Rattle.rewriting.specs.Marked.{Marked}
-use Rattle.rewriting.specs.Steps.{targetKept, partnerKept, atomKnown}
+use Rattle.rewriting.specs.Steps.{targetKept, partnerKept, atomKnown, atomMatches}
 use Rattle.rewriting.specs.Kinds.{kindOf}
 use Rattle.table.specs.View.{view}
 use Rattle.table.specs.Effects.{marksAfter}
@@ -19,20 +19,21 @@ use Rattle.step_questions.specs.declared.Memo.{Memo}
 use Rattle.step_questions.specs.declared.Taken.{Taken}
 use Rattle.step_questions.specs.declared.Taken.the-variants.{Made, Not}
 
--- the verdict of a step given as words: questions 12 to 15 with what follows them, and the whole
+-- the verdict of a step given as words: questions 12 to 15 and 29 with what follows them, and the whole
 abbrev pub shapeOf : ℕ → Marked → Step → Verdict → Verdict
 shapeOf n P s v = shapeQuestions No n P (s .kind) (stepOf s) v
 
 abbrev pub verdictAt : ℕ → Marked → Step → Verdict
 verdictAt n P s = stepQuestions No n P (s .kind) (stepOf s) Fine
 
--- Questions 12 to 15 are answered yes.
+-- Questions 12 to 15 and 29 are answered yes.
 pub record Shaped (n : ℕ) (P : Marked) (s : Step) : Type 0 where
   pub low : 1 ≤ s .kind
   pub high : s .kind ≤ 8
   pub target : So (targetKept P (stepOf s))
   pub partner : So (partnerKept P (stepOf s))
   pub atom : So (atomKnown n (stepOf s))
+  pub matches : So (atomMatches P (stepOf s))
 
 -- what is known is right
 pub record Holding (ws ms hs rs : List ℕ) (m : Memo) : Type 0 where

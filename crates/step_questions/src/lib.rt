@@ -1,9 +1,10 @@
-// One step of a list: questions 12 to 16, then the step made; what is known of the program is kept from step to step.
+// One step of a list: questions 12 to 16 with 29 before 16, then the step made; what is known of the program is kept from step to step.
 ghost use mathlib.Core.Path.{_≡_};
 ghost use mathlib.Core.Bool.{_&&_};
 ghost use Prim.Native.Nat.{_≤_};
 ghost use lib.ListN.{length, getD};
-ghost use Rattle.rewriting.specs.Steps.{partnerKept, atomKnown, conditionHolds};
+ghost use mathlib.Core.Bool.{So};
+ghost use Rattle.rewriting.specs.Steps.{partnerKept, atomKnown, atomMatches, conditionHolds};
 ghost use Rattle.rewriting.specs.Kinds.{kindOf};
 ghost use Rattle.rewriting.specs.Uses.{drops};
 ghost use Rattle.rewriting.specs.Marked.{entry};
@@ -14,6 +15,8 @@ ghost use Rattle.step_questions.specs.Verdicts.{shapeOf, Shaped, Holding
 ghost use Rattle.step_questions.specs.declared.Verdict.the-variants.{Fine};
 use answers::StepQuestion;
 use step_conditions::Step;
+use step_parts::Part;
+use step_parts::Single;
 
 // What the questions of a step come to.
 pub enum Verdict {
@@ -33,7 +36,7 @@ pub enum Taken {
     Not(StepQuestion),
 }
 
-// ---- questions 12 to 15
+// ---- questions 12 to 15 and 29
 
 // Whether the clause of that number is there and kept.
 fn clause_kept(words: &[u16], marks: &[u8], index: &[u16], t: u16) -> bool
@@ -71,7 +74,23 @@ fn atom_known(words: &[u16], s: Step) -> bool
     s.atom < words[0]
 }
 
-// Questions 12 to 15.
+// Question 29: for kind 3, where the partner has exactly one head atom, whether the step names it.
+fn atom_matches(words: &[u16], marks: &[u8], index: &[u16], s: Step) -> bool
+    requires { ⌜ (Ready (now words) (now marks) (now index)) × (((1 ≤ s .kind) × (s .kind ≤ 8)) × So (partnerKept (view (now words) (now marks)) (stepOf s))) ⌝ }
+    ensures { λ r. ⌜ r ≡ atomMatches (view (now (words .entry)) (now (marks .entry))) (stepOf s) ⌝ }
+{
+    if s.kind != 3 {
+        return true;
+    }
+    let p = table::wide(s.partner);
+    let head = step_parts::only(words, marks, index, p, Part::Head);
+    match head {
+        Single::One(b) => s.atom == b,
+        Single::Other => true,
+    }
+}
+
+// Questions 12 to 15 and 29.
 fn shape(words: &[u16], marks: &[u8], index: &[u16], s: Step) -> Verdict
     requires { ⌜ Ready (now words) (now marks) (now index) ⌝ }
     ensures { λ r. ⌜ r ≡ shapeOf (getD (now (words .entry)) 0 0) (view (now (words .entry)) (now (marks .entry))) s Fine ⌝ }
@@ -91,6 +110,9 @@ fn shape(words: &[u16], marks: &[u8], index: &[u16], s: Step) -> Verdict
     }
     if !atom_known(words, s) {
         return Verdict::No(StepQuestion::AtomKnown);
+    }
+    if !atom_matches(words, marks, index, s) {
+        return Verdict::No(StepQuestion::AtomMatches);
     }
     Verdict::Fine
 }
@@ -149,7 +171,7 @@ fn known_after(memo: Memo, kind: u16) -> Memo
 
 // ---- a step
 
-// Question 16, once 12 to 15 are answered yes.
+// Question 16, once 12 to 15 and 29 are answered yes.
 fn condition_holds(
     words: &[u16],
     marks: &[u8],

@@ -14,7 +14,7 @@ use borrow.Author.Tests.{eqb-true, eqb-false, eq-eqb, ne-eqb}
 use Rattle.semantics.specs.Lists.{_∈_, count, bit, without}
 use Rattle.semantics.proofs.Tests.{and-iff, without-none}
 use Rattle.rewriting.specs.Marked.{Entry, entry, left}
-use Rattle.rewriting.specs.Steps.{Step, condition, applies, deleted, dropPos, dropNeg, leftBy, dropped, rewritten, effect}
+use Rattle.rewriting.specs.Steps.{Step, condition, applies, deleted, dropPos, dropNeg, leftBy, effect}
 use Rattle.rewriting.specs.Runs.{accepted, leaves}
 use Rattle.rewriting.specs.Kinds.{Deed, deletes, dropsPos, dropsNeg, rowOf}
 use Rattle.rewriting.proofs.Left.{kept-lt}
@@ -202,9 +202,9 @@ length-view w k = length-entries w k (getD w 1 0) 2
 module _ (w k : List ℕ) (p : Passed w) (long : length w ≤ length k) where
   -- the step's target, and its mark before and after
   pub at-step : (n : ℕ) (s : Step) → So (applies n (view w k) s)
-      → let o = startOf w (s .target) in let d = entry (view w k) (s .partner) .clause in
-      (s .target < getD w 1 0) × (entry (view w k) (s .target) ≡ entryAt w k o) × (o ≤ clears w (s .kind) o d (s .atom)) × (clears w (s .kind) o d (s .atom) < nextAt w o)
-      × (entryAt w (set k (clears w (s .kind) o d (s .atom)) 0) o ≡ rewritten (s .kind) (entryAt w k o .clause) d (s .atom)) × (getD k (clears w (s .kind) o d (s .atom)) 0 ≡ 1)
+      → let o = startOf w (s .target) in
+      (s .target < getD w 1 0) × (entry (view w k) (s .target) ≡ entryAt w k o) × (o ≤ clears w s) × (clears w s < nextAt w o)
+      × (entryAt w (set k (clears w s) 0) o ≡ leftBy (rowOf (s .kind) .deed) (s .atom) (entryAt w k o .clause)) × (getD k (clears w s) 0 ≡ 1)
   unfolding clears
   at-step n s h =
       let (x, y, z) = applies-ask n (view w k) s h in
@@ -212,7 +212,7 @@ module _ (w k : List ℕ) (p : Passed w) (long : length w ≤ length k) where
       let d = entry (view w k) (s .partner) .clause in
       let l : t < getD w 1 0 = omega (arith, kept-lt (view w k) t x, length-view w k) in
       let e = entry-view w k t l in
-      let r = cleared w k (getD w 0 0) (startOf w t) (passed-good w p t l) long (subst (λ c. So (c .kept)) e x) (rowOf (s .kind) .deed) (dropped (s .kind) d (s .atom))
+      let r = cleared w k (getD w 0 0) (startOf w t) (passed-good w p t l) long (subst (λ c. So (c .kept)) e x) (rowOf (s .kind) .deed) (s .atom)
       (drops-there (left (view w k)) _ d (s .atom) (s .kind) (subst (λ c. So (condition (s .kind) (left (view w k)) (c .clause) d (s .atom))) e z)) in
       (l, e, r .0, r .1, r .2, r .3)
 
@@ -221,18 +221,18 @@ module _ (w k : List ℕ) (p : Passed w) (long : length w ≤ length k) where
   unfolding view marksAfter effect
   view-after n s h =
       let (l, e, x, y, z, v) = at-step n s h in
-      entriesFrom-set w k (clears w (s .kind) (startOf w (s .target)) (entry (view w k) (s .partner) .clause) (s .atom)) 0 (getD w 1 0) 2 (s .target) x y l
-      ∙ ap (λ c. set (view w k) (s .target) c) (z ∙ ap (λ c. rewritten (s .kind) (c .clause) (entry (view w k) (s .partner) .clause) (s .atom)) (sym e))
+      entriesFrom-set w k (clears w s) 0 (getD w 1 0) 2 (s .target) x y l
+      ∙ ap (λ c. set (view w k) (s .target) c) (z ∙ ap (λ c. leftBy (rowOf (s .kind) .deed) (s .atom) (c .clause)) (sym e))
 
   -- The mark was 1, so the marks at 0 are one more.
   pub zeros-after : (n : ℕ) (s : Step) → So (applies n (view w k) s) → zeros w (marksAfter w k s) ≡ suc (zeros w k)
   unfolding marksAfter
   zeros-after n s h =
       let (l, e, x, y, z, v) = at-step n s h in
-      zeros-set w k (clears w (s .kind) (startOf w (s .target)) (entry (view w k) (s .partner) .clause) (s .atom)) (omega (arith, passed-good w p (s .target) l .fits)) long v
+      zeros-set w k (clears w s) (omega (arith, passed-good w p (s .target) l .fits)) long v
 
   -- The mark is one of the table's.
-  pub clears-lt : (n : ℕ) (s : Step) → So (applies n (view w k) s) → clears w (s .kind) (startOf w (s .target)) (entry (view w k) (s .partner) .clause) (s .atom) < length w
+  pub clears-lt : (n : ℕ) (s : Step) → So (applies n (view w k) s) → clears w s < length w
   clears-lt n s h = let (l, e, x, y, z, v) = at-step n s h in omega (arith, passed-good w p (s .target) l .fits)
 
 -- ---- a list of steps on the marks

@@ -1,5 +1,5 @@
-//! Checking a list: 9, 11, then 12 to 16 step by step.
-use super::steps::{has_partner, Left, Step};
+//! Checking a list: 9, 11, then 12 to 15, 29 and 16 step by step.
+use super::steps::{has_atom, has_partner, Left, Step};
 use super::table::Table;
 use super::{ask, Answer, Refused};
 
@@ -24,7 +24,7 @@ fn check_on(words: &[u16], marks: &mut [u8], list: &[u16]) -> Answer {
     Ok(list.len() as u64 / 4)
 }
 
-/// Questions 12 to 16 of one step.
+/// Questions 12 to 15, 29 and 16 of one step.
 pub fn questions(left: &Left, step: Step, number: usize) -> Result<(), Refused> {
     ask((1..=8).contains(&step.kind), 12, number)?;
     ask(left.kept(step.target).is_some(), 13, number)?;
@@ -33,10 +33,11 @@ pub fn questions(left: &Left, step: Step, number: usize) -> Result<(), Refused> 
         false => step.partner == 0,
     };
     ask(partner_is_right, 14, number)?;
-    let atom_is_right = match has_partner(step.kind) {
-        true => step.atom == 0,
-        false => step.atom < left.atoms,
+    let atom_is_right = match has_atom(step.kind) {
+        true => step.atom < left.atoms,
+        false => step.atom == 0,
     };
     ask(atom_is_right, 15, number)?;
+    ask(left.atom_matches(step), 29, number)?;
     ask(left.condition(step), 16, number)
 }

@@ -21,9 +21,14 @@ impl Step {
     }
 }
 
-/// "kinds 3, 5, 8 no atom word", "Kinds 1, 2, 4, 6, 7 have no partner word"
+/// "Kinds 1, 2, 4, 6, 7 have no partner word"
 pub fn has_partner(kind: u16) -> bool {
     matches!(kind, 3 | 5 | 8)
+}
+
+/// "kinds 3, 5, 8 no atom word"; slip 1: "The atom word of kind 3 now holds that atom"
+pub fn has_atom(kind: u16) -> bool {
+    !matches!(kind, 5 | 8)
 }
 
 /// The program as left at one moment.
@@ -75,7 +80,7 @@ impl Left {
         match step.kind {
             1 => target.head.contains(atom) && target.pos.contains(atom),
             2 => target.pos.contains(atom) && target.neg.contains(atom),
-            3 => partner(&|fact| fact.is_fact() && fact.head.len() == 1 && fact.head.is_subset(&target.pos)),
+            3 => partner(&|fact| fact.is_fact() && fact.head == Set::from([*atom]) && target.pos.contains(atom)),
             4 => target.neg.contains(atom) && self.in_no_head(*atom),
             5 => partner(&|fact| fact.is_fact() && fact.head.is_subset(&target.neg)),
             6 => target.pos.contains(atom) && self.in_no_head(*atom),
@@ -89,14 +94,21 @@ impl Left {
         }
     }
 
-    /// The words that may stand behind kind and target.
+    /// Slip 1, question 29: a no "for kind 3 only, where the partner's head as left is one atom and the word differs from it".
+    pub fn atom_matches(&self, step: Step) -> bool {
+        let head = |partner: &Clause| partner.head.len() == 1 && !partner.head.contains(&step.atom);
+        step.kind != 3 || !self.kept(step.partner).is_some_and(head)
+    }
+
+    /// The words that may stand behind kind and target. A success names an atom of its partner's head.
     pub fn choices(&self, kind: u16, target: u16) -> Vec<Step> {
-        if has_partner(kind) {
-            let others = (0..self.clauses.len() as u16).filter(|&partner| partner != target);
-            others.map(|partner| Step::new(kind, target, partner, 0)).collect()
-        } else {
-            (0..self.atoms).map(|atom| Step::new(kind, target, 0, atom)).collect()
-        }
+        let partners = if has_partner(kind) { 0..self.clauses.len() as u16 } else { 0..1 };
+        let others = partners.filter(|&partner| !has_partner(kind) || partner != target);
+        let atoms = |partner: u16| match kind {
+            3 => self.kept(partner).map_or(Vec::new(), |fact| fact.head.iter().copied().collect()),
+            _ => (0..if has_atom(kind) { self.atoms } else { 1 }).collect(),
+        };
+        others.flat_map(|partner| atoms(partner).into_iter().map(move |atom| Step::new(kind, target, partner, atom))).collect()
     }
 
     /// The mark that a step clears: of the clause's first word, or of the literal dropped.
@@ -105,7 +117,7 @@ impl Left {
         let literal =
             |part: &std::ops::Range<usize>, atom: u16| part.clone().find(|&i| table.words[i] == atom).unwrap();
         match step.kind {
-            3 => literal(&span.pos, *self.kept(step.partner).unwrap().head.first().unwrap()),
+            3 => literal(&span.pos, step.atom),
             4 => literal(&span.neg, step.atom),
             _ => span.first,
         }

@@ -38,6 +38,16 @@ fn any_step(random: &mut Random, table: &[u16]) -> Step {
     Step::new(kind, target, partner, atom)
 }
 
+/// A success that applies, with 0, which was the filler of its word, or any atom in the place of its own.
+fn renamed(random: &mut Random, left: &Left) -> Option<Step> {
+    let successes: Vec<Step> = applicable(left).into_iter().filter(|step| step.kind == 3).collect();
+    if successes.is_empty() {
+        return None;
+    }
+    let atom = if random.once_in(2) { 0 } else { random.upto(usize::from(left.atoms)) as u16 };
+    Some(Step { atom, ..random.pick(&successes) })
+}
+
 /// Steps that apply, each picked among all or the smallest; then, at times, one that is off by a word, and more.
 fn half_right(random: &mut Random, table: &Table) -> Vec<u16> {
     let mut marks = vec![1; table.words.len()];
@@ -53,8 +63,9 @@ fn half_right(random: &mut Random, table: &Table) -> Vec<u16> {
         marks[left.cleared(table, step)] = 0;
         list.extend(step.words());
     }
-    match random.upto(3) {
+    match random.upto(4) {
         0 => list.extend(any_step(random, table.words).words()),
+        2 => list.extend(renamed(random, &Left::new(table, &marks)).iter().flat_map(Step::words)),
         1 if !list.is_empty() => {
             let place = random.upto(list.len() - 1);
             list[place] = random.pick(&[list[place].wrapping_add(1), list[place].wrapping_sub(1), 0, 1, 65535]);

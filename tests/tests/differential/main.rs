@@ -63,7 +63,7 @@ fn report(tally: &Tally) {
     }
     println!("steps made by kind: {:?}", &tally.made[1..]);
     assert!(tally.made[1..].iter().all(|&steps| steps > 0), "a kind of step was never made");
-    let never: Vec<usize> = (1..=28).filter(|&number| tally.met[number] == 0).collect();
+    let never: Vec<usize> = (1..=29).filter(|&number| tally.met[number] == 0).collect();
     assert!(never.is_empty(), "questions never met: {never:?}");
     assert!(tally.cases >= 200_000, "too few cases");
     println!("differential tests: ok");

@@ -4,13 +4,14 @@ use native.Mathlib.Omega.{arith}
 use Rattle.rewriting.specs.Marked.{entry}
 use Rattle.table.specs.View.{view}
 use Rattle.search_partners.specs.Stamps.{isStamped}
-use Rattle.search_partners.proofs.Fits.{single-other, single-is, single-below}
+use Rattle.step_conditions.proofs.Tests.{single-other}
+use Rattle.search_partners.proofs.Fits.{single-is, single-below}
 use borrow.Author.Needs.{needs}
 use Rattle.search_partners.proofs.single_stamped.Statement.{statement}
 use Rattle.search_partners.proofs.single_stamped.Tie as tie
 
 returns : tie.Need-returns
-returns c = single-other (isStamped (c .before .before .before .before .before .before .before .args .stamps .now) 1024) (entry (view (c .before .before .before .before .before .before .before .args .words .now) (c .before .before .before .before .before .before .before .args .marks .now)) (c .before .before .before .before .before .before .before .args .p) .clause .head) (sym (c .before .before .only .ensures) ∙ c .enum-told .given .1)
+returns c = sym (single-other (isStamped (c .before .before .before .before .before .before .before .args .stamps .now) 1024) (entry (view (c .before .before .before .before .before .before .before .args .words .now) (c .before .before .before .before .before .before .before .args .marks .now)) (c .before .before .before .before .before .before .before .args .p) .clause .head) (sym (c .before .before .only .ensures) ∙ c .enum-told .given .1))
 
 shared-slice-read-result : tie.Need-shared-slice-read-result
 shared-slice-read-result c = let b = single-below _ _ (c .before .before .before .before .before .before .before .before .before .before .pre .0 .placed .passed) _ _ (sym (c .before .before .before .before .before .only .ensures) ∙ c .before .before .before .only2 .given .1) in omega (arith, c .before .wide .ensures, c .before .before .before .before .before .before .before .before .before .before .pre .1 .1)

@@ -24,7 +24,7 @@ unfolding condition
 returns-2 c = rw (c .before .match .keys2) (c .in-both2 .ensures)
 
 returns-3 : tie.Need-returns-3
-returns-3 c = rw (c .before .match .keys3) (c .success-holds .ensures (c .before .before .before .before .before .before .before .args .atom))
+returns-3 c = rw (c .before .match .keys3) (c .success-holds .ensures)
 
 returns-4 : tie.Need-returns-4
 unfolding condition

@@ -1,0 +1,69 @@
+-- Examples of document 02, slip by slip, as one table, computed from the definitions that the calls' contracts cite. Each value is worked out by hand.
+use mathlib.Core.Path.{refl}
+use mathlib.Core.List.{List, [], _∷_}
+use Prim.Native.Nat.{ℕ}
+use lib.ListN.{length, replicate}
+use Rattle.rewriting.specs.Marked.{left}
+use Rattle.rewriting.specs.Reaches.{fire, reachFrom, reach}
+use Rattle.rewriting.specs.Steps.{inNoHead, condition, conditionHolds, applies, effect}
+use Rattle.rewriting.specs.Search.{least, firstAtom, firstPartner, firstTarget, firstStep, reduce}
+use Rattle.answers.specs.Answers.{ask}
+use Rattle.table.specs.StepWords.{wordsOf}
+use Rattle.table.specs.Questions as questions
+use Rattle.table.specs.Places.{startFrom}
+use Rattle.table.specs.Programs.{clausesOf, programOf}
+use Rattle.table.specs.View.{part, entryAt, entriesFrom, view}
+use Rattle.table.specs.Effects.{find, clears, marksAfter, marksAfterAll}
+use Rattle.step_lists.specs.Lists as lists
+use Rattle.step_questions.specs.Questions as steps
+use Rattle.reducer_results.specs.Reductions as reductions
+use Rattle.claims.proofs.Said.{Example, Said, row, writes, value, refusal, checkCall, AllSay}
+
+-- a list checked on a table
+abbrev checks : List ℕ → List ℕ → Said → Example
+checks ws l s = row (checkCall ws (replicate (length ws) 1) l) s
+
+-- 1. 0 <- 1., with two atoms
+abbrev success : List ℕ
+success = 2 ∷ 2 ∷ 1 ∷ 0 ∷ 0 ∷ 1 ∷ 1 ∷ 1 ∷ 0 ∷ 0 ∷ 1 ∷ []
+
+-- 0 <- 1. 2 <- 0.: the first clause has one head atom and is no fact
+abbrev rules : List ℕ
+rules = 3 ∷ 2 ∷ 1 ∷ 1 ∷ 0 ∷ 0 ∷ 1 ∷ 1 ∷ 1 ∷ 0 ∷ 2 ∷ 0 ∷ []
+
+-- 0|1. 2 <- 0.
+abbrev disjunctive : List ℕ
+disjunctive = 3 ∷ 2 ∷ 2 ∷ 0 ∷ 0 ∷ 0 ∷ 1 ∷ 1 ∷ 1 ∷ 0 ∷ 2 ∷ 0 ∷ []
+
+abbrev pub rows : List Example
+rows =
+    -- Slip 1. "The atom word of kind 3 now holds that atom", and "Lists with the old filler pass only where the atom is 0": 0. 1 <- 0.
+    checks (2 ∷ 2 ∷ 1 ∷ 0 ∷ 0 ∷ 0 ∷ 1 ∷ 1 ∷ 0 ∷ 1 ∷ 0 ∷ []) (3 ∷ 1 ∷ 0 ∷ 0 ∷ []) (value 1)
+    -- "29 .. where the partner's head as left is one atom and the word differs from it"; the reducer writes the atom
+    ∷ checks success (3 ∷ 1 ∷ 0 ∷ 0 ∷ []) (refusal 29 0)
+    ∷ checks success (3 ∷ 1 ∷ 0 ∷ 1 ∷ []) (value 1)
+    ∷ writes success (3 ∷ 1 ∷ 0 ∷ 1 ∷ [])
+    -- a partner with one head atom that is no fact: with another atom 29, with its own 16
+    ∷ checks rules (3 ∷ 1 ∷ 0 ∷ 1 ∷ []) (refusal 29 0)
+    ∷ checks rules (3 ∷ 1 ∷ 0 ∷ 0 ∷ []) (refusal 16 0)
+    -- a fact with two head atoms, or none, passes 29 with any atom, and fails 16; the last: the empty clause, then 0 <- 1.
+    ∷ checks disjunctive (3 ∷ 1 ∷ 0 ∷ 0 ∷ []) (refusal 16 0)
+    ∷ checks disjunctive (3 ∷ 1 ∷ 0 ∷ 2 ∷ []) (refusal 16 0)
+    ∷ checks (2 ∷ 2 ∷ 0 ∷ 0 ∷ 0 ∷ 1 ∷ 1 ∷ 0 ∷ 0 ∷ 1 ∷ []) (3 ∷ 1 ∷ 0 ∷ 1 ∷ []) (refusal 16 0)
+    -- the fact's atom, which the target's body lacks: 1. 0 <- 0.
+    ∷ checks (2 ∷ 2 ∷ 1 ∷ 0 ∷ 0 ∷ 1 ∷ 1 ∷ 1 ∷ 0 ∷ 0 ∷ 0 ∷ []) (3 ∷ 1 ∷ 0 ∷ 1 ∷ []) (refusal 16 0)
+    -- "question 15 treats it as used", and 29 "comes after 15", which comes after 14: an atom that is not below n; with n = 0 any
+    ∷ checks success (3 ∷ 1 ∷ 0 ∷ 2 ∷ []) (refusal 15 0)
+    ∷ checks (0 ∷ 2 ∷ 0 ∷ 0 ∷ 0 ∷ 0 ∷ 0 ∷ 0 ∷ []) (3 ∷ 0 ∷ 1 ∷ 0 ∷ []) (refusal 15 0)
+    ∷ checks success (3 ∷ 1 ∷ 1 ∷ 0 ∷ []) (refusal 14 0)
+    -- "for kind 3 only": the partner 1. of kinds 5 and 8, whose atom word is 0: 1. 0 <- ~1., and 1. 1.
+    ∷ checks (2 ∷ 2 ∷ 1 ∷ 0 ∷ 0 ∷ 1 ∷ 1 ∷ 0 ∷ 1 ∷ 0 ∷ 1 ∷ []) (5 ∷ 1 ∷ 0 ∷ 0 ∷ []) (value 1)
+    ∷ checks (2 ∷ 2 ∷ 1 ∷ 0 ∷ 0 ∷ 1 ∷ 1 ∷ 0 ∷ 0 ∷ 1 ∷ []) (8 ∷ 0 ∷ 1 ∷ 0 ∷ []) (value 1)
+    -- its place is the step's number: 0. 1. 2 <- 0, 1.
+    ∷ checks (3 ∷ 3 ∷ 1 ∷ 0 ∷ 0 ∷ 0 ∷ 1 ∷ 0 ∷ 0 ∷ 1 ∷ 1 ∷ 2 ∷ 0 ∷ 2 ∷ 0 ∷ 1 ∷ []) (3 ∷ 2 ∷ 0 ∷ 0 ∷ 3 ∷ 2 ∷ 1 ∷ 0 ∷ []) (refusal 29 1)
+    ∷ writes (3 ∷ 3 ∷ 1 ∷ 0 ∷ 0 ∷ 0 ∷ 1 ∷ 0 ∷ 0 ∷ 1 ∷ 1 ∷ 2 ∷ 0 ∷ 2 ∷ 0 ∷ 1 ∷ []) (3 ∷ 2 ∷ 0 ∷ 0 ∷ 3 ∷ 2 ∷ 1 ∷ 1 ∷ [])
+    ∷ []
+
+pub requests : AllSay rows
+unfolding left fire reachFrom reach inNoHead condition conditionHolds applies effect least firstAtom firstPartner firstTarget firstStep reduce ask questions.atomsFrom questions.partsFrom questions.clauseFrom questions.clausesFrom questions.allUsed questions.tableOf startFrom clausesOf programOf part entryAt entriesFrom view find clears marksAfter marksAfterAll steps.shapeQuestions steps.stepQuestions lists.stepsFrom lists.checkList wordsOf reductions.bodyLiterals reductions.room reductions.stepsOf reductions.reduction questions.onWalk questions.onTable
+requests = (refl, (refl, (refl, ((refl, refl), (refl, (refl, (refl, (refl, (refl, (refl, (refl, (refl, (refl, (refl, (refl, (refl, ((refl, refl), tt)))))))))))))))))

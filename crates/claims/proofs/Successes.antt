@@ -1,0 +1,72 @@
+-- Slip 1 of document 02, "Success steps name their atom", of every list of steps: what a success that is taken names, and which steps 29 refuses.
+use mathlib.Core.Path.{_≡_, refl, sym, ap, subst, _∙_}
+use mathlib.Core.Logic.{_↔_, _≢_}
+use mathlib.Core.Bool.{Bool, true, false, So}
+use mathlib.Core.List.{List, [], _∷_}
+use mathlib.Core.Option.{Option, none, some}
+use Prim.Native.Nat.{ℕ, _*_, _/_, _<_}
+use native.Mathlib.Omega.{arith}
+use lib.ListN.{length, getD, take}
+use Rattle.semantics.specs.Lists.{_∈_}
+use Rattle.rewriting.specs.Marked.{Marked, entry, left}
+use Rattle.rewriting.specs.Kinds.{success, rowOf, number, kindOf}
+use Rattle.rewriting.specs.Steps.{Step, fact, targetKept, partnerKept, atomKnown, atomMatches, condition, conditionHolds, applies, dropPos, leftBy, effect}
+use Rattle.rewriting.proofs.Rows.{kindOf-number, succeeds, matches-no}
+use Rattle.rewriting.proofs.Effect.{asks, at-target}
+use Rattle.answers.specs.declared.StepQuestion.{StepQuestion}
+use Rattle.answers.specs.declared.StepQuestion.the-variants.{AtomMatches, ConditionHolds}
+use Rattle.answers.specs.Answers.{ask}
+use Rattle.table.specs.StepWords.{kindAt, stepAt}
+use Rattle.table.specs.View.{view}
+use Rattle.step_questions.specs.Questions.{kindKnown, shapeQuestions, stepQuestions}
+use Rattle.step_questions.proofs.Laws.{fine-applies}
+use Rattle.step_lists.specs.Lists.{checkList}
+use Rattle.step_lists.specs.Leaves.{wordsAt}
+use Rattle.claims.proofs.Said.{IsTaken, checkCall, firstNo}
+use Rattle.claims.proofs.Demand1.{check-taken}
+use Rattle.claims.proofs.Steps.{none-fine}
+
+-- what a success names and does
+pub record Named (P : Marked) (s : Step) : Type 0 where
+  -- "the partner is a fact with exactly one head atom": "The atom word of kind 3 now holds that atom"
+  pub isFact : So (fact (entry P (s .partner) .clause))
+  pub head : entry P (s .partner) .clause .head ≡ s .atom ∷ []
+  -- "which is in the target's positive body; drop it there"
+  pub there : s .atom ∈ entry P (s .target) .clause .pos
+  pub drops : entry (effect P s) (s .target) ≡ dropPos (s .atom) (entry P (s .target) .clause)
+
+pub success-named : (n : ℕ) (P : Marked) (s : Step) → s .kind ≡ success → So (applies n P s) → Named P s
+success-named n P s k h =
+    let w = succeeds (left P) (entry P (s .target) .clause) (entry P (s .partner) .clause) (s .atom) (subst (λ j. So (condition j (left P) (entry P (s .target) .clause) (entry P (s .partner) .clause) (s .atom))) k (asks n P s h)) in
+    record { isFact = w .isFact; head = w .head; there = w .there; drops = at-target n P s h ∙ ap (λ j. leftBy (rowOf j .deed) (s .atom) (entry P (s .target) .clause)) k }
+
+-- Every success of a list that is taken names its atom, on the program that the steps before it leave: whoever wrote the list. "Lists with the old filler pass only
+-- where the atom is 0": a success with 0 has a partner whose head is 0.
+pub successes-named : (ws ms ls : List ℕ) → IsTaken (checkCall ws ms ls) → (k : ℕ) → k < length ls / 4 → stepAt ls k .kind ≡ success → Named (view ws (checkList ws ms (take (4 * k) ls) .marks)) (stepAt ls k)
+successes-named ws ms ls h k l e =
+    let y = check-taken ws ms ls .0 h .3 k l in
+    let before = checkList ws ms (take (4 * k) ls) .marks in
+    success-named (getD ws 0 0) (view ws before) (stepAt ls k) e (fine-applies (getD ws 0 0) (view ws before) (wordsAt ls k) (sym (none-fine ws before ls k .0 y)))
+
+-- "Refusal 29 comes after 15, for kind 3 only, where the partner's head as left is one atom and the word differs from it": of a step that 12 to 15 let through,
+-- 29 is the first no exactly there.
+pub said-29 : (ws ms ls : List ℕ) (k : ℕ) → let P = view ws ms in let s = stepAt ls k in
+    So (kindKnown (kindAt ls k)) → So (targetKept P s) → So (partnerKept P s) → So (atomKnown (getD ws 0 0) s)
+    → (firstNo ws ms ls k ≡ some AtomMatches) ↔ ((s .kind ≡ success) × (b : ℕ) × (entry P (s .partner) .clause .head ≡ b ∷ []) × (s .atom ≢ b))
+unfolding stepQuestions shapeQuestions ask
+said-29 ws ms ls k a b c d =
+    let P = view ws ms in
+    let s = stepAt ls k in
+    let e : firstNo ws ms ls k ≡ then (atomMatches P s) (conditionHolds P s) = rw (a, b, c, d) in
+    let m = matches-no P s in (
+      λ h. let w = m .0 (no (atomMatches P s) (conditionHolds P s) (sym e ∙ h)) in (sym (kindOf-number (s .kind)) ∙ ap kindOf (w .0), w .1, w .2, w .3),
+      λ w. e ∙ ap (λ x. then x (conditionHolds P s)) (m .1 (ap number (w .0), w .1, w .2, w .3)),
+    )
+  where
+    then : Bool → Bool → Option StepQuestion
+    then x y = ask some x AtomMatches (ask some y ConditionHolds none)
+
+    no : (x y : Bool) → then x y ≡ some AtomMatches → x ≡ false
+    no false y h = refl
+    no true true h = let z : _≡_ {A = ℕ} 0 1 = cc in absurd (omega arith)
+    no true false h = let z : _≡_ {A = ℕ} 0 1 = cc in absurd (omega arith)
