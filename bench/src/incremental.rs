@@ -1,7 +1,7 @@
 //! The two reducers in C, `incremental.c` tuned and plain, compared with document 01's literal implementation before anything is measured.
-use gambrolt_tests::make::programs::{program, Size, MIDDLE, SMALL, TINY};
 use gambrolt_tests::independent::program::words;
 use gambrolt_tests::independent::reduce;
+use gambrolt_tests::make::programs::{program, Size, MIDDLE, SMALL, TINY};
 use gambrolt_tests::random::Random;
 
 extern "C" {

@@ -5,8 +5,8 @@ mod calls;
 mod incremental;
 mod timing;
 
-use gambrolt_tests::make::shapes::{Shape, SHAPES};
 use gambrolt_tests::independent::program::{words, Clause, Program};
+use gambrolt_tests::make::shapes::{Shape, SHAPES};
 use gambrolt_tests::rescan::Reducer;
 use timing::{best, best_by_turns, once};
 

@@ -1,6 +1,6 @@
 //! One call of the library beside document 01: the same answer, and the same memory afterwards.
-use crate::library;
 use crate::independent::{self, Answer, Refused};
+use crate::library;
 use std::fmt::Debug;
 
 /// How many calls were compared, how often each question refused one, and how many steps of each kind were made.
@@ -24,13 +24,23 @@ impl Tally {
     }
 
     /// Compares what a call gave with what document 01 says, both with all memory that was lent for writing.
-    fn same<M: PartialEq>(&mut self, input: &dyn Debug, answer: Answer, independent: M, given: u64, library: M) -> Answer {
+    fn same<M: PartialEq>(
+        &mut self,
+        input: &dyn Debug,
+        answer: Answer,
+        independent: M,
+        given: u64,
+        library: M,
+    ) -> Answer {
         self.cases += 1;
         if let Err(refused) = answer {
             self.met[refused.number as usize] += 1;
         }
         assert!(given == code(answer), "{input:?}\nanswer {:x}, document 01 has {answer:?}", given);
-        assert!(library == independent, "{input:?}\nthe memory afterwards is not document 01's; the answer {answer:?} is");
+        assert!(
+            library == independent,
+            "{input:?}\nthe memory afterwards is not document 01's; the answer {answer:?} is"
+        );
         answer
     }
 

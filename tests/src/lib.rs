@@ -3,8 +3,8 @@
 #![deny(warnings)]
 
 pub mod compare;
+pub mod independent;
 pub mod library;
 pub mod make;
-pub mod independent;
 pub mod random;
 pub mod rescan;

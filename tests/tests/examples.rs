@@ -1,11 +1,11 @@
 //! Document 01's examples, asked of the library: those that are run and compared, with the values that it gives.
 #![deny(warnings)]
 use gambrolt_tests::compare::Tally;
-use gambrolt_tests::library;
-use gambrolt_tests::make::shapes::SHAPES;
 use gambrolt_tests::independent::program::{parse, words, Clause, Program};
 use gambrolt_tests::independent::table::Table;
 use gambrolt_tests::independent::{Answer, Refused};
+use gambrolt_tests::library;
+use gambrolt_tests::make::shapes::SHAPES;
 use gambrolt_tests::rescan::Reducer;
 
 fn refused(number: u64, place: u64) -> Answer {

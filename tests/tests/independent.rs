@@ -134,7 +134,12 @@ fn a_success_names_its_atom() {
 /// The steps that the reducer chooses among are those that the questions let through, of all four words near the program's.
 #[test]
 fn choices_are_all_that_pass() {
-    for program in ["1. 0 <- 1. 0|1. 0 <- 0, ~1. <- .", "0. 0 <- 0, 1, ~2. 1 <- ~0. 2 <- 2.", "<- 1. 1 <- 2, ~1. 2 <- 1. 2.", "0|2. 1 <- 0, 2. 0 <- 1."] {
+    for program in [
+        "1. 0 <- 1. 0|1. 0 <- 0, ~1. <- .",
+        "0. 0 <- 0, 1, ~2. 1 <- ~0. 2 <- 2.",
+        "<- 1. 1 <- 2, ~1. 2 <- 1. 2.",
+        "0|2. 1 <- 0, 2. 0 <- 1.",
+    ] {
         let words = words(&parse(3, program));
         let table = table::Table::read(&words).unwrap();
         let left = Left::new(&table, &vec![1; words.len()]);

@@ -2,8 +2,8 @@
 //! the library give the same, in all of the memory that is lent to them.
 #![deny(warnings)]
 use gambrolt_tests::compare::Tally;
-use gambrolt_tests::library;
 use gambrolt_tests::independent::{Answer, Refused};
+use gambrolt_tests::library;
 
 fn refused(number: u64, place: u64) -> Answer {
     Err(Refused { number, place })

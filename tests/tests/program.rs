@@ -1,9 +1,9 @@
 //! The program `reduce`, run on texts: it prints what document 01's literal implementation gives. It is run as the Rattle program, which has no status to give,
 //! and with the exit status that `reduce/main.c` gives it.
 #![deny(warnings)]
+use gambrolt_tests::independent::filter::output;
 use gambrolt_tests::make::programs::any_size;
 use gambrolt_tests::make::texts;
-use gambrolt_tests::independent::filter::output;
 use gambrolt_tests::random::Random;
 use std::io::Write;
 use std::process::{Command, Stdio};

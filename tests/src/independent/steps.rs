@@ -96,8 +96,8 @@ impl Left {
 
     /// Slip 1, question 29: a no "for kind 3 only, where the partner's head as left is one atom and the word differs from it".
     pub fn atom_matches(&self, step: Step) -> bool {
-        let head = |partner: &Clause| partner.head.len() == 1 && !partner.head.contains(&step.atom);
-        step.kind != 3 || !self.kept(step.partner).is_some_and(head)
+        let differs = |partner: &Clause| partner.head.len() == 1 && !partner.head.contains(&step.atom);
+        step.kind != 3 || !self.kept(step.partner).is_some_and(differs)
     }
 
     /// The words that may stand behind kind and target. A success names an atom of its partner's head.
@@ -108,7 +108,9 @@ impl Left {
             3 => self.kept(partner).map_or(Vec::new(), |fact| fact.head.iter().copied().collect()),
             _ => (0..if has_atom(kind) { self.atoms } else { 1 }).collect(),
         };
-        others.flat_map(|partner| atoms(partner).into_iter().map(move |atom| Step::new(kind, target, partner, atom))).collect()
+        others
+            .flat_map(|partner| atoms(partner).into_iter().map(move |atom| Step::new(kind, target, partner, atom)))
+            .collect()
     }
 
     /// The mark that a step clears: of the clause's first word, or of the literal dropped.

@@ -1,10 +1,10 @@
 //! Tables of all sizes, up to full, of the shapes that are hard for some way of reducing.
 use gambrolt_tests::compare::Tally;
-use gambrolt_tests::library;
-use gambrolt_tests::make::shapes::Shape;
 use gambrolt_tests::independent::reduce::smallest;
 use gambrolt_tests::independent::steps::Left;
 use gambrolt_tests::independent::table::Table;
+use gambrolt_tests::library;
+use gambrolt_tests::make::shapes::Shape;
 use std::time::Instant;
 
 /// Small tables of a shape step by step; larger ones at some of their steps.

@@ -1,11 +1,11 @@
 //! The test of a set, and the stable models before and after.
 use gambrolt_tests::compare::Tally;
-use gambrolt_tests::make::programs::{any_size, program, Size, TINY};
-use gambrolt_tests::make::{lists, marks, sets, tables};
 use gambrolt_tests::independent::program::{words, Clause};
 use gambrolt_tests::independent::stable::models;
 use gambrolt_tests::independent::table::Table;
 use gambrolt_tests::independent::Refused;
+use gambrolt_tests::make::programs::{any_size, program, Size, TINY};
+use gambrolt_tests::make::{lists, marks, sets, tables};
 use gambrolt_tests::random::Random;
 
 pub fn tested(random: &mut Random, tally: &mut Tally) {

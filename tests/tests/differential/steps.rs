@@ -1,8 +1,8 @@
 //! Lists of steps: checked, and made by the reducer.
 use gambrolt_tests::compare::Tally;
+use gambrolt_tests::independent::table::Table;
 use gambrolt_tests::make::programs::{any_size, Size, MIDDLE};
 use gambrolt_tests::make::{lists, marks, tables};
-use gambrolt_tests::independent::table::Table;
 use gambrolt_tests::random::Random;
 
 pub fn checked(random: &mut Random, tally: &mut Tally) {

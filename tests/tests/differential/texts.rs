@@ -1,8 +1,8 @@
 //! Texts, read and written.
 use gambrolt_tests::compare::Tally;
+use gambrolt_tests::independent::program::Clause;
 use gambrolt_tests::make::programs::{any_size, MIDDLE, SMALL, TINY};
 use gambrolt_tests::make::{tables, texts};
-use gambrolt_tests::independent::program::Clause;
 use gambrolt_tests::random::Random;
 
 pub fn read(random: &mut Random, tally: &mut Tally) {
