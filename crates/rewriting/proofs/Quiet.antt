@@ -33,8 +33,8 @@ abbrev pub key : Step → ℕ
 key u = cond (usesPartner (u .kind)) (u .partner) (u .atom)
 
 -- the key of a step with a partner is the partner
-pub key-partner : (P : Marked) (k : Kind) (t p : ℕ) → So (usesPartner k) → key (stepWith P k t p) ≡ p
-key-partner P k t p u = ap (λ b. cond b p (partnerAtom k (entry P p .clause))) u
+pub key-with : (P : Marked) (k : Kind) (t p : ℕ) → So (usesPartner k) → key (stepWith P k t p) ≡ p
+key-with P k t p u = ap (λ b. cond b p (partnerAtom k (entry P p .clause))) u
 
 -- nothing that is 0 in the second was more in the first
 abbrev pub Raised : (ℕ → ℕ) → (ℕ → ℕ) → Type 0

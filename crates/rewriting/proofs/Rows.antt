@@ -88,10 +88,10 @@ pub partner-scope : (k : Kind) → So (usesPartner k) → rowOf k .scope ≡ cla
 partner-scope = kinds-partner (λ k. rowOf k .scope ≡ clausesAlone) refl refl refl
 
 -- the list is that atom alone
-pub single-is : (a : ℕ) (l : List ℕ) → So (single (eqb a) l) → l ≡ a ∷ []
-single-is a [] h = absurd (false≢true h)
-single-is a (b ∷ []) h = ap (λ x. x ∷ []) (sym (eqb-true a b h))
-single-is a (b ∷ c ∷ l) h = absurd (false≢true h)
+pub single-only : (a : ℕ) (l : List ℕ) → So (single (eqb a) l) → l ≡ a ∷ []
+single-only a [] h = absurd (false≢true h)
+single-only a (b ∷ []) h = ap (λ x. x ∷ []) (sym (eqb-true a b h))
+single-only a (b ∷ c ∷ l) h = absurd (false≢true h)
 
 -- ---- what a step drops
 
@@ -110,7 +110,7 @@ pub record Succeeds (c d : Clause) (a : ℕ) : Type 0 where
 pub succeeds : (cs : List Clause) (c d : Clause) (a : ℕ) → So (condition success cs c d a) → Succeeds c d a
 unfolding condition
 succeeds cs c d a h = let w = simp and-iff at h in
-    record { isFact = and-iff _ _ .1 (w .0 .0, w .0 .1); head = single-is a (d .head) (w .1 .0); there = mem-iff _ _ .0 (w .1 .1) }
+    record { isFact = and-iff _ _ .1 (w .0 .0, w .0 .1); head = single-only a (d .head) (w .1 .0); there = mem-iff _ _ .0 (w .1 .1) }
 
 -- where a kind's condition holds, what it drops is there
 pub drops-there : (cs : List Clause) (c d : Clause) (a : ℕ) (k : Kind) → So (condition k cs c d a) → There (rowOf k .deed) a c

@@ -14,7 +14,7 @@ use Rattle.rewriting.specs.Steps.{applies}
 use Rattle.rewriting.specs.Kinds.{kindOf}
 use Rattle.rewriting.specs.Search.{stepWith, firstPartner}
 use Rattle.rewriting.proofs.Order.{Before}
-use Rattle.rewriting.proofs.Quiet.{stale, key, key-partner, quiet-more, quiet-clear, quiet-target}
+use Rattle.rewriting.proofs.Quiet.{stale, key, key-with, quiet-more, quiet-clear, quiet-target}
 use Rattle.table.specs.View.{view}
 use Rattle.search_flags.specs.Flags.{flagAt, most, Inside, mosts, nexts}
 use Rattle.step_kinds.specs.Kinds.{PartnerKind}
@@ -25,7 +25,7 @@ use Rattle.search_spreads.proofs.Spreads.{by-partner}
 -- a target has no step with a partner before its flag's key
 pub calm-from : (ws ms flags : List ℕ) (kind : ℕ) → Calm ws ms flags kind → PartnerKind kind → (t q : ℕ) → q + 1 < flagAt flags kind t → applies (getD ws 0 0) (view ws ms) (stepWith (view ws ms) (kindOf kind) t q) ≡ false
 calm-from ws ms flags kind c k t q l = so-false _ (λ h.
-    let v = c .least (k .uses) (stepWith (view ws ms) (kindOf kind) t q) refl refl h in omega (arith, v, key-partner (view ws ms) (kindOf kind) t q (k .uses), l))
+    let v = c .least (k .uses) (stepWith (view ws ms) (kindOf kind) t q) refl refl h in omega (arith, v, key-with (view ws ms) (kindOf kind) t q (k .uses), l))
 
 pub swept-none : (ws ms flags : List ℕ) (kind : ℕ) → Calm ws ms flags kind → Swept ws ms flags flags kind
 swept-none ws ms flags kind c = record { calm = c; frame = λ j _ _. refl }

@@ -18,7 +18,7 @@ use Rattle.rewriting.specs.Kinds.{kindOf}
 use Rattle.rewriting.specs.Search.{stepWith, firstPartner, firstTarget}
 use Rattle.rewriting.proofs.Order.{firstIn, asked, walked, atom-first, target-gone, partner-end, partner-hit, Before, search-end, search-hit}
 use Rattle.rewriting.proofs.Sound.{applies-ask}
-use Rattle.rewriting.proofs.Quiet.{key-partner}
+use Rattle.rewriting.proofs.Quiet.{key-with}
 use Rattle.table.specs.View.{part, view}
 use Rattle.table.proofs.View.{length-view}
 use Rattle.table.proofs.Parts.{Straight, view-straight, part-slice}
@@ -138,7 +138,7 @@ module _ (ws ms : List ℕ) (kind t : ℕ) (k : PartnerKind kind) where
     most = omega arith;
     kept = λ _. y;
     all = λ p h. ⊎-elim (λ d. omega (arith, partner-lt ws ms (kindOf kind) t p _ (k .uses) h))
-        (λ d. omega (arith, c .bounded three (stepWith (view ws ms) (kindOf kind) t p) (ap kindOf three) refl h, key-partner (view ws ms) (kindOf kind) t p (k .uses), d)) o;
+        (λ d. omega (arith, c .bounded three (stepWith (view ws ms) (kindOf kind) t p) (ap kindOf three) refl h, key-with (view ws ms) (kindOf kind) t p (k .uses), d)) o;
   }
 
   pub partners-gone : entry (view ws ms) t .kept ≡ false → Partners ws ms kind t 0
