@@ -52,7 +52,7 @@ extern "C" {
 
 /* ---- Version --------------------------------------------------------------------------------------------------------- */
 
-#define GAMBROLT_VERSION "2.0.0"
+#define GAMBROLT_VERSION "3.0.0"
 
 static inline const char *gambrolt_version(void)
 {
@@ -230,8 +230,9 @@ uint64_t gambrolt_reduced_table(const uint16_t *table, size_t table_len, const u
 uint64_t gambrolt_test(const uint16_t *table, size_t table_len, const uint16_t *set, size_t set_len);
 
 /*
- * Answers whether some atom depends on itself, from head to body, positive or negative, along any chain of clauses.
- * Value: 1 for yes, 0 for no.
+ * Answers whether some atom depends on itself, from head to positive body, along any chain of clauses. Negative body atoms
+ * lead nowhere: no is what solvers call a tight program (Fages).
+ * Value: 1 for yes, 0 for no. The time is in proportion to the table's length.
  */
 uint64_t gambrolt_cycle(const uint16_t *table, size_t table_len);
 

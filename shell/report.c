@@ -173,13 +173,15 @@ static void measure(const struct order *o, const uint16_t *table, size_t words, 
         }
 }
 
-static void put_json(struct buffer *b, struct order *o, size_t size[2][3], const unsigned *steps)
+static void put_json(struct buffer *b, struct order *o, size_t size[2][3], const int *cyclic, const unsigned *steps)
 {
-    static const char *const sizes[] = {"clauses", "literals", "atoms"};
+    static const char *const sizes[] = {"clauses", "literals", "atoms"}, *const truth[] = {"false", "true"};
     putf(b, "{\"reduced\": true,\n");
     for (int i = 0; i < 3; i++)
         putf(b, " \"%s\": {\"before\": %zu, \"after\": %zu},\n", sizes[i], size[0][i], size[1][i]);
-    putf(b, " \"carried\": %zu,\n \"steps\": {\"all\": %zu", o->carried, o->steps);
+    putf(b, " \"carried\": %zu,\n", o->carried);
+    putf(b, " \"positive_cycle\": {\"before\": %s, \"after\": %s},\n", truth[cyclic[0]], truth[cyclic[1]]);
+    putf(b, " \"steps\": {\"all\": %zu", o->steps);
     for (unsigned k = 1; k < KINDS; k++)
         putf(b, ", \"%s\": %u", gambrolt_kind_name(k), steps[k]);
     putf(b, "},\n \"seconds\": {\"reading\": %.6f, \"reducing\": %.6f, \"checking\": %.6f},\n \"list\": [", o->seconds[0],
@@ -191,8 +193,9 @@ static void put_json(struct buffer *b, struct order *o, size_t size[2][3], const
 void put_statistics(struct order *o, int json)
 {
     static const char *const sizes[] = {"clauses", "body literals", "atoms"};
-    static const char *const times[] = {"reading", "reducing", "checking"};
+    static const char *const times[] = {"reading", "reducing", "checking"}, *const answer[] = {"no", "yes"};
     size_t size[2][3] = {{0}};
+    int cyclic[2] = {gambrolt_cycle(o->table, o->words) == 1, gambrolt_cycle(o->reduced, o->reduced_words) == 1};
     unsigned steps[KINDS] = {0};
     struct buffer *b = &o->statistics;
     measure(o, o->table, o->words, size[0]);
@@ -200,7 +203,7 @@ void put_statistics(struct order *o, int json)
     for (size_t s = 0; s < o->steps; s++)
         steps[o->list[4 * s]]++;
     if (json) {
-        put_json(b, o, size, steps);
+        put_json(b, o, size, cyclic, steps);
         return;
     }
     putf(b, "%-16s %8s %8s\n", "", "before", "after");
@@ -208,6 +211,7 @@ void put_statistics(struct order *o, int json)
         putf(b, "%-16s %8zu %8zu\n", sizes[i], size[0][i], size[1][i]);
     if (o->carried)
         putf(b, "%-16s %8zu %8zu\n", "carried rules", o->carried, o->carried);
+    putf(b, "%-16s %8s %8s\n", "positive cycle", answer[cyclic[0]], answer[cyclic[1]]);
     putf(b, "%-16s %8zu\n", "steps", o->steps);
     for (unsigned k = 1; k < KINDS; k++)
         putf(b, "  %u %-13s%8u\n", k, gambrolt_kind_name(k), steps[k]);

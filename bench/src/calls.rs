@@ -23,6 +23,14 @@ pub fn test(table: &[u16], set: &[u16]) -> usize {
     taken(unsafe { gambrolt_test(table.as_ptr(), table.len(), set.as_ptr(), set.len()) })
 }
 
+pub fn check_table(table: &[u16]) -> usize {
+    taken(unsafe { gambrolt_check_table(table.as_ptr(), table.len()) })
+}
+
+pub fn cycle(table: &[u16]) -> usize {
+    taken(unsafe { gambrolt_cycle(table.as_ptr(), table.len()) })
+}
+
 pub fn read_text(text: &[u8], table: &mut [u16]) -> usize {
     taken(unsafe { gambrolt_read_text(text.as_ptr(), text.len(), table.as_mut_ptr(), table.len()) })
 }

@@ -33,6 +33,12 @@ fn main() {
     println!("|---|---|");
     largest_test();
     texts();
+    println!();
+    println!("| shape | words | ms | ns a word | cycle answer / questions 1 to 8 |");
+    println!("|---|---|---|---|---|");
+    cycles("a chain through all atoms", chain, 1023);
+    cycles("each of 32 atoms leads to each of 32", layers, 122);
+    cycles("the same, negative", |size| negated(layers(size)), 122);
 }
 
 /// One line: the size of a shape's table, and the steps of its list.
@@ -96,4 +102,34 @@ fn texts() {
     let (time, read) = best(20, || calls::read_text(&out[..bytes], &mut back));
     assert_eq!(&back[..read], table);
     println!("| reading {bytes} bytes of text | {time:.2} |");
+}
+
+/// 0 <- 1. 1 <- 2. and so on.
+fn chain(size: usize) -> Program {
+    let link = |i: u16| Clause { head: [i].into(), pos: [i + 1].into(), ..Clause::default() };
+    Program { atoms: 1024, clauses: (0..size as u16).map(link).collect() }
+}
+
+/// Heads and bodies of 32 atoms: those of each group of atoms lead to those of the next, over and over.
+fn layers(size: usize) -> Program {
+    let group = |number: u16| (32 * number..32 * number + 32).collect();
+    let clause = |i: u16| Clause { head: group(i % 31), pos: group(i % 31 + 1), ..Clause::default() };
+    Program { atoms: 1024, clauses: (0..size as u16).map(clause).collect() }
+}
+
+fn negated(mut program: Program) -> Program {
+    program.clauses.iter_mut().for_each(|clause| std::mem::swap(&mut clause.pos, &mut clause.neg));
+    program
+}
+
+/// Three lines: programs without a cycle, so that every chain is followed to its end, of a quarter, a half and all of the size.
+fn cycles(name: &str, program: fn(usize) -> Program, full: usize) {
+    for size in [full / 4, full / 2, full] {
+        let table = words(&program(size));
+        let [(time, cyclic), (alone, _)] =
+            best_by_turns(400, [&mut || calls::cycle(&table), &mut || calls::check_table(&table)]);
+        assert_eq!(cyclic, 0);
+        let each = time * 1e6 / table.len() as f64;
+        println!("| {name} | {} | {time:.3} | {each:.1} | {:.1} |", table.len(), time / alone);
+    }
 }

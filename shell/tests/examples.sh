@@ -62,11 +62,17 @@ through_rules() {
         expect "$what: the same projected models" [ "$(grep -c model "$tmp/reduced")" -eq "$(grep -c model "$tmp/projected")" ]
     fi
 }
+# cyclic FILE: true where the solver, which follows Fages, does not call the program tight
+cyclic() {
+    clasp 1 --quiet=2 --opt-mode=ignore --stats --eq=0 "$1" | awk '$1 == "Tight" { print $3 == "No" ? "true" : "false" }'
+}
 : >"$tmp/kinds"
 wide=0
 named=0
 ordinary=0
 weighted=0
+cycles=0
+broken=0
 for example in examples/*.lp examples/ordinary/*.lp; do
     name=${example#examples/}
     ground "$example" >"$tmp/in"
@@ -99,6 +105,14 @@ for example in examples/*.lp examples/ordinary/*.lp; do
         [ "$(wc -l <"$tmp/sentences")" -eq $((steps - $(grep -c '"rule": null' "$tmp/stats"))) ]
     expect "$name: the list is accepted" sh -c 'build/gambrolt "--check=$1" <"$0" | grep -q "^yes: .* $2 steps"' "$tmp/in" "$tmp/list" "$steps"
     grep '"steps"' "$tmp/stats" >>"$tmp/kinds"
+    if grep -q '"carried": 0,' "$tmp/stats"; then # before the reduction the solver may take a cycle away by itself
+        cycle=$(sed -n 's/^ "positive_cycle": {"before": \(.*\), "after": \(.*\)},$/\1 \2/p' "$tmp/stats")
+        left=$(cyclic "$tmp/out")
+        expect "$name: a positive cycle is left where the solver has one, and nowhere else" [ "${cycle#* }" = "$left" ]
+        expect "$name: a positive cycle before where the solver has one" sh -c '[ "$0" = true ] || [ "$1" = false ]' "${cycle% *}" "$(cyclic "$tmp/in")"
+        [ "$left" = true ] && cycles=$((cycles + 1))
+        [ "$cycle" = "true false" ] && broken=$((broken + 1))
+    fi
     for carried in 2 3 4 5 6 7 8 9 10; do
         grep "^$carried " "$tmp/in" >"$tmp/before"
         grep "^$carried " "$tmp/out" >"$tmp/after"
@@ -151,6 +165,8 @@ for kind in tautology contradiction success no_head blocked failure loop subsume
     expect "some example has a step of the kind: $kind" grep -q "\"$kind\": [1-9]" "$tmp/kinds"
 done
 expect "an example has clauses of more than 255 conditions" [ "$wide" -gt 0 ]
+expect "some examples keep a positive cycle" [ "$cycles" -gt 3 ]
+expect "some examples lose one" [ "$broken" -gt 3 ]
 expect "most examples fit their ground rules" [ "$named" -gt 45 ]
 expect "twenty examples have choices" [ "$ordinary" -ge 20 ]
 expect "ten examples have weight bodies" [ "$weighted" -ge 10 ]

@@ -264,6 +264,7 @@ cat >"$tmp/want" <<'END'
 clauses                16        6
 body literals          26        3
 atoms                  13        7
+positive cycle        yes       no
 steps                  14
   1 tautology           1
   2 contradiction       1
@@ -288,6 +289,7 @@ cat >"$tmp/want" <<'END'
  "literals": {"before": 26, "after": 3},
  "atoms": {"before": 13, "after": 7},
  "carried": 0,
+ "positive_cycle": {"before": true, "after": false},
  "steps": {"all": 14, "tautology": 1, "contradiction": 1, "success": 1, "no_head": 3, "blocked": 2, "failure": 3, "loop": 1, "subsumed": 2},
  "seconds": {"reading": T, "reducing": T, "checking": T},
  "list": [
@@ -295,7 +297,7 @@ cat >"$tmp/want" <<'END'
  {"step": [2, 3, 0, 1], "kind": "contradiction", "rule": 3, "line": 5, "atom": 2, "name": "b"},
  {"step": [3, 2, 0, 0], "kind": "success", "rule": 2, "line": 4, "partner_rule": 0, "partner_line": 2, "atom": 1, "name": "x_1"},
 END
-head -11 "$tmp/out" >"$tmp/first"
+head -12 "$tmp/out" >"$tmp/first"
 expect "statistics in JSON" same "$tmp/want" "$tmp/first"
 expect "statistics in JSON: the last step" [ "$(tail -1 "$tmp/out")" = ' {"step": [8, 9, 10, 0], "kind": "subsumed", "rule": 9, "line": 11, "partner_rule": 10, "partner_line": 12}]}' ]
 build/gambrolt --stats=json --dry-run shell/tests/data/kinds.aspif 2>&1 | sed 's/: [0-9]*\.[0-9]*/: T/g' >"$tmp/err"

@@ -3,11 +3,21 @@ use crate::independent::{self, Answer, Refused};
 use crate::library;
 use std::fmt::Debug;
 
-/// How many calls were compared, how often each question refused one, and how many steps of each kind were made.
+/// How many calls were compared, how often each question refused one, how many steps of each kind were made, and how many
+/// programs had which circles.
 pub struct Tally {
     pub cases: u64,
     pub met: [u64; 30],
     pub made: [u64; 9],
+    pub circles: Circles,
+}
+
+/// Programs with a circle over positive bodies, with circles through negative literals alone, and without any.
+#[derive(Debug, Default)]
+pub struct Circles {
+    pub positive: u64,
+    pub negative: u64,
+    pub none: u64,
 }
 
 /// "the refusal's number times 2^48 plus its place, or, taken, the value"
@@ -20,7 +30,7 @@ fn code(answer: Answer) -> u64 {
 
 impl Tally {
     pub fn new() -> Tally {
-        Tally { cases: 0, met: [0; 30], made: [0; 9] }
+        Tally { cases: 0, met: [0; 30], made: [0; 9], circles: Circles::default() }
     }
 
     /// Compares what a call gave with what document 01 says, both with all memory that was lent for writing.

@@ -75,11 +75,16 @@ fn questions_of_a_set() {
 #[test]
 fn cycles() {
     let cycle = |program: &str| cycle::cycle(&words(&parse(4, program))).unwrap();
-    assert_eq!(cycle("0 <- ~1. 1 <- ~0."), 1);
     assert_eq!(cycle("0 <- 0."), 1);
-    assert_eq!(cycle("0 <- 1. 1 <- ~2. 2 <- 3."), 0);
-    assert_eq!(cycle("0 <- 1. 1 <- ~2. 2|0 <- 3. 3 <- 1."), 1);
+    assert_eq!(cycle("0 <- 0, ~1."), 1);
+    assert_eq!(cycle("0 <- 1. 1 <- 2. 2 <- 3."), 0);
+    assert_eq!(cycle("0 <- 1. 1 <- 2. 2|0 <- 3. 3 <- 1."), 1);
     assert_eq!(cycle("<- 0. 0."), 0);
+    // negative literals lead nowhere
+    assert_eq!(cycle("0 <- ~0."), 0);
+    assert_eq!(cycle("0 <- ~1. 1 <- ~0."), 0);
+    assert_eq!(cycle("0 <- 1. 1 <- ~2. 2|0 <- 3. 3 <- 1."), 0);
+    assert_eq!(cycle("0 <- 1. 1 <- ~2. 2 <- 3. 3 <- 1."), 0);
 }
 
 #[test]

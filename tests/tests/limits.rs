@@ -91,6 +91,30 @@ fn sets_and_cycles() {
     assert_eq!(both(&many(2048, 2046, vec![0; 6]), &all), (0, 0));
 }
 
+/// Chains as long as there are atoms, and bodies as long as a table holds.
+#[test]
+fn long_chains() {
+    // 0 <- 1. 1 <- 2. and so on to 1022 <- 1023., with one clause more
+    let chain: Vec<u16> = (0..1023).flat_map(|atom| [1, 1, 0, atom, atom + 1]).collect();
+    let closed = |last: &[u16]| library::cycle(&[&[1024, 1024], &chain[..], last].concat());
+    assert_eq!(closed(&[1, 0, 0, 1023]), 0);
+    assert_eq!(closed(&[1, 1, 0, 1023, 0]), 1);
+    assert_eq!(closed(&[1, 0, 1, 1023, 0]), 0);
+    assert_eq!(closed(&[0, 1, 0, 0]), 0);
+    assert_eq!(closed(&[1, 0, 1, 0, 0]), 0);
+    assert_eq!(closed(&[2, 1, 0, 0, 1023, 1022]), 1);
+    // all of 512 to 1023 in each head and 0 to 511 in each body, seven times; then 0 <- 1023., or 0 <- ~1023.
+    let wide = |positive: bool, last: &[u16]| {
+        let (head, body): (Vec<u16>, Vec<u16>) = ((512..1024).collect(), (0..512).collect());
+        let counts = if positive { [512, 512, 0] } else { [512, 0, 512] };
+        let clause = [&counts[..], &head, &body].concat();
+        library::cycle(&[vec![1024, 8], clause.repeat(7), last.to_vec()].concat())
+    };
+    assert_eq!(wide(true, &[1, 1, 0, 0, 1023]), 1);
+    assert_eq!(wide(true, &[1, 0, 1, 0, 1023]), 0);
+    assert_eq!(wide(false, &[1, 1, 0, 0, 1023]), 0);
+}
+
 #[test]
 fn lists() {
     let fact = [2, 1, 1, 0, 0, 0];

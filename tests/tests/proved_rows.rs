@@ -148,6 +148,22 @@ fn successes() {
     writes(&both, &[3, 2, 0, 0, 3, 2, 1, 1]);
 }
 
+/// `Requests.antt`, slip 2.
+#[test]
+fn circles() {
+    let cycle = |words: &[u16]| Tally::new().cycle(words);
+    assert_eq!(cycle(&[2, 2, 1, 0, 1, 0, 1, 1, 0, 1, 1, 0]), Ok(0));
+    assert_eq!(cycle(&[1, 1, 1, 0, 1, 0, 0]), Ok(0));
+    assert_eq!(cycle(&[2, 2, 1, 1, 0, 0, 1, 1, 1, 0, 1, 0]), Ok(1));
+    assert_eq!(cycle(&[2, 1, 1, 1, 1, 0, 0, 1]), Ok(1));
+    assert_eq!(cycle(&[3, 2, 2, 1, 0, 0, 1, 2, 1, 1, 0, 2, 1]), Ok(1));
+    assert_eq!(cycle(&[3, 2, 1, 1, 1, 0, 1, 2, 1, 1, 1, 1, 0, 2]), Ok(1));
+    assert_eq!(cycle(&[2, 2, 1, 1, 0, 0, 1, 1, 0, 1, 1, 0]), Ok(0));
+    assert_eq!(cycle(&[3, 3, 1, 1, 0, 0, 1, 1, 1, 0, 1, 2, 1, 0, 1, 2, 0]), Ok(0));
+    assert_eq!(cycle(&[3, 4, 1, 1, 0, 0, 1, 1, 0, 1, 1, 0, 1, 1, 0, 1, 2, 1, 1, 0, 2, 0]), Ok(1));
+    assert_eq!(cycle(&[2, 3, 0, 1, 0, 0, 1, 1, 0, 0, 1, 1, 0, 0, 1]), Ok(0));
+}
+
 /// `OpenSteps.antt`: the lists that the reducer has to write.
 #[test]
 fn open_steps() {

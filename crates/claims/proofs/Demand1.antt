@@ -32,9 +32,8 @@ use Rattle.answers.specs.declared.Answer.{Answer}
 use Rattle.reduced_table.specs.Reduced.{reducedAnswer}
 use Rattle.reduced_sizes.specs.Leaves.{reduced}
 use Rattle.models_test.proofs.Answered as stability
-use Rattle.cycle.specs.Chains.{body}
-use Rattle.cycle.specs.Decide.{cyclic}
-use Rattle.cycle.proofs.Answered as dependency
+use Rattle.dependency.specs.Decide.{cyclic}
+use Rattle.cycle.proofs.Answered as cycles
 use Rattle.text_form.specs.Render.{render}
 use Rattle.answers.specs.declared.Answer.the-variants.{Accepted, Refused}
 use Rattle.text_form.specs.Reader.{answerOf, readAnswer, tableAfter}
@@ -121,8 +120,8 @@ test-taken ws set = (
 -- no question of its own
 pub cycle-taken : (ws : List ℕ) → IsTaken (cycleCall ws) ↔ Passed ws
 cycle-taken ws = (
-  λ h. dependency.taken-passed ws (h .0) (h .1),
-  λ p. (bit (cyclic body (programOf ws)), dependency.accepted-iff ws _ .1 (p, refl)),
+  λ h. cycles.taken-passed ws (h .0) (h .1),
+  λ p. (bit (cyclic (programOf ws .clauses)), cycles.accepted-iff ws _ .1 (p, refl)),
 )
 
 -- 22 to 27, with 2, 3, 6 and 7: a slice of 8,192 words, and the text of a program within the limits

@@ -16,10 +16,10 @@ use Rattle.models_test.specs.Answer.{testOf}
 use Rattle.models_test.specs.Kept.{Testable}
 use Rattle.models_test.proofs.Answered.{accepted-iff}
 use Rattle.answers.specs.declared.Answer.the-variants.{Accepted}
-use Rattle.cycle.specs.Chains.{body, Leads}
+use Rattle.dependency.specs.Chains.{Cyclic}
+use Rattle.dependency.proofs.Reached.{cyclic-iff}
 use Rattle.cycle.specs.Answer.{cycleOf}
-use Rattle.cycle.proofs.Answered as dependency
-use Rattle.cycle.proofs.Ended.{cycle-iff}
+use Rattle.cycle.proofs.Answered as cycles
 use native.Mathlib.Omega.{arith}
 use Rattle.table.proofs.Encoding.{encode-passes}
 use Rattle.text_form.specs.Render.{render}
@@ -58,18 +58,18 @@ test-no ws set = (
   λ h. accepted-iff ws set false .1 (asked-iff _ _ .0 (h .0), so-false _ (λ s. h .1 (test-iff (programOf ws) set .0 s))),
 )
 
--- "Yes when some atom leads back to itself": the cycle answer says yes exactly then, along chains of the table's clauses.
-pub cycle-yes : (ws : List ℕ) → (cycleOf ws ≡ Accepted 1) ↔ (Passed ws × ((a : ℕ) × Leads body (programOf ws .clauses) a a))
+-- "Yes when some atom leads back to itself": the cycle answer says yes exactly then, along chains over the positive bodies of the table's clauses.
+pub cycle-yes : (ws : List ℕ) → (cycleOf ws ≡ Accepted 1) ↔ (Passed ws × Cyclic (programOf ws .clauses))
 cycle-yes ws = (
-  λ h. let w = dependency.accepted-iff ws true .0 h in (w .0, cycle-iff ws (w .0) .0 (w .1)),
-  λ h. dependency.accepted-iff ws true .1 (h .0, cycle-iff ws (h .0) .1 (h .1)),
+  λ h. let w = cycles.accepted-iff ws true .0 h in (w .0, cyclic-iff (programOf ws .clauses) .0 (w .1)),
+  λ h. cycles.accepted-iff ws true .1 (h .0, cyclic-iff (programOf ws .clauses) .1 (h .1)),
 )
 
 -- It says no exactly when none does.
-pub cycle-no : (ws : List ℕ) → (cycleOf ws ≡ Accepted 0) ↔ (Passed ws × ¬ ((a : ℕ) × Leads body (programOf ws .clauses) a a))
+pub cycle-no : (ws : List ℕ) → (cycleOf ws ≡ Accepted 0) ↔ (Passed ws × ¬ Cyclic (programOf ws .clauses))
 cycle-no ws = (
-  λ h. let w = dependency.accepted-iff ws false .0 h in (w .0, λ l. not-so (w .1) (cycle-iff ws (w .0) .1 l)),
-  λ h. dependency.accepted-iff ws false .1 (h .0, so-false _ (λ s. h .1 (cycle-iff ws (h .0) .0 s))),
+  λ h. let w = cycles.accepted-iff ws false .0 h in (w .0, λ l. not-so (w .1) (cyclic-iff (programOf ws .clauses) .1 l)),
+  λ h. cycles.accepted-iff ws false .1 (h .0, so-false _ (λ s. h .1 (cyclic-iff (programOf ws .clauses) .0 s))),
 )
 
 -- ---- text

@@ -16,7 +16,7 @@ use Rattle.table.specs.Programs.{clausesOf, programOf}
 use Rattle.table.specs.View.{part, entryAt, entriesFrom, view}
 use Rattle.table.specs.Effects.{find, clears, marksAfter, marksAfterAll}
 use Rattle.models_test.specs.Answer as sets
-use Rattle.cycle.specs.Decide.{ahead, onward, leads, anyBelow, cyclic}
+use Rattle.dependency.specs.Decide.{ahead, onward, leads, cyclic}
 use Rattle.cycle.specs.Answer as cycles
 use Rattle.step_lists.specs.Lists as lists
 use Rattle.step_questions.specs.Questions as steps
@@ -36,10 +36,10 @@ rows =
     ∷ row (said.testCall (2 ∷ 3 ∷ 1 ∷ 1 ∷ 0 ∷ 0 ∷ 1 ∷ 1 ∷ 0 ∷ 1 ∷ 0 ∷ 1 ∷ 1 ∷ 1 ∷ 0 ∷ 1 ∷ 0 ∷ []) (0 ∷ 1 ∷ [])) (value 0)
     -- adding an atom true "in both cases", here 0., would make it so
     ∷ row (said.testCall (2 ∷ 4 ∷ 1 ∷ 1 ∷ 0 ∷ 0 ∷ 1 ∷ 1 ∷ 0 ∷ 1 ∷ 0 ∷ 1 ∷ 1 ∷ 1 ∷ 0 ∷ 1 ∷ 0 ∷ 1 ∷ 0 ∷ 0 ∷ 0 ∷ []) (0 ∷ 1 ∷ [])) (value 1)
-    -- 0 <- ~1. 1 <- ~0.: set 0 stable, 0,1 not; cycle yes
+    -- 0 <- ~1. 1 <- ~0.: set 0 stable, 0,1 not; "cycle yes" in document 01, which slip 2 of document 02 "changes from yes to no"
     ∷ row (said.testCall (2 ∷ 2 ∷ 1 ∷ 0 ∷ 1 ∷ 0 ∷ 1 ∷ 1 ∷ 0 ∷ 1 ∷ 1 ∷ 0 ∷ []) (0 ∷ [])) (value 1)
     ∷ row (said.testCall (2 ∷ 2 ∷ 1 ∷ 0 ∷ 1 ∷ 0 ∷ 1 ∷ 1 ∷ 0 ∷ 1 ∷ 1 ∷ 0 ∷ []) (0 ∷ 1 ∷ [])) (value 0)
-    ∷ row (said.cycleCall (2 ∷ 2 ∷ 1 ∷ 0 ∷ 1 ∷ 0 ∷ 1 ∷ 1 ∷ 0 ∷ 1 ∷ 1 ∷ 0 ∷ [])) (value 1)
+    ∷ row (said.cycleCall (2 ∷ 2 ∷ 1 ∷ 0 ∷ 1 ∷ 0 ∷ 1 ∷ 1 ∷ 0 ∷ 1 ∷ 1 ∷ 0 ∷ [])) (value 0)
     -- 0 <- 1. 1 <- 0.: the reducer writes 7,0,0,1 then 6,1,0,0
     ∷ writes (2 ∷ 2 ∷ 1 ∷ 1 ∷ 0 ∷ 0 ∷ 1 ∷ 1 ∷ 1 ∷ 0 ∷ 1 ∷ 0 ∷ []) (7 ∷ 0 ∷ 0 ∷ 1 ∷ 6 ∷ 1 ∷ 0 ∷ 0 ∷ [])
     -- 0 <- 1. alone: 7,0,0,1 is accepted; the reducer writes 6,0,0,1
@@ -56,5 +56,5 @@ rows =
     ∷ []
 
 pub examples : AllSay rows
-unfolding satisfies reduct models sublists stableTest left fire reachFrom reach inNoHead condition conditionHolds applies effect least firstAtom firstPartner firstTarget firstStep reduce ask questions.atomsFrom questions.partsFrom questions.clauseFrom questions.clausesFrom questions.allUsed questions.tableOf startFrom clausesOf programOf part entryAt entriesFrom view find clears marksAfter sets.setOf sets.testOf ahead onward leads anyBelow cyclic cycles.cycleOf steps.shapeQuestions steps.stepQuestions lists.stepsFrom lists.checkList wordsOf reductions.bodyLiterals reductions.room reductions.stepsOf reductions.reduction marksAfterAll questions.onWalk questions.onTable
+unfolding satisfies reduct models sublists stableTest left fire reachFrom reach inNoHead condition conditionHolds applies effect least firstAtom firstPartner firstTarget firstStep reduce ask questions.atomsFrom questions.partsFrom questions.clauseFrom questions.clausesFrom questions.allUsed questions.tableOf startFrom clausesOf programOf part entryAt entriesFrom view find clears marksAfter sets.setOf sets.testOf ahead onward leads cyclic cycles.cycleOf steps.shapeQuestions steps.stepQuestions lists.stepsFrom lists.checkList wordsOf reductions.bodyLiterals reductions.room reductions.stepsOf reductions.reduction marksAfterAll questions.onWalk questions.onTable
 examples = (refl, (refl, (refl, (refl, (refl, (refl, (refl, (refl, (refl, ((refl, refl), (refl, ((refl, refl), (refl, (refl, ((refl, refl), ((refl, refl), tt))))))))))))))))

@@ -4,6 +4,7 @@ pub mod Demand3
 pub mod Examples
 pub mod Requests
 pub mod Successes
+pub mod Cycles
 pub mod OpenSteps
 pub mod Refusals
 pub mod Said

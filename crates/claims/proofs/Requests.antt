@@ -14,14 +14,20 @@ use Rattle.table.specs.Places.{startFrom}
 use Rattle.table.specs.Programs.{clausesOf, programOf}
 use Rattle.table.specs.View.{part, entryAt, entriesFrom, view}
 use Rattle.table.specs.Effects.{find, clears, marksAfter, marksAfterAll}
+use Rattle.dependency.specs.Decide.{ahead, onward, leads, cyclic}
+use Rattle.cycle.specs.Answer.{cycleOf}
 use Rattle.step_lists.specs.Lists as lists
 use Rattle.step_questions.specs.Questions as steps
 use Rattle.reducer_results.specs.Reductions as reductions
-use Rattle.claims.proofs.Said.{Example, Said, row, writes, value, refusal, checkCall, AllSay}
+use Rattle.claims.proofs.Said.{Example, Said, row, writes, value, refusal, checkCall, cycleCall, AllSay}
 
 -- a list checked on a table
 abbrev checks : List ℕ → List ℕ → Said → Example
 checks ws l s = row (checkCall ws (replicate (length ws) 1) l) s
+
+-- the cycle answer of a table
+abbrev cycles : List ℕ → Said → Example
+cycles ws s = row (cycleCall ws) s
 
 -- 1. 0 <- 1., with two atoms
 abbrev success : List ℕ
@@ -62,8 +68,22 @@ rows =
     -- its place is the step's number: 0. 1. 2 <- 0, 1.
     ∷ checks (3 ∷ 3 ∷ 1 ∷ 0 ∷ 0 ∷ 0 ∷ 1 ∷ 0 ∷ 0 ∷ 1 ∷ 1 ∷ 2 ∷ 0 ∷ 2 ∷ 0 ∷ 1 ∷ []) (3 ∷ 2 ∷ 0 ∷ 0 ∷ 3 ∷ 2 ∷ 1 ∷ 0 ∷ []) (refusal 29 1)
     ∷ writes (3 ∷ 3 ∷ 1 ∷ 0 ∷ 0 ∷ 0 ∷ 1 ∷ 0 ∷ 0 ∷ 1 ∷ 1 ∷ 2 ∷ 0 ∷ 2 ∷ 0 ∷ 1 ∷ []) (3 ∷ 2 ∷ 0 ∷ 0 ∷ 3 ∷ 2 ∷ 1 ∷ 1 ∷ [])
+    -- Slip 2. "the example 0 <- ~1. 1 <- ~0. changes from yes to no"; so does an atom that needs its own absence: 0 <- ~0.
+    ∷ cycles (2 ∷ 2 ∷ 1 ∷ 0 ∷ 1 ∷ 0 ∷ 1 ∷ 1 ∷ 0 ∷ 1 ∷ 1 ∷ 0 ∷ []) (value 0)
+    ∷ cycles (1 ∷ 1 ∷ 1 ∷ 0 ∷ 1 ∷ 0 ∷ 0 ∷ []) (value 0)
+    -- "only positive body atoms lead on": 0 <- 1. 1 <- 0.; 0 <- 0, ~1.; through one atom of a disjunctive head: 0|1 <- 2. 2 <- 1.; two clauses with negative atoms beside: 0 <- 1, ~2. 1 <- 0, ~2.
+    ∷ cycles (2 ∷ 2 ∷ 1 ∷ 1 ∷ 0 ∷ 0 ∷ 1 ∷ 1 ∷ 1 ∷ 0 ∷ 1 ∷ 0 ∷ []) (value 1)
+    ∷ cycles (2 ∷ 1 ∷ 1 ∷ 1 ∷ 1 ∷ 0 ∷ 0 ∷ 1 ∷ []) (value 1)
+    ∷ cycles (3 ∷ 2 ∷ 2 ∷ 1 ∷ 0 ∷ 0 ∷ 1 ∷ 2 ∷ 1 ∷ 1 ∷ 0 ∷ 2 ∷ 1 ∷ []) (value 1)
+    ∷ cycles (3 ∷ 2 ∷ 1 ∷ 1 ∷ 1 ∷ 0 ∷ 1 ∷ 2 ∷ 1 ∷ 1 ∷ 1 ∷ 1 ∷ 0 ∷ 2 ∷ []) (value 1)
+    -- one negative literal breaks a circle: 0 <- 1. 1 <- ~0.; 0 <- 1. 1 <- 2. 2 <- ~0.; of two circles, 0 <- 1. 1 <- ~0. 1 <- 2. 2 <- 0., the one without it stays
+    ∷ cycles (2 ∷ 2 ∷ 1 ∷ 1 ∷ 0 ∷ 0 ∷ 1 ∷ 1 ∷ 0 ∷ 1 ∷ 1 ∷ 0 ∷ []) (value 0)
+    ∷ cycles (3 ∷ 3 ∷ 1 ∷ 1 ∷ 0 ∷ 0 ∷ 1 ∷ 1 ∷ 1 ∷ 0 ∷ 1 ∷ 2 ∷ 1 ∷ 0 ∷ 1 ∷ 2 ∷ 0 ∷ []) (value 0)
+    ∷ cycles (3 ∷ 4 ∷ 1 ∷ 1 ∷ 0 ∷ 0 ∷ 1 ∷ 1 ∷ 0 ∷ 1 ∷ 1 ∷ 0 ∷ 1 ∷ 1 ∷ 0 ∷ 1 ∷ 2 ∷ 1 ∷ 1 ∷ 0 ∷ 2 ∷ 0 ∷ []) (value 1)
+    -- a constraint leads nowhere, and a fact ends a chain: <- 0. 0 <- 1. 1.
+    ∷ cycles (2 ∷ 3 ∷ 0 ∷ 1 ∷ 0 ∷ 0 ∷ 1 ∷ 1 ∷ 0 ∷ 0 ∷ 1 ∷ 1 ∷ 0 ∷ 0 ∷ 1 ∷ []) (value 0)
     ∷ []
 
 pub requests : AllSay rows
-unfolding left fire reachFrom reach inNoHead condition conditionHolds applies effect least firstAtom firstPartner firstTarget firstStep reduce ask questions.atomsFrom questions.partsFrom questions.clauseFrom questions.clausesFrom questions.allUsed questions.tableOf startFrom clausesOf programOf part entryAt entriesFrom view find clears marksAfter marksAfterAll steps.shapeQuestions steps.stepQuestions lists.stepsFrom lists.checkList wordsOf reductions.bodyLiterals reductions.room reductions.stepsOf reductions.reduction questions.onWalk questions.onTable
-requests = (refl, (refl, (refl, ((refl, refl), (refl, (refl, (refl, (refl, (refl, (refl, (refl, (refl, (refl, (refl, (refl, (refl, ((refl, refl), tt)))))))))))))))))
+unfolding left fire reachFrom reach inNoHead condition conditionHolds applies effect least firstAtom firstPartner firstTarget firstStep reduce ask questions.atomsFrom questions.partsFrom questions.clauseFrom questions.clausesFrom questions.allUsed questions.tableOf startFrom clausesOf programOf part entryAt entriesFrom view find clears marksAfter marksAfterAll steps.shapeQuestions steps.stepQuestions lists.stepsFrom lists.checkList wordsOf reductions.bodyLiterals reductions.room reductions.stepsOf reductions.reduction questions.onWalk questions.onTable ahead onward leads cyclic cycleOf
+requests = (refl, (refl, (refl, ((refl, refl), (refl, (refl, (refl, (refl, (refl, (refl, (refl, (refl, (refl, (refl, (refl, (refl, ((refl, refl), (refl, (refl, (refl, (refl, (refl, (refl, (refl, (refl, (refl, (refl, tt)))))))))))))))))))))))))))

@@ -7,7 +7,6 @@ use native.Mathlib.Omega.{arith}
 use lib.ListN.{length, getD, set}
 use Rattle.table.specs.Programs.{clauseOf}
 use Rattle.table.proofs.Encoding.{passed-limits}
-use Rattle.cycle.specs.Chains.{body}
 use Rattle.cycle.specs.Search.{none, ClauseAt, AllEnd, Search, Looked, met, over, on, Nearer, moved, Explored}
 use Rattle.cycle.specs.declared.Move.{Move}
 use Rattle.cycle.proofs.Pending.{Front}
@@ -30,8 +29,11 @@ module _ {ws nexts owner cur state left parent : List ℕ} {t : ℕ} (s : Search
     at-here : at ≡ getD owner (getD cur t 0) 0
     at-here = eat ∙ ap (λ w. getD owner w 0) at-t
 
+    n′ : getD cur t 0 ≢ 0
+    n′ z = n (at-t ∙ z)
+
     front-at : Front ws nexts owner (AllEnd state) t (getD cur t 0)
-    front-at = front s x (λ z. n (at-t ∙ z))
+    front-at = front s x n′
 
     pub clause-at : ClauseAt ws at
     clause-at = subst (ClauseAt ws) (sym at-here) (front-at .clause)
@@ -39,19 +41,19 @@ module _ {ws nexts owner cur state left parent : List ℕ} {t : ℕ} (s : Search
     pub clause-low : at < 8192
     clause-low = omega (arith, clause-at .fits, passed-limits ws (s .passed) .short)
 
-    module _ (i : ℕ) (ei : i ≡ 8192 - getD left at 0) where
-      pub pass-at : length (body (clauseOf ws at)) ≤ i → Nearer ws nexts owner cur state left parent (set cur a (getD nexts w 0)) state left parent t
-      pass-at l = rw (ea, at-t) (pass-clause s x (λ z. n (at-t ∙ z)) (subst (λ at. length (body (clauseOf ws at)) ≤ 8192 - getD left at 0) at-here (rw ei at l)))
+    module _ (i : ℕ) (ei : i ≡ 8192 - getD left at 0) (pos : List ℕ) (ep : pos ≡ clauseOf ws at .pos) where
+      pub pass-at : length pos ≤ i → Nearer ws nexts owner cur state left parent (set cur a (getD nexts w 0)) state left parent t
+      pass-at l = rw (ea, at-t) (pass-clause s x n′ (subst (λ at. length (clauseOf ws at .pos) ≤ 8192 - getD left at 0) at-here (rw (ei, ep) at l)))
 
-      module _ (l : i < length (body (clauseOf ws at))) (b : ℕ) (eb : b ≡ getD (body (clauseOf ws at)) i 0) where
-        low : 8192 - getD left (getD owner (getD cur t 0) 0) 0 < length (body (clauseOf ws (getD owner (getD cur t 0) 0)))
-        low = subst (λ at. 8192 - getD left at 0 < length (body (clauseOf ws at))) at-here (rw ei at l)
+      module _ (l : i < length pos) where
+        abbrev b : ℕ
+        b = getD pos i 0
 
-        is-b : b ≡ getD (body (clauseOf ws (getD owner (getD cur t 0) 0))) (8192 - getD left (getD owner (getD cur t 0) 0) 0) 0
-        is-b = eb ∙ ap (λ i. getD (body (clauseOf ws at)) i 0) ei ∙ ap (λ at. getD (body (clauseOf ws at)) (8192 - getD left at 0) 0) at-here
+        low : 8192 - getD left (getD owner (getD cur t 0) 0) 0 < length (clauseOf ws (getD owner (getD cur t 0) 0) .pos)
+        low = subst (λ at. 8192 - getD left at 0 < length (clauseOf ws at .pos)) at-here (rw (ei, ep) at l)
 
-        n′ : getD cur t 0 ≢ 0
-        n′ z = n (at-t ∙ z)
+        is-b : b ≡ getD (clauseOf ws (getD owner (getD cur t 0) 0) .pos) (8192 - getD left (getD owner (getD cur t 0) 0) 0) 0
+        is-b = ap (λ k. getD k i 0) ep ∙ ap (λ i. getD (clauseOf ws at .pos) i 0) ei ∙ ap (λ at. getD (clauseOf ws at .pos) (8192 - getD left at 0) 0) at-here
 
         pub b-low : b < 1024
         b-low = omega (arith, b-below s x n′ low b is-b, atoms s)

@@ -16,8 +16,7 @@ use Rattle.table.specs.Questions.{tableNumbers, tableOf, onTable, Passed}
 use Rattle.table.proofs.Laws.{on-taken}
 use Rattle.table.specs.Programs.{programOf}
 use Rattle.table.proofs.Encoding.{valid-passed}
-use Rattle.cycle.specs.Chains.{body}
-use Rattle.cycle.specs.Decide.{cyclic}
+use Rattle.dependency.specs.Decide.{cyclic}
 use Rattle.cycle.specs.Search.{Blank, Listed, SearchReady}
 use Rattle.cycle.specs.Answer.{cycleOf}
 use Rattle.answers.specs.declared.Answer.the-variants as answer
@@ -55,21 +54,24 @@ pub table-refused : (ws : List ℕ) (r : Refusal) → tableOf ws ≡ Refused r �
 unfolding cycleOf onTable
 table-refused ws r h = rw h
 
-pub searched : (ws : List ℕ) (t : Table) → tableOf ws ≡ Valid t → cycleOf ws ≡ answer.Accepted (bit (cyclic body (programOf ws)))
+pub searched : (ws : List ℕ) (t : Table) → tableOf ws ≡ Valid t → cycleOf ws ≡ answer.Accepted (bit (cyclic (programOf ws .clauses)))
 unfolding cycleOf onTable
 searched ws t h = rw h
+
+pub passed-answer : (ws : List ℕ) → Passed ws → cycleOf ws ≡ answer.Accepted (bit (cyclic (programOf ws .clauses)))
+passed-answer ws p = searched ws (tableNumbers ws) (p .valid)
 
 -- a call that is taken asked a table that passed
 pub taken-passed : (ws : List ℕ) (k : ℕ) → cycleOf ws ≡ answer.Accepted k → Passed ws
 unfolding cycleOf
 taken-passed ws k h = let (t, c, d) = on-taken (tableOf ws) _ k h in valid-passed ws t c .0
 
-pub accepted-iff : (ws : List ℕ) (b : Bool) → (cycleOf ws ≡ answer.Accepted (bit b)) ↔ (Passed ws × (cyclic body (programOf ws) ≡ b))
+pub accepted-iff : (ws : List ℕ) (b : Bool) → (cycleOf ws ≡ answer.Accepted (bit b)) ↔ (Passed ws × (cyclic (programOf ws .clauses) ≡ b))
 unfolding cycleOf
 accepted-iff ws b = (
   λ h.
       let (t, c, d) = on-taken (tableOf ws) _ (bit b) h in
-      let q : bit (cyclic body (programOf ws)) ≡ bit b = cc in
+      let q : bit (cyclic (programOf ws .clauses)) ≡ bit b = cc in
       (valid-passed ws t c .0, bit-same _ b q),
-  λ h. searched ws (tableNumbers ws) (h .0 .valid) ∙ ap (λ x. answer.Accepted (bit x)) (h .1),
+  λ h. passed-answer ws (h .0) ∙ ap (λ x. answer.Accepted (bit x)) (h .1),
 )

@@ -1,58 +1,37 @@
 -- The end of the search: where every atom ends, none leads back to itself.
 use Prim.Native.Nat.{ℕ, _+_, _-_, _≤_, _<_}
 use mathlib.Core.Path.{_≡_, refl, sym, ap, subst, _∙_}
-use mathlib.Core.Logic.{_↔_, _≢_, _⊎_, inl, inr, ⊎-elim}
-use mathlib.Core.Bool.{Bool, true, false, So}
+use mathlib.Core.Logic.{_≢_, inl}
+use mathlib.Core.Bool.{Bool, true, false}
 use mathlib.Core.List.{List, [], List·Memᴰ·not-nil}
 use native.Mathlib.Omega.{arith}
 use lib.ListN.{length, getD, set, take}
 use lib.Seq.{getD-set-same}
 use borrow.Author.Count.{below-more}
 use Rattle.semantics.specs.Lists.{_∈_}
-use Rattle.semantics.specs.Programs.{Clause}
 use Rattle.semantics.proofs.Tests.{so-false}
 use Rattle.table.specs.Questions.{Passed}
 use Rattle.table.specs.Programs.{clauseOf, programOf}
 use Rattle.table.proofs.Encoding.{passed-within, passed-limits}
-use Rattle.cycle.specs.Chains.{body, Link, Leads, link, chain}
-use Rattle.cycle.specs.Decide.{cyclic}
-use Rattle.cycle.specs.Search.{none, Ends, ends, Cyclic, start, Search, Nearer, Explored, explored, Visited, visited, SearchReady}
-use Rattle.cycle.proofs.Reached.{cyclic-iff}
+use Rattle.dependency.specs.Chains.{Leads}
+use Rattle.dependency.specs.Ends.{Ends}
+use Rattle.dependency.specs.Decide.{cyclic}
+use Rattle.cycle.specs.Search.{none, start, Search, Nearer, Explored, explored, Visited, visited, SearchReady}
+use Rattle.dependency.proofs.Chains.{leads-head, ends-not}
+use Rattle.dependency.proofs.Reached.{cyclic-iff}
 use Rattle.cycle.proofs.Pending.{pending-on}
 use Rattle.cycle.proofs.Paths.{some}
 use Rattle.cycle.proofs.Moves.{known, push, atoms}
 use Rattle.cycle.proofs.Advance.{explored-start}
 
 module _ (ws : List ℕ) where
-  abbrev cs : List Clause
-  cs = programOf ws .clauses
-
-  first-link : {a c : ℕ} → Leads body cs a c → (b : ℕ) × Link body cs a b × ((b ≡ c) ⊎ Leads body cs b c)
-  first-link {a} {c} (link l) = (c, l, inl refl)
-  first-link {a} {c} (chain g l) =
-      let w = first-link g in
-      (w .0, w .1, inr (⊎-elim (λ e. link (subst (λ b. Link body cs b c) (sym e) l)) (λ h. chain h l) (w .2)))
-
-  ends-not : {a : ℕ} → Ends ws a → ¬ Leads body cs a a
-  ends-not (ends f) g =
-      let (b, l, r) = first-link g in
-      ends-not (f b l) (⊎-elim (λ e. subst (λ x. Leads body cs x x) (sym e) g) (λ h. chain h l) r)
-
-  small : Passed ws → (c : Clause) → c ∈ cs → (a : ℕ) → a ∈ c .head → a < programOf ws .atoms
+  leads-below : Passed ws → {a b : ℕ} → Leads (programOf ws .clauses) a b → a < getD ws 0 0
   unfolding programOf
-  small p c m = passed-within ws p .ordered c m .head .below
-
-  pub cycle-iff : Passed ws → So (cyclic body (programOf ws)) ↔ Cyclic ws
-  cycle-iff p = cyclic-iff body (programOf ws) (small p)
-
-  leads-below : Passed ws → {a b : ℕ} → Leads body cs a b → a < getD ws 0 0
-  unfolding programOf
-  leads-below p {a} (link l) = small p (l .via) (l .member) a (l .head)
-  leads-below p (chain g l) = leads-below p g
+  leads-below p {a} g = let (c, m, h) = leads-head g in passed-within ws p .ordered c m .head .below a h
 
   -- every atom ends: no cycle
-  pub no-cycle : Passed ws → ((a : ℕ) → a < getD ws 0 0 → Ends ws a) → false ≡ cyclic body (programOf ws)
-  no-cycle p e = sym (so-false _ (λ h. let w = cycle-iff p .0 h in ends-not (e (w .0) (leads-below p (w .1))) (w .1)))
+  pub no-cycle : Passed ws → ((a : ℕ) → a < getD ws 0 0 → Ends (programOf ws .clauses) a) → false ≡ cyclic (programOf ws .clauses)
+  no-cycle p e = sym (so-false _ (λ h. let w = cyclic-iff _ .0 h in ends-not (e (w .0) (leads-below p (w .1))) (w .1)))
 
 -- ---- from atom to atom
 
@@ -76,7 +55,7 @@ module _ {ws nexts owner cur state left parent : List ℕ} where
         ended = λ a l z. absurd (omega (arith, r .unmet a (omega (arith, limit .fewAtoms))));
         seen = λ at k b m.
             let e : 8192 - getD left at 0 ≡ 0 = omega (arith, r .whole at (omega (arith, k .fits, limit .short))) in
-            absurd (List·Memᴰ·not-nil (subst (λ i. b ∈ take i (body (clauseOf ws at))) e m));
+            absurd (List·Memᴰ·not-nil (subst (λ i. b ∈ take i (clauseOf ws at .pos)) e m));
         stack = [];
         path = start;
         onto = λ a l z. absurd (omega (arith, r .unmet a (omega (arith, limit .fewAtoms))));
@@ -146,5 +125,5 @@ module _ {ws nexts owner cur state left parent : List ℕ} where
       ended = below-more (λ a. getD state″ a 0 ≡ 0) k (λ a l. omega (arith, s .ended a l, v .explored .falls a)) (v .ends);
     }
 
-    pub swept-end : getD ws 0 0 ≤ k → false ≡ cyclic body (programOf ws)
+    pub swept-end : getD ws 0 0 ≤ k → false ≡ cyclic (programOf ws .clauses)
     swept-end h = no-cycle ws (s .explored .search .passed) (λ a l. s .explored .search .ended a l (s .ended a (omega arith)))

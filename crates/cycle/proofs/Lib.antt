@@ -1,7 +1,5 @@
-pub mod Reached
 pub mod Updates
 pub mod Pending
-pub mod Bodies
 pub mod Paths
 pub mod Moves
 pub mod Advance

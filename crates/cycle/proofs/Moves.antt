@@ -1,5 +1,5 @@
 -- Each move of the search keeps what the search knows, and comes nearer to its end.
-use Prim.Native.Nat.{ℕ, suc, _-_, _≤_, _<_}
+use Prim.Native.Nat.{ℕ, suc, _+_, _-_, _≤_, _<_}
 use mathlib.Core.Path.{_≡_, refl, sym, ap, subst, _∙_}
 use mathlib.Core.Logic.{_≢_, _⊎_, inr, ⊎-elim}
 use mathlib.Core.List.{List, _∷_, List·Memᴰ·head, List·Memᴰ·tail, List·Memᴰ·cases-cons, List·Memᴰ·append-cases, List·Memᴰ·eq-of-singleton}
@@ -8,13 +8,14 @@ use lib.ListN.{length, getD, take, set, length-set}
 use lib.Seq.{take-suc, take-all, getD-set-same, getD-set-other}
 use Rattle.semantics.specs.Lists.{_∈_}
 use Rattle.table.specs.Programs.{clauseOf, programOf}
-use Rattle.table.proofs.Encoding.{passed-limits}
+use Rattle.table.specs.Places.{posAt}
+use Rattle.table.proofs.Encoding.{passed-limits, cut-length}
 use Rattle.table.proofs.Places.{getD-mem}
-use Rattle.cycle.specs.Chains.{body, Link, link, chain}
-use Rattle.cycle.specs.Search.{none, ClauseAt, Ends, ends, Cyclic, Pending, step, AllEnd, Search, Nearer}
+use Rattle.dependency.specs.Chains.{Link, link, chain, Cyclic}
+use Rattle.dependency.specs.Ends.{Ends, ends}
+use Rattle.cycle.specs.Search.{none, ClauseAt, Pending, step, AllEnd, Search, Nearer}
 use Rattle.cycle.proofs.Updates.{at-set, total-set}
-use Rattle.cycle.proofs.Pending.{link-below, body-below, pending-on, pending-end, Front, pending-front}
-use Rattle.cycle.proofs.Bodies.{body-length}
+use Rattle.cycle.proofs.Pending.{link-below, pending-on, pending-end, Front, pending-front}
 use Rattle.cycle.proofs.Paths.{popped, path-leads, path-set}
 
 module _ {ws nexts owner cur state left parent : List ℕ} {t : ℕ} (s : Search ws nexts owner cur state left parent t) where
@@ -25,7 +26,7 @@ module _ {ws nexts owner cur state left parent : List ℕ} {t : ℕ} (s : Search
   known a m e = omega (arith, s .«from» a m .0, atoms)
 
   -- an atom that was not met goes on the chain
-  pub push : (b : ℕ) → b < getD ws 0 0 → (t ≡ none) ⊎ Link body (programOf ws .clauses) t b → getD state b 0 ≢ 1 → getD state b 0 ≢ 0
+  pub push : (b : ℕ) → b < getD ws 0 0 → (t ≡ none) ⊎ Link (programOf ws .clauses) t b → getD state b 0 ≢ 1 → getD state b 0 ≢ 0
       → Nearer ws nexts owner cur state left parent cur (set state b 1) left (set parent b t) b
   push b b-below joins u w =
       let h : b < length state = omega (arith, b-below, atoms, s .states) in
@@ -44,7 +45,7 @@ module _ {ws nexts owner cur state left parent : List ℕ} {t : ℕ} (s : Search
           unended = at-set state b 1 h (λ a v. a < getD ws 0 0 → v ≢ 0 → Pending ws nexts owner (AllEnd (set state b 1)) a (getD cur a 0))
               (λ k q. pending-on (λ c d y m. keeps y (d y m)) (s .unended b k w))
               (λ a o k q. pending-on (λ c d y m. keeps y (d y m)) (s .unended a k q));
-          ended = at-set state b 1 h (λ a v. a < getD ws 0 0 → v ≡ 0 → Ends ws a) (λ k q. absurd (omega arith)) (λ a o k q. s .ended a k q);
+          ended = at-set state b 1 h (λ a v. a < getD ws 0 0 → v ≡ 0 → Ends (programOf ws .clauses) a) (λ k q. absurd (omega arith)) (λ a o k q. s .ended a k q);
           seen = λ at k y m. keeps y (s .seen at k y m);
           stack = b ∷ s .stack;
           path = step (path-set b t new (s .path)) joins (getD-set-same parent b t 0 g) new;
@@ -92,7 +93,7 @@ module _ {ws nexts owner cur state left parent : List ℕ} {t : ℕ} (s : Search
             most = s .most;
             unended = at-set state t 0 h (λ a v. a < getD ws 0 0 → v ≢ 0 → Pending ws nexts owner (AllEnd (set state t 0)) a (getD cur a 0))
                 (λ l n. absurd (n refl)) (λ a o l n. pending-on (λ c d b m. keeps b (d b m)) (s .unended a l n));
-            ended = at-set state t 0 h (λ a v. a < getD ws 0 0 → v ≡ 0 → Ends ws a)
+            ended = at-set state t 0 h (λ a v. a < getD ws 0 0 → v ≡ 0 → Ends (programOf ws .clauses) a)
                 (λ l q. ends (λ b k. s .ended b (link-below ws (s .passed) k) (pending-end z chain-on (k .via) (k .member) (k .head) b (k .into))))
                 (λ a o l q. s .ended a l q);
             seen = λ at k b m. keeps b (s .seen at k b m);
@@ -122,13 +123,13 @@ module _ {ws nexts owner cur state left parent : List ℕ} {t : ℕ} (s : Search
       pub front : Front ws nexts owner (AllEnd state) t (getD cur t 0)
       front = pending-front n chain-on
 
-      -- its whole body ends: on to the next clause of t
-      pub pass-clause : length (body (clauseOf ws here)) ≤ 8192 - getD left here 0
+      -- its whole positive body ends: on to the next clause of t
+      pub pass-clause : length (clauseOf ws here .pos) ≤ 8192 - getD left here 0
           → Nearer ws nexts owner cur state left parent (set cur t (getD nexts (getD cur t 0) 0)) state left parent t
       pass-clause l =
           let v = getD nexts (getD cur t 0) 0 in
           let h : t < length cur = omega (arith, top-below, atoms, s .long .atoms) in
-          let d : AllEnd state (clauseOf ws here) = λ b m. s .seen here (front .clause) b (subst (λ k. b ∈ k) (sym (take-all (8192 - getD left here 0) (body (clauseOf ws here)) l)) m) in
+          let d : AllEnd state (clauseOf ws here) = λ b m. s .seen here (front .clause) b (subst (λ k. b ∈ k) (sym (take-all (8192 - getD left here 0) (clauseOf ws here .pos) l)) m) in
           record {
             search = record {
               passed = s .passed;
@@ -155,22 +156,22 @@ module _ {ws nexts owner cur state left parent : List ℕ} {t : ℕ} (s : Search
             parents = refl;
           }
 
-      -- the next atom b of its body
-      module _ (l : 8192 - getD left here 0 < length (body (clauseOf ws here))) (b : ℕ) (e : b ≡ getD (body (clauseOf ws here)) (8192 - getD left here 0) 0) where
-        at-b : b ∈ body (clauseOf ws here)
-        at-b = subst (λ y. y ∈ body (clauseOf ws here)) (sym e) (getD-mem (body (clauseOf ws here)) (8192 - getD left here 0) l)
+      -- the next atom b of its positive body
+      module _ (l : 8192 - getD left here 0 < length (clauseOf ws here .pos)) (b : ℕ) (e : b ≡ getD (clauseOf ws here .pos) (8192 - getD left here 0) 0) where
+        at-b : b ∈ clauseOf ws here .pos
+        at-b = subst (λ y. y ∈ clauseOf ws here .pos) (sym e) (getD-mem (clauseOf ws here .pos) (8192 - getD left here 0) l)
 
         pub b-below : b < getD ws 0 0
-        b-below = body-below (front .clause) b at-b
+        b-below = front .clause .ordered .pos .below b at-b
 
-        step-on : Link body (programOf ws .clauses) t b
+        step-on : Link (programOf ws .clauses) t b
         step-on = record { via = clauseOf ws here; member = front .clause .member; head = front .head; into = at-b }
 
         -- b is on the chain that is followed
-        pub cycle-found : getD state b 0 ≡ 1 → Cyclic ws
+        pub cycle-found : getD state b 0 ≡ 1 → Cyclic (programOf ws .clauses)
         cycle-found q = (
           b,
-          ⊎-elim (λ i. link (subst (λ y. Link body (programOf ws .clauses) y b) (sym i) step-on)) (λ g. chain g step-on)
+          ⊎-elim (λ i. link (subst (λ y. Link (programOf ws .clauses) y b) (sym i) step-on)) (λ g. chain g step-on)
               (path-leads (s .path) known b (s .onto b b-below q)),
         )
 
@@ -180,7 +181,7 @@ module _ {ws nexts owner cur state left parent : List ℕ} {t : ℕ} (s : Search
         pub left-some : 0 < getD left here 0
         left-some =
             let f = front .clause .fits in
-            omega (arith, body-length ws here (front .clause .fits), passed-limits ws (s .passed) .short)
+            omega (arith, cut-length ws (posAt ws here) (getD ws (here + 1) 0) (omega arith), passed-limits ws (s .passed) .short)
 
         -- b ends: past it
         pub pass-atom : getD state b 0 ≡ 0 → Nearer ws nexts owner cur state left parent cur state (set left here (getD left here 0 - 1)) parent t
@@ -200,9 +201,9 @@ module _ {ws nexts owner cur state left parent : List ℕ} {t : ℕ} (s : Search
                 most = at-set left here v h (λ a w. w ≤ 8192) (omega (arith, s .most here)) (λ a o. s .most a);
                 unended = s .unended;
                 ended = s .ended;
-                seen = at-set left here v h (λ at w. ClauseAt ws at → (y : ℕ) → y ∈ take (8192 - w) (body (clauseOf ws at)) → getD state y 0 ≡ 0)
+                seen = at-set left here v h (λ at w. ClauseAt ws at → (y : ℕ) → y ∈ take (8192 - w) (clauseOf ws at .pos) → getD state y 0 ≡ 0)
                     (λ k y m. ⊎-elim (s .seen here k y) (λ r. ap (λ z. getD state z 0) (List·Memᴰ·eq-of-singleton r ∙ sym e) ∙ q)
-                    (List·Memᴰ·append-cases (take i (body (clauseOf ws here))) (subst (λ z. y ∈ z) (ap (λ z. take z (body (clauseOf ws here))) j ∙ take-suc (body (clauseOf ws here)) i 0 l) m)))
+                    (List·Memᴰ·append-cases (take i (clauseOf ws here .pos)) (subst (λ z. y ∈ z) (ap (λ z. take z (clauseOf ws here .pos)) j ∙ take-suc (clauseOf ws here .pos) i 0 l) m)))
                     (λ at o k y m. s .seen at k y m);
                 stack = s .stack;
                 path = s .path;

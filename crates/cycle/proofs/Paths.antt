@@ -7,7 +7,7 @@ use lib.ListN.{getD, set}
 use lib.Seq.{getD-set-other}
 use Rattle.semantics.specs.Lists.{_∈_}
 use Rattle.table.specs.Programs.{programOf}
-use Rattle.cycle.specs.Chains.{body, Link, Leads, link, chain}
+use Rattle.dependency.specs.Chains.{Link, Leads, link, chain}
 use Rattle.cycle.specs.Search.{none, Path, start, step}
 
 module _ {ws parent : List ℕ} where
@@ -20,15 +20,15 @@ module _ {ws parent : List ℕ} where
   some (step p k q f) s e a m = s _ (List·Memᴰ·head refl) e
 
   -- from each of its atoms to the last
-  pub path-leads : {t : ℕ} {l : List ℕ} → Path ws parent t l → ((a : ℕ) → a ∈ l → a ≢ none) → (a : ℕ) → a ∈ l → (a ≡ t) ⊎ Leads body (programOf ws .clauses) a t
+  pub path-leads : {t : ℕ} {l : List ℕ} → Path ws parent t l → ((a : ℕ) → a ∈ l → a ≢ none) → (a : ℕ) → a ∈ l → (a ≡ t) ⊎ Leads (programOf ws .clauses) a t
   path-leads start s a m = absurd (List·Memᴰ·not-nil m)
   path-leads (step {t = t} {b = b} {l = l} p k q f) s a m =
       let s′ : (c : ℕ) → c ∈ l → c ≢ none = λ c n. s c (List·Memᴰ·tail n) in
       ⊎-elim inl (λ r. inr (go k (λ e. some p s′ e a r) (path-leads p s′ a r))) (List·Memᴰ·cases-cons m)
     where
-      go : (t ≡ none) ⊎ Link body (programOf ws .clauses) t b → (t ≢ none) → (a ≡ t) ⊎ Leads body (programOf ws .clauses) a t → Leads body (programOf ws .clauses) a b
+      go : (t ≡ none) ⊎ Link (programOf ws .clauses) t b → (t ≢ none) → (a ≡ t) ⊎ Leads (programOf ws .clauses) a t → Leads (programOf ws .clauses) a b
       go (inl e) n w = absurd (n e)
-      go (inr k) n (inl e) = link (subst (λ x. Link body (programOf ws .clauses) x b) (sym e) k)
+      go (inr k) n (inl e) = link (subst (λ x. Link (programOf ws .clauses) x b) (sym e) k)
       go (inr k) n (inr g) = chain g k
 
   -- it stays the same where the parent of another atom changes

@@ -2,7 +2,7 @@
 use Prim.Native.Nat.{ℕ, _-_, _<_}
 use mathlib.Core.Path.{_≡_, refl, sym, ap, subst, _∙_}
 use mathlib.Core.Logic.{_≢_, _⊎_, inl, inr, ⊎-elim}
-use mathlib.Core.List.{List, List·Memᴰ·head, List·Memᴰ·tail, List·Memᴰ·not-nil, List·Memᴰ·cases-cons, List·Memᴰ·append-cases}
+use mathlib.Core.List.{List, List·Memᴰ·head, List·Memᴰ·tail, List·Memᴰ·not-nil, List·Memᴰ·cases-cons}
 use native.Mathlib.Omega.{arith}
 use lib.ListN.{getD}
 use Rattle.semantics.specs.Lists.{_∈_}
@@ -10,18 +10,13 @@ use Rattle.semantics.specs.Programs.{Clause}
 use Rattle.table.specs.Questions.{Passed}
 use Rattle.table.specs.Programs.{clauseOf, programOf}
 use Rattle.table.proofs.Encoding.{passed-within}
-use Rattle.cycle.specs.Chains.{body, Link}
+use Rattle.dependency.specs.Chains.{Link}
 use Rattle.cycle.specs.Search.{ClauseAt, Places, stop, more, Pending}
 
 -- atoms are below n
-pub link-below : (ws : List ℕ) → Passed ws → {a b : ℕ} → Link body (programOf ws .clauses) a b → b < getD ws 0 0
+pub link-below : (ws : List ℕ) → Passed ws → {a b : ℕ} → Link (programOf ws .clauses) a b → b < getD ws 0 0
 unfolding programOf
-link-below ws p {a} {b} l =
-    let o = passed-within ws p .ordered (l .via) (l .member) in
-    ⊎-elim (o .pos .below b) (o .neg .below b) (List·Memᴰ·append-cases (l .via .pos) (l .into))
-
-pub body-below : {ws : List ℕ} {at : ℕ} → ClauseAt ws at → (b : ℕ) → b ∈ body (clauseOf ws at) → b < getD ws 0 0
-body-below {ws} {at} k b m = ⊎-elim (k .ordered .pos .below b) (k .ordered .neg .below b) (List·Memᴰ·append-cases (clauseOf ws at .pos) m)
+link-below ws p {a} {b} l = passed-within ws p .ordered (l .via) (l .member) .pos .below b (l .into)
 
 pub pending-by : {ws nexts owner : List ℕ} {D E : Clause → Type 0} {a w : ℕ} → ((c : Clause) → a ∈ c .head → D c → E c) → Pending ws nexts owner D a w → Pending ws nexts owner E a w
 pending-by f p = record {

@@ -1,4 +1,2 @@
-pub mod Chains
-pub mod Decide
 pub mod Search
 pub mod Answer

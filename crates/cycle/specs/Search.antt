@@ -14,7 +14,8 @@ use Rattle.table.specs.Places.{nextAt}
 use Rattle.table.specs.Programs.{clauseOf, clausesOf, programOf}
 use Rattle.cycle.specs.declared.Move.{Move}
 use Rattle.cycle.specs.declared.Move.the-variants.{At, Cycle}
-use Rattle.cycle.specs.Chains.{body, Link, Leads}
+use Rattle.dependency.specs.Chains.{Link, Cyclic}
+use Rattle.dependency.specs.Ends.{Ends}
 
 -- no atom
 abbrev pub none : ℕ
@@ -25,14 +26,6 @@ pub record ClauseAt (ws : List ℕ) (at : ℕ) : Type 0 where
   pub member : clauseOf ws at ∈ programOf ws .clauses
   pub fits : nextAt ws at ≤ length ws
   pub ordered : OrderedClause (getD ws 0 0) (clauseOf ws at)
-
--- an atom that leads nowhere for ever
-pub data Ends (ws : List ℕ) : ℕ → Type 0 where
-  ends : {a : ℕ} → ((b : ℕ) → Link body (programOf ws .clauses) a b → Ends ws b) → Ends ws a
-
--- some atom leads back to itself
-abbrev pub Cyclic : List ℕ → Type 0
-Cyclic ws = (a : ℕ) × Leads body (programOf ws .clauses) a a
 
 -- the places that are met from w on, each below the one before; 0 ends them
 pub data Places (nexts : List ℕ) : ℕ → List ℕ → Type 0 where
@@ -93,11 +86,11 @@ pub record Blank (ws first nexts owner : List ℕ) : Type 0 where
 -- the chain that is followed, from its last atom back
 pub data Path (ws parent : List ℕ) : ℕ → List ℕ → Type 0 where
   start : Path ws parent none []
-  step : {t b : ℕ} {l : List ℕ} → Path ws parent t l → (t ≡ none) ⊎ Link body (programOf ws .clauses) t b → getD parent b 0 ≡ t → ¬ (b ∈ l) → Path ws parent b (b ∷ l)
+  step : {t b : ℕ} {l : List ℕ} → Path ws parent t l → (t ≡ none) ⊎ Link (programOf ws .clauses) t b → getD parent b 0 ≡ t → ¬ (b ∈ l) → Path ws parent b (b ∷ l)
 
--- every atom of the clause's body ends
+-- every atom of the clause's positive body ends
 abbrev pub AllEnd : List ℕ → Clause → Type 0
-AllEnd state c = (b : ℕ) → b ∈ body c → getD state b 0 ≡ 0
+AllEnd state c = (b : ℕ) → b ∈ c .pos → getD state b 0 ≡ 0
 
 pub record Search (ws nexts owner cur state left parent : List ℕ) (t : ℕ) : Type 0 where
   pub passed : Passed ws
@@ -108,8 +101,8 @@ pub record Search (ws nexts owner cur state left parent : List ℕ) (t : ℕ) : 
   pub place : (a : ℕ) → getD cur a 0 < 8192
   pub most : (at : ℕ) → getD left at 0 ≤ 8192
   pub unended : (a : ℕ) → a < getD ws 0 0 → getD state a 0 ≢ 0 → Pending ws nexts owner (AllEnd state) a (getD cur a 0)
-  pub ended : (a : ℕ) → a < getD ws 0 0 → getD state a 0 ≡ 0 → Ends ws a
-  pub seen : (at : ℕ) → ClauseAt ws at → (b : ℕ) → b ∈ take (8192 - getD left at 0) (body (clauseOf ws at)) → getD state b 0 ≡ 0
+  pub ended : (a : ℕ) → a < getD ws 0 0 → getD state a 0 ≡ 0 → Ends (programOf ws .clauses) a
+  pub seen : (at : ℕ) → ClauseAt ws at → (b : ℕ) → b ∈ take (8192 - getD left at 0) (clauseOf ws at .pos) → getD state b 0 ≡ 0
   pub stack : List ℕ
   pub path : Path ws parent t stack
   pub onto : (a : ℕ) → a < getD ws 0 0 → getD state a 0 ≡ 1 → a ∈ stack
@@ -124,7 +117,7 @@ total (x ∷ l) = x + total l
 abbrev pub size : List ℕ → List ℕ → List ℕ → ℕ
 size cur state left = total cur + total state + total left
 
--- at the atom t, whose clause at `at` has the atom b next in its body: b is on the chain that is followed, or ends, or was not met
+-- at the atom t, whose clause at `at` has the atom b next in its positive body: b is on the chain that is followed, or ends, or was not met
 pub data Looked (state left parent state′ left′ parent′ : List ℕ) (t at b : ℕ) : Move → Type 0 where
   met : getD state b 0 ≡ 1 → Looked state left parent state′ left′ parent′ t at b Cycle
   over : getD state b 0 ≡ 0 → state′ ≡ state → left′ ≡ set left at (getD left at 0 - 1) → parent′ ≡ parent → Looked state left parent state′ left′ parent′ t at b (At t)
@@ -142,7 +135,7 @@ pub record Nearer (ws nexts owner cur state left parent cur′ state′ left′ 
 
 abbrev pub moved : (ws nexts owner cur state left parent cur′ state′ left′ parent′ : List ℕ) → Move → Type 0
 moved ws nexts owner cur state left parent cur′ state′ left′ parent′ (At t) = Nearer ws nexts owner cur state left parent cur′ state′ left′ parent′ t
-moved ws nexts owner cur state left parent cur′ state′ left′ parent′ Cycle = Cyclic ws
+moved ws nexts owner cur state left parent cur′ state′ left′ parent′ Cycle = Cyclic (programOf ws .clauses)
 
 -- moves that came to the atom t
 pub record Explored (ws nexts owner cur state left parent cur′ state′ left′ parent′ : List ℕ) (t : ℕ) : Type 0 where
@@ -155,7 +148,7 @@ pub record Explored (ws nexts owner cur state left parent cur′ state′ left�
 
 -- a whole search found a cycle, or came to its end
 abbrev pub explored : (ws nexts owner cur state left parent cur′ state′ left′ parent′ : List ℕ) → Bool → Type 0
-explored ws nexts owner cur state left parent cur′ state′ left′ parent′ true = Cyclic ws
+explored ws nexts owner cur state left parent cur′ state′ left′ parent′ true = Cyclic (programOf ws .clauses)
 explored ws nexts owner cur state left parent cur′ state′ left′ parent′ false = Explored ws nexts owner cur state left parent cur′ state′ left′ parent′ none
 
 -- the atom a ends
@@ -164,7 +157,7 @@ pub record Visited (ws nexts owner cur state left parent cur′ state′ left′
   pub ends : getD state′ a 0 ≡ 0
 
 abbrev pub visited : (ws nexts owner cur state left parent cur′ state′ left′ parent′ : List ℕ) → ℕ → Bool → Type 0
-visited ws nexts owner cur state left parent cur′ state′ left′ parent′ a true = Cyclic ws
+visited ws nexts owner cur state left parent cur′ state′ left′ parent′ a true = Cyclic (programOf ws .clauses)
 visited ws nexts owner cur state left parent cur′ state′ left′ parent′ a false = Visited ws nexts owner cur state left parent cur′ state′ left′ parent′ a
 
 -- nothing is searched yet

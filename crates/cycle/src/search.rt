@@ -1,38 +1,19 @@
 // The search for a cycle: one chain is followed as far as it goes, then back. An atom's state is 2 where it was not met, 1 where it is
-// on the chain that is followed, 0 where every chain from it ends. Each head word and each body word is passed once.
-ghost use Prim.Native.Nat.{_≤_, _<_};
+// on the chain that is followed, 0 where every chain from it ends. Each head word and each word of a positive body is passed once.
+ghost use Prim.Native.Nat.{_<_};
 ghost use mathlib.Core.Path.{_≡_};
 ghost use mathlib.Core.Logic.{_≢_};
 ghost use lib.ListN.{length, getD};
-ghost use Rattle.table.specs.Places.{nextAt};
-ghost use Rattle.table.specs.Programs.{clauseOf, programOf};
+ghost use Rattle.table.specs.Programs.{programOf};
 ghost use Rattle.table.specs.Questions.{Passed};
-ghost use Rattle.cycle.specs.Chains.{body};
-ghost use Rattle.cycle.specs.Decide.{cyclic};
+ghost use Rattle.dependency.specs.Decide.{cyclic};
 ghost use Rattle.cycle.specs.Search.{none, Search, Looked, moved, explored, visited, SearchReady};
 use super::Move;
 
 // No atom: the chain that is followed is empty.
 pub const NONE: u16 = 65535;
 
-// How many atoms the body of the clause at `at` has.
-fn body_len(words: &[u16], at: usize) -> usize
-    requires { ⌜ nextAt (now words) at ≤ length (now words) ⌝ }
-    ensures { λ r. ⌜ r ≡ length (body (clauseOf (now (words .entry)) at)) ⌝ }
-{
-    table::wide(words[at + 1]) + table::wide(words[at + 2])
-}
-
-// The body's atom i.
-fn body_atom(words: &[u16], at: usize, i: usize) -> u16
-    requires { ⌜ (nextAt (now words) at ≤ length (now words)) × (i < length (body (clauseOf (now words) at))) ⌝ }
-    ensures { λ r. ⌜ r ≡ getD (body (clauseOf (now (words .entry)) at)) i 0 ⌝ }
-{
-    let p = at + 3 + table::wide(words[at]) + i;
-    words[p]
-}
-
-// At the atom t, whose clause at `at` has the atom b next in its body.
+// At the atom t, whose clause at `at` has the atom b next in its positive body.
 fn look(t: u16, at: usize, b: u16, state: &mut [u16], left: &mut [u16], parent: &mut [u16]) -> Move
     requires { ⌜ (b < length (now state)) × ((b < length (now parent)) × ((at < length (now left)) × (0 < getD (now left) at 0))) ⌝ }
     ensures { λ r. ⌜ Looked (now (state .entry)) (now (left .entry)) (now (parent .entry)) (now (state .exit)) (now (left .exit)) (now (parent .exit)) t at b r ⌝ }
@@ -74,11 +55,12 @@ fn advance(
     }
     let at = table::wide(owner[w]);
     let i = 8192 - table::wide(left[at]);
-    if body_len(words, at) <= i {
+    let pos = table_clauses::pos_of(words, at);
+    if pos.len() <= i {
         cur[a] = nexts[w];
         return Move::At(t);
     }
-    look(t, at, body_atom(words, at, i), state, left, parent)
+    look(t, at, pos[i], state, left, parent)
 }
 
 // All moves from the atom t on, until the chain is empty or a cycle is found.
@@ -143,7 +125,7 @@ fn sweep(
     parent: &mut [u16],
 ) -> bool
     requires { ⌜ SearchReady (now words) (now nexts) (now owner) (now cur) (now state) (now left) (now parent) ⌝ }
-    ensures { λ r. ⌜ r ≡ cyclic body (programOf (now (words .entry))) ⌝ }
+    ensures { λ r. ⌜ r ≡ cyclic (programOf (now (words .entry)) .clauses) ⌝ }
 {
     let atoms = words[0];
     for a in 0..atoms {
@@ -157,7 +139,7 @@ fn sweep(
 // Whether some atom leads back to itself.
 pub fn find_cycle(words: &[u16]) -> bool
     requires { ⌜ Passed (now words) ⌝ }
-    ensures { λ r. ⌜ r ≡ cyclic body (programOf (now (words .entry))) ⌝ }
+    ensures { λ r. ⌜ r ≡ cyclic (programOf (now (words .entry)) .clauses) ⌝ }
 {
     let mut first = [0u16; 1024];
     let mut nexts = [0u16; 8192];

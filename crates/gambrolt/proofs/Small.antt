@@ -25,8 +25,7 @@ use Rattle.table.proofs.Laws.{table-part}
 use Rattle.table.proofs.Encoding.{passed-limits}
 use Rattle.table.proofs.Refused.{NearBy, near-ask, atoms-near, small-walk, small-table}
 use Rattle.models_test.specs.Answer.{setOf, testOf}
-use Rattle.cycle.specs.Chains.{body}
-use Rattle.cycle.specs.Decide.{cyclic}
+use Rattle.dependency.specs.Decide.{cyclic}
 use Rattle.cycle.specs.Answer.{cycleOf}
 use Rattle.reduced_marks.specs.Allowed.{allowed, marksFrom}
 use Rattle.reduced_sizes.specs.Leaves.{reduced}
@@ -53,7 +52,7 @@ test-small ws set = small-table ws _ (λ p. small-walk 16 (omega arith) (setOf s
 
 pub cycle-small : (ws : List ℕ) → Small (cycleOf ws)
 unfolding cycleOf
-cycle-small ws = small-table ws _ (λ p. omega (arith, bit-bound (cyclic body (programOf ws))))
+cycle-small ws = small-table ws _ (λ p. omega (arith, bit-bound (cyclic (programOf ws .clauses))))
 
 -- ---- the reduced table
 

@@ -8,7 +8,7 @@ mod steps;
 mod tables;
 mod texts;
 
-use gambrolt_tests::compare::Tally;
+use gambrolt_tests::compare::{Circles, Tally};
 use gambrolt_tests::make::shapes::SHAPES;
 use gambrolt_tests::random::Random;
 use std::time::Instant;
@@ -16,7 +16,7 @@ use std::time::Instant;
 /// A group of cases: its name, how many draws it makes, and what one draw compares.
 type Group = (&'static str, u64, fn(&mut Random, &mut Tally));
 
-const GROUPS: [Group; 11] = [
+const GROUPS: [Group; 12] = [
     ("tables", 120_000, tables::damaged),
     ("lists", 100_000, steps::checked),
     ("reducing", 60_000, steps::reduced),
@@ -28,6 +28,7 @@ const GROUPS: [Group; 11] = [
     ("texts read", 80_000, texts::read),
     ("texts at the limits", 20, texts::at_the_limits),
     ("texts written", 20_000, texts::written),
+    ("circles", 40_000, tables::circles),
 ];
 
 fn main() {
@@ -63,6 +64,9 @@ fn report(tally: &Tally) {
     }
     println!("steps made by kind: {:?}", &tally.made[1..]);
     assert!(tally.made[1..].iter().all(|&steps| steps > 0), "a kind of step was never made");
+    println!("{:?}", tally.circles);
+    let Circles { positive, negative, none } = tally.circles;
+    assert!(positive.min(negative).min(none) > 1_000, "too few circles, or programs without");
     let never: Vec<usize> = (1..=29).filter(|&number| tally.met[number] == 0).collect();
     assert!(never.is_empty(), "questions never met: {never:?}");
     assert!(tally.cases >= 200_000, "too few cases");

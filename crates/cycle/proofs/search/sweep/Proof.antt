@@ -5,7 +5,8 @@ use native.Mathlib.Omega.{arith}
 use lib.ListN.{getD}
 use borrow.Author.Needs.{needs}
 use Rattle.table.proofs.Encoding.{passed-limits}
-use Rattle.cycle.proofs.Ended.{AtomsEnded, swept-start, swept-next, swept-end, cycle-iff}
+use Rattle.dependency.proofs.Reached.{cyclic-iff}
+use Rattle.cycle.proofs.Ended.{AtomsEnded, swept-start, swept-next, swept-end}
 use Rattle.cycle.proofs.search.sweep.Statement.{statement}
 use Rattle.cycle.proofs.search.sweep.Tie as tie
 
@@ -37,7 +38,7 @@ same-length-4 : tie.Need-same-length-4 Inv-loop μ-loop
 same-length-4 c = c .before .before .before .before .before .before .before .before .before .visit .kept .1 .1 .1 .1 .1 .1 .1 .0 ∙ c .before .before .before .before .before .before .before .before .before .before .before .before .before .before .before .loop .inv .1 .1 .explored .parents
 
 returns : tie.Need-returns Inv-loop μ-loop
-returns c = sym (cycle-iff _ (c .before .before .before .before .before .before .before .before .before .before .before .before .before .before .before .before .before .before .before .before .before .before .before .before .pre .passed) .1 (rw (c .if1 .taken) at (c .before .before .before .before .before .before .before .before .before .visit .ensures)))
+returns c = sym (cyclic-iff _ .1 (rw (c .if1 .taken) at (c .before .before .before .before .before .before .before .before .before .visit .ensures)))
 
 add-a : tie.Need-add-a Inv-loop μ-loop
 add-a c = let h = passed-limits _ (c .before .before .before .before .before .before .before .before .before .before .before .before .before .before .before .before .before .before .before .before .before .before .before .before .pre .passed) .fewAtoms in omega arith
