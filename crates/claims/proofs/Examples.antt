@@ -16,7 +16,7 @@ use Rattle.table.specs.Programs.{clausesOf, programOf}
 use Rattle.table.specs.View.{part, entryAt, entriesFrom, view}
 use Rattle.table.specs.Effects.{find, clears, marksAfter, marksAfterAll}
 use Rattle.models_test.specs.Answer as sets
-use Rattle.dependency.specs.Decide.{ahead, onward, leads, cyclic}
+use Rattle.dependency.specs.Decide.{turned, leads, cyclic}
 use Rattle.cycle.specs.Answer as cycles
 use Rattle.step_lists.specs.Lists as lists
 use Rattle.step_questions.specs.Questions as steps
@@ -56,5 +56,5 @@ rows =
     ∷ []
 
 pub examples : AllSay rows
-unfolding satisfies reduct models sublists stableTest left fire reachFrom reach inNoHead condition conditionHolds applies effect least firstAtom firstPartner firstTarget firstStep reduce ask questions.atomsFrom questions.partsFrom questions.clauseFrom questions.clausesFrom questions.allUsed questions.tableOf startFrom clausesOf programOf part entryAt entriesFrom view find clears marksAfter sets.setOf sets.testOf ahead onward leads cyclic cycles.cycleOf steps.shapeQuestions steps.stepQuestions lists.stepsFrom lists.checkList wordsOf reductions.bodyLiterals reductions.room reductions.stepsOf reductions.reduction marksAfterAll questions.onWalk questions.onTable
+unfolding satisfies reduct models sublists stableTest left fire reachFrom reach inNoHead condition conditionHolds applies effect least firstAtom firstPartner firstTarget firstStep reduce ask questions.atomsFrom questions.partsFrom questions.clauseFrom questions.clausesFrom questions.allUsed questions.tableOf startFrom clausesOf programOf part entryAt entriesFrom view find clears marksAfter sets.setOf sets.testOf turned leads cyclic cycles.cycleOf steps.shapeQuestions steps.stepQuestions lists.stepsFrom lists.checkList wordsOf reductions.bodyLiterals reductions.room reductions.stepsOf reductions.reduction marksAfterAll questions.onWalk questions.onTable
 examples = (refl, (refl, (refl, (refl, (refl, (refl, (refl, (refl, (refl, ((refl, refl), (refl, ((refl, refl), (refl, (refl, ((refl, refl), ((refl, refl), tt))))))))))))))))

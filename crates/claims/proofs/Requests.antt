@@ -14,7 +14,7 @@ use Rattle.table.specs.Places.{startFrom}
 use Rattle.table.specs.Programs.{clausesOf, programOf}
 use Rattle.table.specs.View.{part, entryAt, entriesFrom, view}
 use Rattle.table.specs.Effects.{find, clears, marksAfter, marksAfterAll}
-use Rattle.dependency.specs.Decide.{ahead, onward, leads, cyclic}
+use Rattle.dependency.specs.Decide.{turned, leads, cyclic}
 use Rattle.cycle.specs.Answer.{cycleOf}
 use Rattle.step_lists.specs.Lists as lists
 use Rattle.step_questions.specs.Questions as steps
@@ -85,5 +85,5 @@ rows =
     ∷ []
 
 pub requests : AllSay rows
-unfolding left fire reachFrom reach inNoHead condition conditionHolds applies effect least firstAtom firstPartner firstTarget firstStep reduce ask questions.atomsFrom questions.partsFrom questions.clauseFrom questions.clausesFrom questions.allUsed questions.tableOf startFrom clausesOf programOf part entryAt entriesFrom view find clears marksAfter marksAfterAll steps.shapeQuestions steps.stepQuestions lists.stepsFrom lists.checkList wordsOf reductions.bodyLiterals reductions.room reductions.stepsOf reductions.reduction questions.onWalk questions.onTable ahead onward leads cyclic cycleOf
+unfolding left fire reachFrom reach inNoHead condition conditionHolds applies effect least firstAtom firstPartner firstTarget firstStep reduce ask questions.atomsFrom questions.partsFrom questions.clauseFrom questions.clausesFrom questions.allUsed questions.tableOf startFrom clausesOf programOf part entryAt entriesFrom view find clears marksAfter marksAfterAll steps.shapeQuestions steps.stepQuestions lists.stepsFrom lists.checkList wordsOf reductions.bodyLiterals reductions.room reductions.stepsOf reductions.reduction questions.onWalk questions.onTable turned leads cyclic cycleOf
 requests = (refl, (refl, (refl, ((refl, refl), (refl, (refl, (refl, (refl, (refl, (refl, (refl, (refl, (refl, (refl, (refl, (refl, ((refl, refl), (refl, (refl, (refl, (refl, (refl, (refl, (refl, (refl, (refl, (refl, tt)))))))))))))))))))))))))))

@@ -14,7 +14,7 @@ module _ {cs : List Clause} where
   leads-join g (chain h l) = chain (leads-join g h) l
 
   -- the first link of a chain, and what is left of it
-  pub first-link : {a c : ℕ} → Leads cs a c → (b : ℕ) × Link cs a b × ((b ≡ c) ⊎ Leads cs b c)
+  first-link : {a c : ℕ} → Leads cs a c → (b : ℕ) × Link cs a b × ((b ≡ c) ⊎ Leads cs b c)
   first-link {a} {c} (link l) = (c, l, inl refl)
   first-link {a} {c} (chain g l) =
       let w = first-link g in

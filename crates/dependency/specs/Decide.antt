@@ -1,26 +1,25 @@
 -- Chains over the positive bodies, computed: whether an atom leads to another, and whether some atom leads back to itself.
 use mathlib.Core.Bool.{Bool, cond}
-use mathlib.Core.List.{List, [], _∷_, _++_}
-use Prim.Native.Nat.{ℕ, zero, suc}
-use lib.ListN.{length}
-use Rattle.semantics.specs.Lists.{any, mem}
-use Rattle.semantics.specs.Programs.{Clause, among}
+use mathlib.Core.List.{List, [], _∷_, _++_, map}
+use Prim.Native.Nat.{ℕ}
+use lib.Dec.{eqb}
+use Rattle.semantics.specs.Lists.{any}
+use Rattle.semantics.specs.Programs.{Clause}
+use Rattle.rewriting.specs.Reaches.{reach}
 
--- what the atoms of a list lead to by one clause
-unfoldable pub ahead : List Clause → List ℕ → List ℕ
-ahead [] S = []
-ahead (c ∷ cs) S = cond (any (among S) (c .head)) (c .pos) [] ++ ahead cs S
+-- a clause turned round at its head atom h: whoever leads to h leads to the positive body; a itself leads to h by nothing
+abbrev pub turn : ℕ → Clause → ℕ → Clause
+turn a c h = record { head = c .pos; pos = cond (eqb a h) [] (h ∷ []); neg = [] }
 
--- and by chains of at most k clauses more
-unfoldable pub onward : List Clause → ℕ → List ℕ → List ℕ
-unfolding ahead
-onward cs zero S = ahead cs S
-onward cs (suc k) S = onward cs k S ++ ahead cs (onward cs k S)
+-- all clauses, turned round at all their head atoms
+unfoldable pub turned : ℕ → List Clause → List Clause
+turned a [] = []
+turned a (c ∷ cs) = map (turn a c) (c .head) ++ turned a cs
 
--- a leads to b: a chain needs no clause twice
+-- a leads to b: the reach of the turned clauses is what a leads to
 unfoldable pub leads : List Clause → ℕ → ℕ → Bool
-unfolding onward
-leads cs a b = mem b (onward cs (length cs) (a ∷ []))
+unfolding turned reach
+leads cs a b = reach (turned a cs) b
 
 -- some atom leads back to itself: it is in a head
 unfoldable pub cyclic : List Clause → Bool
