@@ -175,7 +175,8 @@ static void measure(const struct order *o, const uint16_t *table, size_t words, 
 
 static void put_json(struct buffer *b, struct order *o, size_t size[2][3], const int *cyclic, const unsigned *steps)
 {
-    static const char *const sizes[] = {"clauses", "literals", "atoms"}, *const truth[] = {"false", "true"};
+    static const char *const sizes[] = {"clauses", "literals", "atoms"};
+    static const char *const truth[] = {"false", "true"};
     putf(b, "{\"reduced\": true,\n");
     for (int i = 0; i < 3; i++)
         putf(b, " \"%s\": {\"before\": %zu, \"after\": %zu},\n", sizes[i], size[0][i], size[1][i]);
@@ -193,7 +194,8 @@ static void put_json(struct buffer *b, struct order *o, size_t size[2][3], const
 void put_statistics(struct order *o, int json)
 {
     static const char *const sizes[] = {"clauses", "body literals", "atoms"};
-    static const char *const times[] = {"reading", "reducing", "checking"}, *const answer[] = {"no", "yes"};
+    static const char *const times[] = {"reading", "reducing", "checking"};
+    static const char *const answer[] = {"no", "yes"};
     size_t size[2][3] = {{0}};
     int cyclic[2] = {gambrolt_cycle(o->table, o->words) == 1, gambrolt_cycle(o->reduced, o->reduced_words) == 1};
     unsigned steps[KINDS] = {0};

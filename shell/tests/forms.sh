@@ -279,6 +279,9 @@ reducing            T s
 checking            T s
 END
 expect "statistics" sh -c 'tr -s " " <"$0" | sed "s/ *T s/ T s/" >"$0.1"; tr -s " " <"$1" >"$1.1"; cmp -s "$0.1" "$1.1" || { diff "$0" "$1" >&2; false; }' "$tmp/out" "$tmp/want"
+printf 'asp 1 0 0\n1 0 1 1 0 1 -2\n1 0 1 2 0 1 -1\n0\n' | build/gambrolt --stats --dry-run 2>&1 | grep '^positive cycle' | tr -s ' ' >"$tmp/out"
+printf 'positive cycle no no\n' >"$tmp/want"
+expect "a circle through negation is no positive cycle" same "$tmp/want" "$tmp/out"
 build/gambrolt "--stats=json:$tmp/stats" --explain --dry-run shell/tests/data/kinds.aspif >"$tmp/out" 2>"$tmp/err"
 expect "statistics in a file: status 0" [ $? -eq 0 ]
 expect "statistics in a file: sentences alone on standard error" sh -c '[ "$(grep -c "^clause" "$0")" -eq 14 ] && [ "$(wc -l <"$0")" -eq 14 ]' "$tmp/err"
