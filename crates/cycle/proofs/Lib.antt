@@ -3,6 +3,5 @@ pub mod Pending
 pub mod Paths
 pub mod Moves
 pub mod Advance
-pub mod Heads
 pub mod Ended
 pub mod Answered

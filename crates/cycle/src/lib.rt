@@ -5,7 +5,6 @@ use answers::Answer;
 use answers::Refusal;
 use table::Checked;
 
-mod listing;
 mod search;
 
 // Where a move of the search leads: to an atom, or to a cycle.

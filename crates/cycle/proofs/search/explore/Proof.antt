@@ -7,13 +7,13 @@ use Rattle.cycle.proofs.search.explore.Statement.{statement}
 use Rattle.cycle.proofs.search.explore.Tie as tie
 
 abbrev Inv-loop : tie.InvT-loop
-Inv-loop words nexts owner root cur₀ state₀ left₀ parent₀ t₀ cur state left parent t = Explored words nexts owner cur₀ state₀ left₀ parent₀ cur state left parent t
+Inv-loop words index root cur₀ state₀ left₀ parent₀ t₀ cur state left parent t = Explored words index cur₀ state₀ left₀ parent₀ cur state left parent t
 
 abbrev μ-loop : tie.MeasureT-loop
-μ-loop words nexts owner root cur₀ state₀ left₀ parent₀ t₀ cur state left parent t = size cur state left
+μ-loop words index root cur₀ state₀ left₀ parent₀ t₀ cur state left parent t = size cur state left
 
 loop-holds : tie.Need-loop-holds Inv-loop μ-loop
-loop-holds c = explored-start (c .before .before .before .before .before .before .before .pre)
+loop-holds c = explored-start (c .before .before .before .before .before .before .pre)
 
 advance-requires : tie.Need-advance-requires Inv-loop μ-loop
 advance-requires c κs = (c .before .before .before .before .before .loop .inv .search, c .before .before .before .before .loop-test .taken)
