@@ -1,5 +1,6 @@
 //! Tables of all sizes, up to full, of the shapes that are hard for some way of reducing.
 use gambrolt_tests::compare::Tally;
+use gambrolt_tests::independent::program::Program;
 use gambrolt_tests::independent::reduce::smallest;
 use gambrolt_tests::independent::steps::Left;
 use gambrolt_tests::independent::table::Table;
@@ -18,6 +19,9 @@ pub fn reduced(shape: &Shape, samples: usize, tally: &mut Tally) {
     for size in [full / 8, full / 3, full] {
         let table = shape.table(size);
         let steps = sampled(shape.name, &table, samples, tally);
+        let cyclic = cyclic(&(shape.program)(size));
+        assert_eq!(library::cycle(&table), u64::from(cyclic), "{}: {size}", shape.name);
+        tally.cases += 1;
         tally.write_text(&table, &vec![0; 65536]);
         println!("{}: {} words, {steps} steps, {:.1} s", shape.name, table.len(), start.elapsed().as_secs_f64());
     }
@@ -41,4 +45,22 @@ fn sampled(name: &str, table: &[u16], samples: usize, tally: &mut Tally) -> usiz
     }
     tally.reduced_table(table, &left, &vec![0; table.len()]);
     steps
+}
+
+/// Whether some atom leads back to itself, otherwise than by chains: an atom ends once all positive atoms of its clauses do,
+/// and on a cycle none does. For tables that are too large to follow the chains of every atom.
+fn cyclic(program: &Program) -> bool {
+    let mut open = vec![true; usize::from(program.atoms)];
+    loop {
+        let mut still = vec![false; open.len()];
+        for clause in &program.clauses {
+            if clause.pos.iter().any(|&atom| open[usize::from(atom)]) {
+                clause.head.iter().for_each(|&atom| still[usize::from(atom)] = true);
+            }
+        }
+        if still == open {
+            return open.contains(&true);
+        }
+        open = still;
+    }
 }
