@@ -74,13 +74,13 @@ module _ {ws index cur state left parent : List ℕ} where
   pub explored-start : {t : ℕ} → Search ws index cur state left parent t → Explored ws index cur state left parent cur state left parent t
   explored-start s = record { search = s; falls = λ a. omega arith; curs = refl; states = refl; lefts = refl; parents = refl }
 
-  module _ {cur′ state′ left′ parent′ cur″ state″ left″ parent″ : List ℕ} {t : ℕ} (e : Explored ws index cur state left parent cur′ state′ left′ parent′ t) where
-    pub explored-next : {u : ℕ} → Nearer ws index cur′ state′ left′ parent′ cur″ state″ left″ parent″ u → Explored ws index cur state left parent cur″ state″ left″ parent″ u
-    explored-next n = record {
-      search = n .search;
-      falls = λ a. omega (arith, e .falls a, n .falls a);
-      curs = n .curs ∙ e .curs;
-      states = n .states ∙ e .states;
-      lefts = n .lefts ∙ e .lefts;
-      parents = n .parents ∙ e .parents;
-    }
+  pub explored-join : {cur′ state′ left′ parent′ cur″ state″ left″ parent″ : List ℕ} {t u : ℕ} → Explored ws index cur state left parent cur′ state′ left′ parent′ t
+      → Explored ws index cur′ state′ left′ parent′ cur″ state″ left″ parent″ u → Explored ws index cur state left parent cur″ state″ left″ parent″ u
+  explored-join e n = record {
+    search = n .search;
+    falls = λ a. omega (arith, e .falls a, n .falls a);
+    curs = n .curs ∙ e .curs;
+    states = n .states ∙ e .states;
+    lefts = n .lefts ∙ e .lefts;
+    parents = n .parents ∙ e .parents;
+  }

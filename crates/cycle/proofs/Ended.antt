@@ -22,7 +22,7 @@ use Rattle.dependency.proofs.Reached.{cyclic-iff}
 use Rattle.cycle.proofs.Pending.{pending-start}
 use Rattle.cycle.proofs.Paths.{some}
 use Rattle.cycle.proofs.Moves.{known, push, atoms}
-use Rattle.cycle.proofs.Advance.{explored-start}
+use Rattle.cycle.proofs.Advance.{explored-start, explored-join}
 
 module _ (ws : List ℕ) where
   leads-below : Passed ws → {a b : ℕ} → Leads (programOf ws .clauses) a b → a < getD ws 0 0
@@ -35,11 +35,11 @@ module _ (ws : List ℕ) where
 
 -- ---- from atom to atom
 
-module _ {ws index cur state left parent : List ℕ} where
-  -- nothing is on the chain that is followed
-  idle : Search ws index cur state left parent none → (a : ℕ) → a < getD ws 0 0 → getD state a 0 ≢ 1
-  idle s a l e = some (s .path) (known s) refl a (s .onto a l e)
+-- nothing is on the chain that is followed
+idle : {ws index cur state left parent : List ℕ} → Search ws index cur state left parent none → (a : ℕ) → a < getD ws 0 0 → getD state a 0 ≢ 1
+idle s a l e = some (s .path) (known s) refl a (s .onto a l e)
 
+module _ {ws index cur state left parent : List ℕ} where
   pub ready-search : SearchReady ws index cur state left parent → Search ws index cur state left parent none
   ready-search r =
       let limit = passed-limits ws (r .placed .passed) in
@@ -74,30 +74,16 @@ module _ {ws index cur state left parent : List ℕ} where
       visit-begin = push s i (omega arith) (inl refl) (idle s i (omega arith)) n
 
       pub visit-search : Search ws index cur (set state i 1) left (set parent i none) a
-      visit-search = subst (Search ws index cur (set state i 1) left (set parent i none)) e (visit-begin .search)
+      visit-search = subst (Search ws index cur (set state i 1) left (set parent i none)) e (visit-begin .explored .search)
 
       pub visit-end : (cur′ state′ left′ parent′ : List ℕ) (r : Bool) → explored ws index cur (set state i 1) left (set parent i none) cur′ state′ left′ parent′ r
           → visited ws index cur state left parent cur′ state′ left′ parent′ a r
       visit-end cur′ state′ left′ parent′ true x = x
       visit-end cur′ state′ left′ parent′ false x =
-          let b = visit-begin in
           let h : i < length state = omega (arith, atom-fits, s .states) in
-          let d : getD state′ i 0 ≢ 1 = last (x .search) i (omega arith) in
+          let d : getD state′ i 0 ≢ 1 = idle (x .search) i (omega arith) in
           let z : getD state′ i 0 ≡ 0 = omega (arith, x .falls i, getD-set-same state i 1 0 h) in
-          record {
-            explored = record {
-              search = x .search;
-              falls = λ y. omega (arith, x .falls y, b .falls y);
-              curs = x .curs ∙ b .curs;
-              states = x .states ∙ b .states;
-              lefts = x .lefts ∙ b .lefts;
-              parents = x .parents ∙ b .parents;
-            };
-            ends = ap (λ a. getD state′ a 0) (sym e) ∙ z;
-          }
-        where
-          last : {cur state left parent : List ℕ} → Search ws index cur state left parent none → (a : ℕ) → a < getD ws 0 0 → getD state a 0 ≢ 1
-          last s a l e = some (s .path) (known s) refl a (s .onto a l e)
+          record { explored = explored-join (visit-begin .explored) x; ends = ap (λ a. getD state′ a 0) (sym e) ∙ z }
 
 -- ---- all atoms
 
@@ -113,14 +99,7 @@ module _ {ws index cur state left parent : List ℕ} where
   module _ {cur′ state′ left′ parent′ : List ℕ} {k : ℕ} (s : AtomsEnded ws index cur state left parent cur′ state′ left′ parent′ k) where
     pub swept-next : {cur″ state″ left″ parent″ : List ℕ} → Visited ws index cur′ state′ left′ parent′ cur″ state″ left″ parent″ k → AtomsEnded ws index cur state left parent cur″ state″ left″ parent″ (k + 1)
     swept-next {cur″} {state″} v = record {
-      explored = record {
-        search = v .explored .search;
-        falls = λ a. omega (arith, v .explored .falls a, s .explored .falls a);
-        curs = v .explored .curs ∙ s .explored .curs;
-        states = v .explored .states ∙ s .explored .states;
-        lefts = v .explored .lefts ∙ s .explored .lefts;
-        parents = v .explored .parents ∙ s .explored .parents;
-      };
+      explored = explored-join (s .explored) (v .explored);
       ended = below-more (λ a. getD state″ a 0 ≡ 0) k (λ a l. omega (arith, s .ended a l, v .explored .falls a)) (v .ends);
     }
 

@@ -37,32 +37,34 @@ module _ {ws index cur state left parent : List ℕ} {t : ℕ} (s : Search ws in
       let new : ¬ (b ∈ s .stack) = λ m. u (s .«from» b m .1) in
       let keeps : (y : ℕ) → getD state y 0 ≡ 0 → getD (set state b 1) y 0 ≡ 0 = at-set state b 1 h (λ y v. getD state y 0 ≡ 0 → v ≡ 0) (λ q. absurd (w q)) (λ y o q. q) in
       record {
-        search = record {
-          placed = s .placed;
-          places = s .places;
-          states = omega (arith, length-set state b 1, s .states);
-          lefts = s .lefts;
-          parents = omega (arith, length-set parent b t, s .parents);
-          most = s .most;
-          unended = at-set state b 1 h (λ a v. a < getD ws 0 0 → v ≢ 0 → Pending ws index (AllEnd (set state b 1)) a (getD cur a 0))
-              (λ k q. pending-on (λ c d y m. keeps y (d y m)) (s .unended b k w))
-              (λ a o k q. pending-on (λ c d y m. keeps y (d y m)) (s .unended a k q));
-          ended = at-set state b 1 h (λ a v. a < getD ws 0 0 → v ≡ 0 → Ends (programOf ws .clauses) a) (λ k q. absurd (omega arith)) (λ a o k q. s .ended a k q);
-          seen = λ c k y m. keeps y (s .seen c k y m);
-          stack = b ∷ s .stack;
-          path = step (path-set b t new (s .path)) joins (getD-set-same parent b t 0 g) new;
-          onto = at-set state b 1 h (λ a v. a < getD ws 0 0 → v ≡ 1 → a ∈ b ∷ s .stack) (λ k q. List·Memᴰ·head refl) (λ a o k q. List·Memᴰ·tail (s .onto a k q));
-          «from» = λ a m. ⊎-elim
-              (λ i. (subst (λ y. y < getD ws 0 0) (sym i) b-below, ap (λ y. getD (set state b 1) y 0) i ∙ getD-set-same state b 1 0 h))
-              (λ i. (s .«from» a i .0, getD-set-other state b a 1 0 (λ z. new (subst (λ y. y ∈ s .stack) z i)) ∙ s .«from» a i .1))
-              (List·Memᴰ·cases-cons m);
+        explored = record {
+          search = record {
+            placed = s .placed;
+            places = s .places;
+            states = omega (arith, length-set state b 1, s .states);
+            lefts = s .lefts;
+            parents = omega (arith, length-set parent b t, s .parents);
+            most = s .most;
+            unended = at-set state b 1 h (λ a v. a < getD ws 0 0 → v ≢ 0 → Pending ws index (AllEnd (set state b 1)) a (getD cur a 0))
+                (λ k q. pending-on (λ c d y m. keeps y (d y m)) (s .unended b k w))
+                (λ a o k q. pending-on (λ c d y m. keeps y (d y m)) (s .unended a k q));
+            ended = at-set state b 1 h (λ a v. a < getD ws 0 0 → v ≡ 0 → Ends (programOf ws .clauses) a) (λ k q. absurd (omega arith)) (λ a o k q. s .ended a k q);
+            seen = λ c k y m. keeps y (s .seen c k y m);
+            stack = b ∷ s .stack;
+            path = step (path-set b t new (s .path)) joins (getD-set-same parent b t 0 g) new;
+            onto = at-set state b 1 h (λ a v. a < getD ws 0 0 → v ≡ 1 → a ∈ b ∷ s .stack) (λ k q. List·Memᴰ·head refl) (λ a o k q. List·Memᴰ·tail (s .onto a k q));
+            «from» = λ a m. ⊎-elim
+                (λ i. (subst (λ y. y < getD ws 0 0) (sym i) b-below, ap (λ y. getD (set state b 1) y 0) i ∙ getD-set-same state b 1 0 h))
+                (λ i. (s .«from» a i .0, getD-set-other state b a 1 0 (λ z. new (subst (λ y. y ∈ s .stack) z i)) ∙ s .«from» a i .1))
+                (List·Memᴰ·cases-cons m);
+          };
+          falls = at-set state b 1 h (λ a v. v ≤ getD state a 0) (let d : getD state b 0 ≢ 1 = u in let f : getD state b 0 ≢ 0 = w in omega arith) (λ a o. omega arith);
+          curs = refl;
+          states = length-set state b 1;
+          lefts = refl;
+          parents = length-set parent b t;
         };
         less = let d : getD state b 0 ≢ 1 = u in let f : getD state b 0 ≢ 0 = w in omega (arith, total-set state b 1 h);
-        falls = at-set state b 1 h (λ a v. v ≤ getD state a 0) (let d : getD state b 0 ≢ 1 = u in let f : getD state b 0 ≢ 0 = w in omega arith) (λ a o. omega arith);
-        curs = refl;
-        states = length-set state b 1;
-        lefts = refl;
-        parents = length-set parent b t;
       }
 
   module _ (x : t ≢ none) where
@@ -85,35 +87,37 @@ module _ {ws index cur state left parent : List ℕ} {t : ℕ} (s : Search ws in
         let (k, e, p, f) = popped (s .path) x in
         let keeps : (b : ℕ) → getD state b 0 ≡ 0 → getD (set state t 0) b 0 ≡ 0 = at-set state t 0 h (λ b v. getD state b 0 ≡ 0 → v ≡ 0) (λ q. refl) (λ b n q. q) in
         record {
-          search = record {
-            placed = s .placed;
-            places = s .places;
-            states = omega (arith, length-set state t 0, s .states);
-            lefts = s .lefts;
-            parents = s .parents;
-            most = s .most;
-            unended = at-set state t 0 h (λ a v. a < getD ws 0 0 → v ≢ 0 → Pending ws index (AllEnd (set state t 0)) a (getD cur a 0))
-                (λ l n. absurd (n refl)) (λ a o l n. pending-on (λ c d b m. keeps b (d b m)) (s .unended a l n));
-            ended = at-set state t 0 h (λ a v. a < getD ws 0 0 → v ≡ 0 → Ends (programOf ws .clauses) a)
-                (λ l q. ends (λ b k. s .ended b (link-below ws (s .placed .passed) k) (pending-end (s .placed .passed) z chain-on (k .via) (k .member) (k .head) b (k .into))))
-                (λ a o l q. s .ended a l q);
-            seen = λ c k b m. keeps b (s .seen c k b m);
-            stack = k;
-            path = p;
-            onto = at-set state t 0 h (λ a v. a < getD ws 0 0 → v ≡ 1 → a ∈ k)
-                (λ l q. absurd (omega arith))
-                (λ a o l q. ⊎-elim (λ i. absurd (o i)) (λ i. i) (List·Memᴰ·cases-cons (subst (λ l. a ∈ l) e (s .onto a l q))));
-            «from» = λ a m. (
-              s .«from» a (subst (λ l. a ∈ l) (sym e) (List·Memᴰ·tail m)) .0,
-              getD-set-other state t a 0 0 (λ i. f (subst (λ y. y ∈ k) i m)) ∙ s .«from» a (subst (λ l. a ∈ l) (sym e) (List·Memᴰ·tail m)) .1,
-            );
+          explored = record {
+            search = record {
+              placed = s .placed;
+              places = s .places;
+              states = omega (arith, length-set state t 0, s .states);
+              lefts = s .lefts;
+              parents = s .parents;
+              most = s .most;
+              unended = at-set state t 0 h (λ a v. a < getD ws 0 0 → v ≢ 0 → Pending ws index (AllEnd (set state t 0)) a (getD cur a 0))
+                  (λ l n. absurd (n refl)) (λ a o l n. pending-on (λ c d b m. keeps b (d b m)) (s .unended a l n));
+              ended = at-set state t 0 h (λ a v. a < getD ws 0 0 → v ≡ 0 → Ends (programOf ws .clauses) a)
+                  (λ l q. ends (λ b k. s .ended b (link-below ws (s .placed .passed) k) (pending-end (s .placed .passed) z chain-on (k .via) (k .member) (k .head) b (k .into))))
+                  (λ a o l q. s .ended a l q);
+              seen = λ c k b m. keeps b (s .seen c k b m);
+              stack = k;
+              path = p;
+              onto = at-set state t 0 h (λ a v. a < getD ws 0 0 → v ≡ 1 → a ∈ k)
+                  (λ l q. absurd (omega arith))
+                  (λ a o l q. ⊎-elim (λ i. absurd (o i)) (λ i. i) (List·Memᴰ·cases-cons (subst (λ l. a ∈ l) e (s .onto a l q))));
+              «from» = λ a m. (
+                s .«from» a (subst (λ l. a ∈ l) (sym e) (List·Memᴰ·tail m)) .0,
+                getD-set-other state t a 0 0 (λ i. f (subst (λ y. y ∈ k) i m)) ∙ s .«from» a (subst (λ l. a ∈ l) (sym e) (List·Memᴰ·tail m)) .1,
+              );
+            };
+            falls = at-set state t 0 h (λ a v. v ≤ getD state a 0) (omega arith) (λ a o. omega arith);
+            curs = refl;
+            states = length-set state t 0;
+            lefts = refl;
+            parents = refl;
           };
           less = omega (arith, total-set state t 0 h, top-on);
-          falls = at-set state t 0 h (λ a v. v ≤ getD state a 0) (omega arith) (λ a o. omega arith);
-          curs = refl;
-          states = length-set state t 0;
-          lefts = refl;
-          parents = refl;
         }
 
     -- the clause at which t is
@@ -131,28 +135,30 @@ module _ {ws index cur state left parent : List ℕ} {t : ℕ} (s : Search ws in
           let h : t < length cur = omega (arith, top-below, atoms, s .places) in
           let d : AllEnd state (numbered ws here) = λ b m. s .seen here (stands .clause) b (subst (λ k. b ∈ k) (sym (take-all (8192 - getD left here 0) (numbered ws here .pos) l)) m) in
           record {
-            search = record {
-              placed = s .placed;
-              places = omega (arith, length-set cur t v, s .places);
-              states = s .states;
-              lefts = s .lefts;
-              parents = s .parents;
-              most = s .most;
-              unended = at-set cur t v h (λ a w. a < getD ws 0 0 → getD state a 0 ≢ 0 → Pending ws index (AllEnd state) a w)
-                  (λ k q. pending-next (omega arith) chain-on b d) (λ a o k q. s .unended a k q);
-              ended = s .ended;
-              seen = s .seen;
-              stack = s .stack;
-              path = s .path;
-              onto = s .onto;
-              «from» = s .«from»;
+            explored = record {
+              search = record {
+                placed = s .placed;
+                places = omega (arith, length-set cur t v, s .places);
+                states = s .states;
+                lefts = s .lefts;
+                parents = s .parents;
+                most = s .most;
+                unended = at-set cur t v h (λ a w. a < getD ws 0 0 → getD state a 0 ≢ 0 → Pending ws index (AllEnd state) a w)
+                    (λ k q. pending-next (omega arith) chain-on b d) (λ a o k q. s .unended a k q);
+                ended = s .ended;
+                seen = s .seen;
+                stack = s .stack;
+                path = s .path;
+                onto = s .onto;
+                «from» = s .«from»;
+              };
+              falls = λ a. omega arith;
+              curs = length-set cur t v;
+              states = refl;
+              lefts = refl;
+              parents = refl;
             };
             less = by-cases (decLt 0 v) (λ k. omega (arith, total-set cur t v h, b .some k .0)) (λ k. omega (arith, total-set cur t v h));
-            falls = λ a. omega arith;
-            curs = length-set cur t v;
-            states = refl;
-            lefts = refl;
-            parents = refl;
           }
 
       -- the next atom b of its positive body
@@ -187,30 +193,32 @@ module _ {ws index cur state left parent : List ℕ} {t : ℕ} (s : Search ws in
             let i = 8192 - getD left here 0 in
             let j : 8192 - v ≡ suc i = omega (arith, left-some, s .most here) in
             record {
-              search = record {
-                placed = s .placed;
-                places = s .places;
-                states = s .states;
-                lefts = omega (arith, length-set left here v, s .lefts);
-                parents = s .parents;
-                most = at-set left here v h (λ a w. w ≤ 8192) (omega (arith, s .most here)) (λ a o. s .most a);
-                unended = s .unended;
-                ended = s .ended;
-                seen = at-set left here v h (λ c w. c < getD ws 1 0 → (y : ℕ) → y ∈ take (8192 - w) (numbered ws c .pos) → getD state y 0 ≡ 0)
-                    (λ k y m. ⊎-elim (s .seen here k y) (λ r. ap (λ z. getD state z 0) (List·Memᴰ·eq-of-singleton r ∙ sym e) ∙ q)
-                    (List·Memᴰ·append-cases (take i (numbered ws here .pos)) (subst (λ z. y ∈ z) (ap (λ z. take z (numbered ws here .pos)) j ∙ take-suc (numbered ws here .pos) i 0 l) m)))
-                    (λ c o k y m. s .seen c k y m);
-                stack = s .stack;
-                path = s .path;
-                onto = s .onto;
-                «from» = s .«from»;
+              explored = record {
+                search = record {
+                  placed = s .placed;
+                  places = s .places;
+                  states = s .states;
+                  lefts = omega (arith, length-set left here v, s .lefts);
+                  parents = s .parents;
+                  most = at-set left here v h (λ a w. w ≤ 8192) (omega (arith, s .most here)) (λ a o. s .most a);
+                  unended = s .unended;
+                  ended = s .ended;
+                  seen = at-set left here v h (λ c w. c < getD ws 1 0 → (y : ℕ) → y ∈ take (8192 - w) (numbered ws c .pos) → getD state y 0 ≡ 0)
+                      (λ k y m. ⊎-elim (s .seen here k y) (λ r. ap (λ z. getD state z 0) (List·Memᴰ·eq-of-singleton r ∙ sym e) ∙ q)
+                      (List·Memᴰ·append-cases (take i (numbered ws here .pos)) (subst (λ z. y ∈ z) (ap (λ z. take z (numbered ws here .pos)) j ∙ take-suc (numbered ws here .pos) i 0 l) m)))
+                      (λ c o k y m. s .seen c k y m);
+                  stack = s .stack;
+                  path = s .path;
+                  onto = s .onto;
+                  «from» = s .«from»;
+                };
+                falls = λ a. omega arith;
+                curs = refl;
+                states = refl;
+                lefts = length-set left here v;
+                parents = refl;
               };
               less = omega (arith, total-set left here v h, left-some);
-              falls = λ a. omega arith;
-              curs = refl;
-              states = refl;
-              lefts = length-set left here v;
-              parents = refl;
             }
 
         -- b was not met: the chain goes on to it

@@ -69,21 +69,7 @@ pub data Looked (state left parent state′ left′ parent′ : List ℕ) (t c b
   over : getD state b 0 ≡ 0 → state′ ≡ state → left′ ≡ set left c (getD left c 0 - 1) → parent′ ≡ parent → Looked state left parent state′ left′ parent′ t c b (At t)
   on : getD state b 0 ≢ 1 → getD state b 0 ≢ 0 → state′ ≡ set state b 1 → left′ ≡ left → parent′ ≡ set parent b t → Looked state left parent state′ left′ parent′ t c b (At b)
 
--- a move comes nearer to the end, or has found a cycle
-pub record Nearer (ws index cur state left parent cur′ state′ left′ parent′ : List ℕ) (t : ℕ) : Type 0 where
-  pub search : Search ws index cur′ state′ left′ parent′ t
-  pub less : size cur′ state′ left′ < size cur state left
-  pub falls : (a : ℕ) → getD state′ a 0 ≤ getD state a 0
-  pub curs : length cur′ ≡ length cur
-  pub states : length state′ ≡ length state
-  pub lefts : length left′ ≡ length left
-  pub parents : length parent′ ≡ length parent
-
-abbrev pub moved : (ws index cur state left parent cur′ state′ left′ parent′ : List ℕ) → Move → Type 0
-moved ws index cur state left parent cur′ state′ left′ parent′ (At t) = Nearer ws index cur state left parent cur′ state′ left′ parent′ t
-moved ws index cur state left parent cur′ state′ left′ parent′ Cycle = Cyclic (programOf ws .clauses)
-
--- moves that came to the atom t
+-- moves, or one, that came to the atom t
 pub record Explored (ws index cur state left parent cur′ state′ left′ parent′ : List ℕ) (t : ℕ) : Type 0 where
   pub search : Search ws index cur′ state′ left′ parent′ t
   pub falls : (a : ℕ) → getD state′ a 0 ≤ getD state a 0
@@ -91,6 +77,15 @@ pub record Explored (ws index cur state left parent cur′ state′ left′ pare
   pub states : length state′ ≡ length state
   pub lefts : length left′ ≡ length left
   pub parents : length parent′ ≡ length parent
+
+-- a move comes nearer to the end, or has found a cycle
+pub record Nearer (ws index cur state left parent cur′ state′ left′ parent′ : List ℕ) (t : ℕ) : Type 0 where
+  pub explored : Explored ws index cur state left parent cur′ state′ left′ parent′ t
+  pub less : size cur′ state′ left′ < size cur state left
+
+abbrev pub moved : (ws index cur state left parent cur′ state′ left′ parent′ : List ℕ) → Move → Type 0
+moved ws index cur state left parent cur′ state′ left′ parent′ (At t) = Nearer ws index cur state left parent cur′ state′ left′ parent′ t
+moved ws index cur state left parent cur′ state′ left′ parent′ Cycle = Cyclic (programOf ws .clauses)
 
 -- a whole search found a cycle, or came to its end
 abbrev pub explored : (ws index cur state left parent cur′ state′ left′ parent′ : List ℕ) → Bool → Type 0

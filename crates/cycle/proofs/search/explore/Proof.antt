@@ -1,7 +1,7 @@
 -- `cycle::search::explore` meets its contract.
 use Prim.Native.Nat.{_-_}
 use borrow.Author.Needs.{needs}
-use Rattle.cycle.proofs.Advance.{explored-start, explored-next}
+use Rattle.cycle.proofs.Advance.{explored-start, explored-join}
 use Rattle.cycle.specs.Search.{Explored, size}
 use Rattle.cycle.proofs.search.explore.Statement.{statement}
 use Rattle.cycle.proofs.search.explore.Tie as tie
@@ -22,7 +22,7 @@ loop-less : tie.Need-loop-less Inv-loop μ-loop
 loop-less c = (rw (c .before .u .given .1) at (c .before .before .before .before .before .before .before .before .before .before .before .advance .ensures)) .less
 
 loop-again : tie.Need-loop-again Inv-loop μ-loop
-loop-again c = explored-next (c .before .before .before .before .before .before .before .before .before .before .before .before .before .before .before .before .before .loop .inv) (rw (c .before .u .given .1) at (c .before .before .before .before .before .before .before .before .before .before .before .advance .ensures))
+loop-again c = explored-join (c .before .before .before .before .before .before .before .before .before .before .before .before .before .before .before .before .before .loop .inv) ((rw (c .before .u .given .1) at (c .before .before .before .before .before .before .before .before .before .before .before .advance .ensures)) .explored)
 
 returns : tie.Need-returns Inv-loop μ-loop
 returns c = rw (c .enum-told .given .1) at (c .before .before .before .before .before .before .before .before .before .before .advance .ensures)
