@@ -1,7 +1,7 @@
--- The number and place of every refusal: document 01's, and 29 of slip 1.
+-- The number and place of every refusal: document 01's, 29 of slip 1, 30 and 31 of slip 3.
 use Prim.Native.Nat.{ℕ}
 use Rattle.answers.specs.declared.CallQuestion.{CallQuestion}
-use Rattle.answers.specs.declared.CallQuestion.the-variants.{TableLength, MarksLength, ListLength, ListRoom, TableRoom, SetLength, TextLength, TableSlice, TextRoom}
+use Rattle.answers.specs.declared.CallQuestion.the-variants.{TableLength, MarksLength, ListLength, ListRoom, TableRoom, SetLength, TextLength, TableSlice, TextRoom, FewAtoms, ModelsRoom}
 use Rattle.answers.specs.declared.WordQuestion.{WordQuestion}
 use Rattle.answers.specs.declared.WordQuestion.the-variants.{AtomLimit, ClauseLimit, CountsLeft, LiteralsLeft, AtomBelow, Ascending, AllUsed, MarkAllowed}
 use Rattle.answers.specs.declared.StepQuestion.{StepQuestion}
@@ -23,6 +23,8 @@ callNumber SetLength = 19
 callNumber TextLength = 22
 callNumber TableSlice = 23
 callNumber TextRoom = 28
+callNumber FewAtoms = 30
+callNumber ModelsRoom = 31
 
 abbrev pub wordNumber : WordQuestion → ℕ
 wordNumber AtomLimit = 2

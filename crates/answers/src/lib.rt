@@ -2,6 +2,8 @@
 // number that it is for a caller in C.
 ghost use mathlib.Core.Path.{_≡_};
 ghost use Prim.Native.Nat.{_≤_};
+ghost use lib.ListN.{length, take};
+ghost use lib.Seq.{sets};
 ghost use Rattle.answers.specs.Refusals.{callNumber, wordNumber, stepNumber, entryNumber, byteNumber, refusalNumber, refusalPlace};
 ghost use Rattle.answers.specs.Answers.{refusalCode, answerCode, Small};
 ghost use Rattle.semantics.specs.Lists.{bit};
@@ -26,6 +28,10 @@ pub enum CallQuestion {
     TableSlice,
     // 28: room for the text.
     TextRoom,
+    // 30: at most 16 atoms.
+    FewAtoms,
+    // 31: room for every stable model.
+    ModelsRoom,
 }
 
 // Questions about a word of the table: their place is its index, or that of its clause's first word.
@@ -122,6 +128,8 @@ fn call_number(q: CallQuestion) -> u64
         CallQuestion::TextLength => 22,
         CallQuestion::TableSlice => 23,
         CallQuestion::TextRoom => 28,
+        CallQuestion::FewAtoms => 30,
+        CallQuestion::ModelsRoom => 31,
     }
 }
 
@@ -229,4 +237,26 @@ pub fn one_if(yes: bool) -> usize
     ensures { λ r. ⌜ r ≡ bit yes ⌝ }
 {
     if yes { 1 } else { 0 }
+}
+
+// ---- what a call writes, copied from an array of its own
+
+// The first n words are copied.
+pub fn copy_words(out: &mut [u16], from: &[u16], n: usize)
+    requires { ⌜ (n ≤ length (now out)) × (n ≤ length (now from)) ⌝ }
+    ensures { λ _. ⌜ now (out .exit) ≡ sets (now (out .entry)) 0 (take n (now (from .entry))) ⌝ }
+{
+    for i in 0..n {
+        out[i] = from[i];
+    }
+}
+
+// The first n bytes are copied.
+pub fn copy_bytes(out: &mut [u8], from: &[u8], n: usize)
+    requires { ⌜ (n ≤ length (now out)) × (n ≤ length (now from)) ⌝ }
+    ensures { λ _. ⌜ now (out .exit) ≡ sets (now (out .entry)) 0 (take n (now (from .entry))) ⌝ }
+{
+    for i in 0..n {
+        out[i] = from[i];
+    }
 }

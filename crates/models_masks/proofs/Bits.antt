@@ -14,7 +14,7 @@ use lib.ListN.{length}
 use borrow.Author.Tests.{eq-eqb, ne-eqb, eqb-true, ltb-true}
 use Rattle.semantics.specs.Lists.{bit, _∈_, all, ascending}
 use Rattle.semantics.specs.Programs.{Atoms}
-use Rattle.semantics.proofs.Tests.{and-iff, all-iff, so-ext, bit-le, bit-bound}
+use Rattle.semantics.proofs.Tests.{and-iff, all-iff, so-ext, bit-le, bit-same, bit-bound}
 use Rattle.models_masks.specs.Masks.{maskOf, inside}
 
 -- ---- one digit
@@ -22,19 +22,13 @@ use Rattle.models_masks.specs.Masks.{maskOf, inside}
 digit : (b : Bool) → bit b < 2
 digit b = omega (arith, bit-bound b)
 
-bit-inj : (a b : Bool) → bit a ≡ bit b → a ≡ b
-bit-inj true true e = refl
-bit-inj true false e = absurd (omega arith)
-bit-inj false true e = absurd (omega arith)
-bit-inj false false e = refl
-
 bit-and : (a b : Bool) → min (bit a) (bit b) ≡ bit (a && b)
 bit-and true true = refl
 bit-and true false = refl
 bit-and false true = refl
 bit-and false false = refl
 
-bit-odd : (x : ℕ) → bit (eqb (x % 2) 1) ≡ x % 2
+pub bit-odd : (x : ℕ) → bit (eqb (x % 2) 1) ≡ x % 2
 bit-odd x = go (x % 2) (mod-lt x (omega arith))
   where
     go : (r : ℕ) → r < 2 → bit (eqb r 1) ≡ r
@@ -42,7 +36,7 @@ bit-odd x = go (x % 2) (mod-lt x (omega arith))
     go (suc zero) h = refl
     go (suc (suc r)) h = absurd (omega arith)
 
-and-digits : (P Q : ℕ) {p q : ℕ} → p < 2 → q < 2 → bitAnd (P * 2 + p) (Q * 2 + q) ≡ bitAnd P Q * 2 + min p q
+pub and-digits : (P Q : ℕ) {p q : ℕ} → p < 2 → q < 2 → bitAnd (P * 2 + p) (Q * 2 + q) ≡ bitAnd P Q * 2 + min p q
 and-digits P Q {p} {q} h k =
     and-step (P * 2 + p) (Q * 2 + q)
     ∙ ap₂ (λ x y. bitAnd x y * 2 + min ((P * 2 + p) % 2) ((Q * 2 + q) % 2)) (digits-div P h) (digits-div Q k)
@@ -65,7 +59,7 @@ mask-ext (a ∷ s) X Y h = ap₂ (λ x y. x * 2 + bit y) (mask-ext s X Y (λ b m
 pub mask-inj : (s : List ℕ) (X Y : Atoms) → maskOf s X ≡ maskOf s Y → (a : ℕ) → a ∈ s → X a ≡ Y a
 unfolding maskOf
 mask-inj (b ∷ s) X Y e a (List·Memᴰ·head q) =
-    let i : bit (X b) ≡ bit (Y b) = omega (arith, bit-bound (X b), bit-bound (Y b)) in rw q (bit-inj (X b) (Y b) i)
+    let i : bit (X b) ≡ bit (Y b) = omega (arith, bit-bound (X b), bit-bound (Y b)) in rw q (bit-same (X b) (Y b) i)
 mask-inj (b ∷ s) X Y e a (List·Memᴰ·tail m) =
     let i : maskOf s X ≡ maskOf s Y = omega (arith, bit-bound (X b), bit-bound (Y b)) in mask-inj s X Y i a m
 
@@ -153,6 +147,13 @@ within-digits x m e =
     let d = min-le-right (x % 2) (m % 2) in
     let r : min (x % 2) (m % 2) ≡ x % 2 = omega (arith, mod-lt x two, mod-lt m two) in
     (omega (arith, mod-lt x two, mod-lt m two), omega arith)
+
+pub inside-trans : (x y m : ℕ) → bitAnd x y ≡ x → bitAnd y m ≡ y → bitAnd x m ≡ x
+inside-trans = bin-ind (λ x. (y m : ℕ) → bitAnd x y ≡ x → bitAnd y m ≡ y → bitAnd x m ≡ x) (λ y m e f. refl)
+    (λ x ih y m e f.
+    let (e2, u) = within-digits x y e in
+    let (f2, w) = within-digits y m f in
+    and-step x m ∙ ap₂ (λ p q. p * 2 + q) (ih (y / 2) (m / 2) e2 f2) (min-eq-left (omega arith)) ∙ div-add-mod' x 2)
 
 -- below a subset x of m, the next subset is (x - 1) & m
 pub next-subset : (x m y : ℕ) → bitAnd x m ≡ x → bitAnd y m ≡ y → y < x → y ≤ bitAnd (x - 1) m

@@ -1,23 +1,21 @@
 -- The list of masks, one clause more at a time: it asks of every mask what the clauses so far ask.
-use Prim.Native.Nat.{ℕ, _+_, _-_, _≤_, _<_}
-use mathlib.Core.Path.{_≡_, refl, sym, ap, ap₂, _∙_}
+use Prim.Native.Nat.{ℕ, _+_, _≤_, _<_}
+use mathlib.Core.Path.{_≡_, refl, _∙_}
 use mathlib.Core.List.{List}
-use mathlib.Core.Bool.{Bool, true, false, _&&_}
+use mathlib.Core.Bool.{Bool, true, false}
 use native.Mathlib.Omega.{arith}
-use native.Mathlib.Numerals.{add-one}
 use lib.ListN.{length, getD, set, length-set}
-use lib.Seq.{getD-set-same, getD-set-other}
-use Rattle.semantics.specs.Lists.{any, all, within}
+use Rattle.semantics.specs.Lists.{any, within}
 use Rattle.semantics.specs.Programs.{Clause}
 use Rattle.semantics.specs.Programs.{among}
 use Rattle.table.specs.Questions.{Passed}
 use Rattle.table.specs.Places.{nextAt}
-use Rattle.table.specs.Programs.{clauseOf, clausesOf, programOf}
+use Rattle.table.specs.Programs.{clauseOf}
 use Rattle.table.proofs.Encoding.{passed-limits}
-use Rattle.table.proofs.Walks.{Along, along-start, along-fits, along-next, clauses-more, clauses-none, clauses-all}
-use Rattle.models_masks.specs.Masks.{maskOf, allBelow, holds, modelled, enters, clauseHolds}
+use Rattle.table.proofs.Walks.{Along, along-start, along-fits, along-next, AskedTo, asked-start, asked-next, asked-end}
+use Rattle.models_masks.specs.Masks.{maskOf, allBelow, modelled, enters, clauseHolds}
 use Rattle.models_test.specs.Kept.{MaskRoom, Added, MasksReady, Filled}
-use Rattle.models_masks.proofs.Search.{allBelow-ext}
+use Rattle.models_masks.proofs.Models.{modelled-more}
 
 -- whether a clause enters, from what was asked of its parts
 module _ (s : List ℕ) (c : Clause) (l : List ℕ) (t : Bool) (e : l ≡ c .neg) (q : t ≡ any (among s) l) where
@@ -26,14 +24,6 @@ module _ (s : List ℕ) (c : Clause) (l : List ℕ) (t : Bool) (e : l ≡ c .neg
 
   pub enters-where : t ≡ false → (k : List ℕ) (u : Bool) → k ≡ c .pos → u ≡ within k s → u ≡ enters s c
   enters-where h k u d r = rw (← e, ← q, h, ← d) r
-
-modelled-more : (bs hs : List ℕ) (n b h x : ℕ) → n < length bs → n < length hs → modelled (set bs n b) (set hs n h) (n + 1) x ≡ (holds b h x && modelled bs hs n x)
-unfolding modelled allBelow
-modelled-more bs hs n b h x l k =
-    rw (add-one n)
-    (ap₂ (λ p q. p && q)
-    (ap₂ (λ u v. holds u v x) (getD-set-same bs n b 0 l) (getD-set-same hs n h 0 k))
-    (allBelow-ext _ _ n (λ i q. ap₂ (λ u v. holds u v x) (getD-set-other bs n i b 0 (λ e. omega arith)) (getD-set-other hs n i h 0 (λ e. omega arith)))))
 
 -- a clause that does not enter adds nothing, one that enters its masks
 pub added-none : (s : List ℕ) (c : Clause) (bs hs : List ℕ) (n : ℕ) → enters s c ≡ false → Added s c bs hs n bs hs n
@@ -56,16 +46,7 @@ pub record Filling (ws s bs hs : List ℕ) (k at n : ℕ) : Type 0 where
   pub most : n ≤ k
   pub body : 2048 ≤ length bs
   pub head : 2048 ≤ length hs
-  pub asks : (x : ℕ) → (modelled bs hs n x && all (λ c. clauseHolds s x c) (clausesOf ws (getD ws 1 0 - k) at)) ≡ all (λ c. clauseHolds s x c) (programOf ws .clauses)
-
-swap : (a b d : Bool) → ((a && b) && d) ≡ (b && (a && d))
-swap true b d = refl
-swap false true d = refl
-swap false false d = refl
-
-and-true : (a : Bool) → (a && true) ≡ a
-and-true true = refl
-and-true false = refl
+  pub asks : (x : ℕ) → AskedTo (λ c. clauseHolds s x c) ws k at (modelled bs hs n x)
 
 module _ (ws s bs hs : List ℕ) where
   pub filling-start : MasksReady ws s bs hs → Filling ws s bs hs 0 2 0
@@ -75,7 +56,7 @@ module _ (ws s bs hs : List ℕ) where
     most = omega arith;
     body = r .body;
     head = r .head;
-    asks = λ x. ap (λ cs. all (λ c. clauseHolds s x c) cs) (clauses-all ws);
+    asks = λ x. asked-start (λ c. clauseHolds s x c) ws;
   }
 
   module _ (k at n : ℕ) (p : Passed ws) (f : Filling ws s bs hs k at n) where
@@ -90,11 +71,7 @@ module _ (ws s bs hs : List ℕ) where
       most = omega arith;
       body = omega arith;
       head = omega arith;
-      asks = λ x.
-          ap (λ t. t && all (λ c. clauseHolds s x c) (clausesOf ws (getD ws 1 0 - (k + 1)) (nextAt ws at))) (a .asks x)
-          ∙ swap (clauseHolds s x (clauseOf ws at)) (modelled bs hs n x) _
-          ∙ ap (λ cs. modelled bs hs n x && all (λ c. clauseHolds s x c) cs) (sym (clauses-more ws k (getD ws 1 0) at h))
-          ∙ f .asks x;
+      asks = λ x. asked-next (λ c. clauseHolds s x c) ws k at (modelled bs hs n x) (f .asks x) h (modelled bs′ hs′ r x) (a .asks x);
     }
 
     pub filling-end : getD ws 1 0 ≤ k → Filled ws s bs hs n
@@ -103,5 +80,5 @@ module _ (ws s bs hs : List ℕ) where
         record {
           body = omega (arith, f .along .most);
           head = omega (arith, f .along .most);
-          asks = λ x. sym (and-true (modelled bs hs n x)) ∙ ap (λ cs. modelled bs hs n x && all (λ c. clauseHolds s x c) cs) (sym (clauses-none ws k (getD ws 1 0) at h)) ∙ f .asks x;
+          asks = λ x. asked-end (λ c. clauseHolds s x c) ws k at (modelled bs hs n x) (f .asks x) h;
         }

@@ -2,10 +2,13 @@
 use Prim.Native.Nat.{ℕ, zero, suc, _+_, _-_, _≤_, _<_}
 use mathlib.Core.Path.{_≡_, refl, sym, ap, subst, _∙_}
 use mathlib.Core.List.{List, [], _∷_}
+use mathlib.Core.Bool.{Bool, true, false, _&&_}
 use native.Mathlib.Omega.{arith}
 use native.Mathlib.Numerals.{add-one}
 use native.Mathlib.Nat.{sub-zero}
 use lib.ListN.{length, getD}
+use Rattle.semantics.specs.Lists.{all}
+use Rattle.semantics.specs.Programs.{Clause}
 use Rattle.table.specs.declared.Walk.the-variants.{To}
 use Rattle.table.specs.Questions.{clausesFrom, Passed}
 use Rattle.table.specs.Encoding.{OrderedClause}
@@ -81,3 +84,33 @@ clauses-none ws k m at h = let z : m - k ≡ 0 = omega arith in rw z
 pub clauses-all : (ws : List ℕ) → clausesOf ws (getD ws 1 0 - 0) 2 ≡ programOf ws .clauses
 unfolding programOf
 clauses-all ws = ap (λ k. clausesOf ws k 2) (sub-zero (getD ws 1 0))
+
+-- ---- a test of every clause, asked of one clause after the other
+
+-- t is what the first k clauses say; those from `at` on are still to be asked
+abbrev pub AskedTo : (Clause → Bool) → List ℕ → ℕ → ℕ → Bool → Type 0
+AskedTo f ws k at t = (t && all f (clausesOf ws (getD ws 1 0 - k) at)) ≡ all f (programOf ws .clauses)
+
+swap : (a b d : Bool) → ((a && b) && d) ≡ (b && (a && d))
+swap true b d = refl
+swap false true d = refl
+swap false false d = refl
+
+and-true : (a : Bool) → (a && true) ≡ a
+and-true true = refl
+and-true false = refl
+
+module _ (f : Clause → Bool) (ws : List ℕ) where
+  pub asked-start : AskedTo f ws 0 2 true
+  asked-start = ap (λ cs. all f cs) (clauses-all ws)
+
+  module _ (k at : ℕ) (t : Bool) (a : AskedTo f ws k at t) where
+    pub asked-next : k < getD ws 1 0 → (u : Bool) → u ≡ (f (clauseOf ws at) && t) → AskedTo f ws (k + 1) (nextAt ws at) u
+    asked-next h u e =
+        ap (λ b. b && all f (clausesOf ws (getD ws 1 0 - (k + 1)) (nextAt ws at))) e
+        ∙ swap (f (clauseOf ws at)) t _
+        ∙ ap (λ cs. t && all f cs) (sym (clauses-more ws k (getD ws 1 0) at h))
+        ∙ a
+
+    pub asked-end : getD ws 1 0 ≤ k → t ≡ all f (programOf ws .clauses)
+    asked-end h = sym (and-true t) ∙ ap (λ cs. t && all f cs) (sym (clauses-none ws k (getD ws 1 0) at h)) ∙ a

@@ -1,5 +1,4 @@
 pub mod Orders
-pub mod Slices
 pub mod Numbers
 pub mod Lines
 pub mod Texts

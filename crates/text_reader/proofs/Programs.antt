@@ -20,7 +20,7 @@ use Rattle.answers.specs.declared.Answer.the-variants.{Accepted, Refused}
 use Rattle.text_form.specs.Reader.{done, stop, then, numberAt, countAt, clausesAt, restAt, programAt, readText, readAnswer, tableAfter}
 use Rattle.answers.specs.Answers.{ask}
 use Rattle.text_form.specs.Stored.{Stores}
-use Rattle.text_form.proofs.Slices.{copied}
+use Rattle.answers.proofs.Slices.{copied}
 use Rattle.text_form.proofs.Texts.{clauses-inv, read-inv}
 use Rattle.text_lines.proofs.Answers.{stores-done, Held}
 

@@ -1,8 +1,7 @@
 // The reader of the text form, line by line: questions 22, 23 and 27, with 2 and 3.
 ghost use mathlib.Core.Path.{_≡_};
 ghost use Prim.Native.Nat.{_+_, _≤_};
-ghost use lib.ListN.{length, take, set};
-ghost use lib.Seq.{sets};
+ghost use lib.ListN.{length, set};
 ghost use Rattle.table.specs.Encoding.{clauseWords, clausesWords, encode};
 ghost use Rattle.text_form.specs.Reader.{countAt, clauseAt, clausesAt, restAt, programAt, readAnswer, tableAfter};
 ghost use Rattle.text_form.specs.Stored.{numberAnswer, Stores};
@@ -141,16 +140,6 @@ fn read_program(text: &[u8], words: &mut [u16]) -> Line
     read_rest(text, narrow(atoms), narrow(clauses), words, c2)
 }
 
-// The first n words are copied.
-fn copy_words(out: &mut [u16], from: &[u16], n: usize)
-    requires { ⌜ (n ≤ length (now out)) × (n ≤ length (now from)) ⌝ }
-    ensures { λ _. ⌜ now (out .exit) ≡ sets (now (out .entry)) 0 (take n (now (from .entry))) ⌝ }
-{
-    for i in 0..n {
-        out[i] = from[i];
-    }
-}
-
 // A text is read into the table slice: questions 22 and 23, then the lines. A refusal changes nothing.
 pub fn read_text(text: &[u8], table: &mut [u16]) -> Answer
     ensures { λ r. ⌜ (r ≡ readAnswer (now (text .entry)) (length (now (table .entry)))) × (now (table .exit) ≡ tableAfter (now (text .entry)) (now (table .entry))) ⌝ }
@@ -164,7 +153,7 @@ pub fn read_text(text: &[u8], table: &mut [u16]) -> Answer
     let mut words = [0u16; 8192];
     match read_program(text, &mut words) {
         Line::Got(n, _) => {
-            copy_words(table, &words, n);
+            answers::copy_words(table, &words, n);
             Answer::Accepted(n)
         }
         Line::Stop(r) => Answer::Refused(r),

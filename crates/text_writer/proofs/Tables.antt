@@ -21,7 +21,7 @@ use Rattle.text_form.specs.Digits.{digits, commas}
 use Rattle.text_form.specs.Render.{atomsKey, clausesKey, headKey, posKey, negKey, lineText, clauseText, clausesText, render}
 use Rattle.text_form.specs.Writer.{textOf, writeAnswer, outAfter}
 use Rattle.text_form.specs.Stored.{Puts}
-use Rattle.text_form.proofs.Slices.{copied}
+use Rattle.answers.proofs.Slices.{copied}
 use Rattle.text_writer.specs.Parts.{parts}
 use Rattle.text_writer.proofs.Laws.{puts-then, Left, left-on, left-room}
 

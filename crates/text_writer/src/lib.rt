@@ -2,8 +2,7 @@
 ghost use mathlib.Core.Path.{_≡_};
 ghost use mathlib.Core.List.{_∷_};
 ghost use Prim.Native.Nat.{_+_, _%_, _^_, _≤_, _<_};
-ghost use lib.ListN.{length, take, drop, getD};
-ghost use lib.Seq.{sets};
+ghost use lib.ListN.{length, drop, getD};
 ghost use Rattle.table.specs.Questions.{Passed};
 ghost use Rattle.table.specs.Places.{nextAt};
 ghost use Rattle.table.specs.Programs.{clauseOf, clausesOf};
@@ -194,16 +193,6 @@ pub fn put_text(out: &mut [u8], words: &[u16]) -> usize
     put_clauses(out, b, words)
 }
 
-// The first n bytes are copied.
-fn copy_bytes(out: &mut [u8], from: &[u8], n: usize)
-    requires { ⌜ (n ≤ length (now out)) × (n ≤ length (now from)) ⌝ }
-    ensures { λ _. ⌜ now (out .exit) ≡ sets (now (out .entry)) 0 (take n (now (from .entry))) ⌝ }
-{
-    for i in 0..n {
-        out[i] = from[i];
-    }
-}
-
 // A table is written as text: questions 1 to 8, then 28. A refusal changes nothing.
 pub fn write_text(words: &[u16], out: &mut [u8]) -> Answer
     ensures { λ r. ⌜ (r ≡ writeAnswer (now (words .entry)) (length (now (out .entry)))) × (now (out .exit) ≡ outAfter (now (words .entry)) (now (out .entry))) ⌝ }
@@ -220,6 +209,6 @@ pub fn write_text(words: &[u16], out: &mut [u8]) -> Answer
     if out.len() < n {
         return Answer::Refused(Refusal::Call(CallQuestion::TextRoom));
     }
-    copy_bytes(out, &text, n);
+    answers::copy_bytes(out, &text, n);
     Answer::Accepted(n)
 }

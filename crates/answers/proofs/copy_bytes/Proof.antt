@@ -1,13 +1,13 @@
--- `text_writer::copy_bytes` meets its contract. The loop's invariant: what is left to copy, stored from here on, gives the whole copy. Assumes nothing.
+-- `answers::copy_bytes` meets its contract. The loop's invariant: what is left to copy, stored from here on, gives the whole copy. Assumes nothing.
 use Prim.Native.Nat.{_≤_, _-_}
 use mathlib.Core.Path.{_≡_, refl, sym, _∙_}
 use native.Mathlib.Omega.{arith}
 use lib.ListN.{length, take, drop, length-set}
 use lib.Seq.{sets}
-use Rattle.text_form.proofs.Slices.{copy-on, copy-end}
+use Rattle.answers.proofs.Slices.{copy-on, copy-end}
 use borrow.Author.Needs.{needs}
-use Rattle.text_writer.proofs.copy_bytes.Statement.{statement}
-use Rattle.text_writer.proofs.copy_bytes.Tie as tie
+use Rattle.answers.proofs.copy_bytes.Statement.{statement}
+use Rattle.answers.proofs.copy_bytes.Tie as tie
 
 abbrev Inv-loop : tie.InvT-loop
 Inv-loop out₀ from n i₀ out i = (i ≤ n) × ((length out ≡ length out₀) × (sets out i (take (n - i) (drop i from)) ≡ sets out₀ 0 (take n from)))
