@@ -1,0 +1,1 @@
+// No code: the words of the stable models, and what is proved of them.
