@@ -4,6 +4,7 @@
 //   table WORDS              the check of a table; taken, its numbers of atoms, clauses and words
 //   cycle WORDS              the cycle answer
 //   set WORDS : ENTRIES      the test of a set
+//   models WORDS : L         all stable models, with room for L words, each 9
 //   list WORDS : K LIST      the check of a list, with K marks, each 7
 //   reduce WORDS : K L       the reducer, with K marks, each 7, and L list words, each 9
 //   kept WORDS : L MARKS     the reduced table, with room for L words, each 9
@@ -258,6 +259,13 @@ fn run_kept(words: &[u16], rest: &[u16]) {
     print_words(&out, l + 2);
 }
 
+fn run_models(words: &[u16], rest: &[u16]) {
+    let mut out = [9u16; WORDS];
+    let l = room(rest, 0);
+    print_answer(gambrolt::gambrolt_models(words, &mut out[0..l]));
+    print_words(&out, l + 2);
+}
+
 fn run_write(words: &[u16], rest: &[u16]) {
     let mut out = [b'.'; SIZE];
     let l = room(rest, 0);
@@ -288,6 +296,9 @@ fn run_more(name: u8, words: &[u16], rest: &[u16]) {
     }
     if name == b'k' {
         return run_kept(words, rest);
+    }
+    if name == b'm' {
+        return run_models(words, rest);
     }
     run_write(words, rest);
 }

@@ -8,7 +8,7 @@ use mathlib.Core.List.{List}
 use mathlib.Core.Option.{none}
 use Prim.Native.Nat.{ℕ, _+_, _*_, _/_, _≤_, _<_}
 use native.Mathlib.Omega.{arith}
-use lib.ListN.{length, take}
+use lib.ListN.{length, getD, take}
 use Rattle.semantics.specs.Lists.{bit}
 use Rattle.semantics.specs.Programs.{Program}
 use Rattle.semantics.specs.Decide.{stableTest}
@@ -32,6 +32,7 @@ use Rattle.answers.specs.declared.Answer.{Answer}
 use Rattle.reduced_table.specs.Reduced.{reducedAnswer}
 use Rattle.reduced_sizes.specs.Leaves.{reduced}
 use Rattle.models_test.proofs.Answered as stability
+use Rattle.models_list.specs.Answer.{modelWords, modelsAnswer}
 use Rattle.dependency.specs.Decide.{cyclic}
 use Rattle.cycle.proofs.Answered as cycles
 use Rattle.text_form.specs.Render.{render}
@@ -40,8 +41,9 @@ use Rattle.text_form.specs.Reader.{answerOf, readAnswer, tableAfter}
 use Rattle.text_form.specs.Writer.{textOf, writeAnswer, outAfter}
 use Rattle.text_form.proofs.Texts.{read-render}
 use Rattle.text_form.proofs.Calls.{read-refused, write-refused}
-use Rattle.claims.proofs.Said.{value, refusal, saidBy, tableCall, checkCall, reduceCall, reducedCall, testCall, cycleCall, readCall, writeCall, says, IsTaken, firstNo}
+use Rattle.claims.proofs.Said.{value, refusal, saidBy, tableCall, checkCall, reduceCall, reducedCall, testCall, modelsCall, cycleCall, readCall, writeCall, says, IsTaken, firstNo}
 use Rattle.claims.proofs.Calls as calls
+use Rattle.claims.proofs.Models as listing
 use Rattle.claims.proofs.Lists.{checked-asked, accepted-marks}
 use Rattle.claims.proofs.Steps.{Fine-at, front-made, each-fine, all-fine, none-fine}
 use Rattle.claims.proofs.Reductions as reducing
@@ -51,6 +53,7 @@ use Rattle.claims.proofs.Demand2.{Asked, asked-iff}
 pub use Rattle.claims.proofs.Lists.{refused-marks}
 pub use Rattle.claims.proofs.Reductions.{reducer-refused}
 pub use Rattle.claims.proofs.Reduced.{reduced-refused}
+pub use Rattle.claims.proofs.Models.{models-refused}
 
 -- ---- a call that passes its questions is taken, and no other is
 
@@ -117,6 +120,16 @@ test-taken ws set = (
   λ h. (bit (stableTest (programOf ws) set), stability.accepted-iff ws set _ .1 (asked-iff ws set .0 h, refl)),
 )
 
+-- 30 and 31
+pub models-taken : (ws : List ℕ) (room : ℕ) → IsTaken (modelsCall ws room) ↔ (Passed ws × (getD ws 0 0 ≤ 16) × (length (modelWords ws) ≤ room))
+models-taken ws room = go (modelsAnswer ws room) (listing.listing-goes ws room)
+  where
+    go : (a : Answer) → listing.ListingGoes ws room a → ((k : ℕ) × (a ≡ Accepted k)) ↔ (Passed ws × (getD ws 0 0 ≤ 16) × (length (modelWords ws) ≤ room))
+    go a (listing.table r e) = (λ h. absurd (refused-taken _ _ (h .1)), λ h. absurd (not-both (h .0) e))
+    go a (listing.many p s) = (λ h. absurd (refused-taken _ _ (h .1)), λ h. absurd (omega (arith, h .1)))
+    go a (listing.short p f s) = (λ h. absurd (refused-taken _ _ (h .1)), λ h. absurd (omega (arith, h .2)))
+    go a (listing.made p f s) = (λ h. (p, f, s), λ h. (_, refl))
+
 -- no question of its own
 pub cycle-taken : (ws : List ℕ) → IsTaken (cycleCall ws) ↔ Passed ws
 cycle-taken ws = (
@@ -182,7 +195,28 @@ text-room ws room = go (writeAnswer ws room) (calls.writing-goes ws room)
     go a (calls.short p s) = (λ h. (p, s), λ h. refl)
     go a (calls.made p s) = (λ h. absurd (never h), λ h. absurd (omega (arith, h .1)))
 
--- ---- a refused call changes no lent memory: `reducer-refused`, `reduced-refused`, `refused-marks` (a list refused at a step leaves the marks of the steps before it), and
+-- 31 "a slice shorter than the count"
+pub models-room : (ws : List ℕ) (room : ℕ) → (says (modelsCall ws room) ≡ refusal 31 0) ↔ (Passed ws × (getD ws 0 0 ≤ 16) × (room < length (modelWords ws)))
+models-room ws room = go (modelsAnswer ws room) (listing.listing-goes ws room)
+  where
+    go : (a : Answer) → listing.ListingGoes ws room a → (saidBy a ≡ refusal 31 0) ↔ (Passed ws × (getD ws 0 0 ≤ 16) × (room < length (modelWords ws)))
+    go a (listing.table r e) = (λ h. absurd (early ws r 31 0 (omega arith) e h), λ h. absurd (not-both (h .0) e))
+    go a (listing.many p s) = (λ h. absurd (omega (arith, number-is h)), λ h. absurd (omega (arith, h .1)))
+    go a (listing.short p f s) = (λ h. (p, f, s), λ h. refl)
+    go a (listing.made p f s) = (λ h. absurd (never h), λ h. absurd (omega (arith, h .2)))
+
+-- ---- "more than 16 atoms", 30, is said exactly where 1 to 8 are answered yes and there are more
+
+pub models-many : (ws : List ℕ) (room : ℕ) → (says (modelsCall ws room) ≡ refusal 30 0) ↔ (Passed ws × (16 < getD ws 0 0))
+models-many ws room = go (modelsAnswer ws room) (listing.listing-goes ws room)
+  where
+    go : (a : Answer) → listing.ListingGoes ws room a → (saidBy a ≡ refusal 30 0) ↔ (Passed ws × (16 < getD ws 0 0))
+    go a (listing.table r e) = (λ h. absurd (early ws r 30 0 (omega arith) e h), λ h. absurd (not-both (h .0) e))
+    go a (listing.many p s) = (λ h. (p, s), λ h. refl)
+    go a (listing.short p f s) = (λ h. absurd (omega (arith, number-is h)), λ h. absurd (omega (arith, h .1)))
+    go a (listing.made p f s) = (λ h. absurd (never h), λ h. absurd (omega (arith, h .1)))
+
+-- ---- a refused call changes no lent memory: `reducer-refused`, `reduced-refused`, `refused-marks` (a list refused at a step leaves the marks of the steps before it), `models-refused`, and
 
 -- "Every other refusal changes nothing.", of reading and writing text
 pub read-refused-unchanged : (ts table : List ℕ) (r : Refusal) → readAnswer ts (length table) ≡ Refused r → tableAfter ts table ≡ table

@@ -5,6 +5,7 @@ pub mod Examples
 pub mod Requests
 pub mod Successes
 pub mod Cycles
+pub mod Models
 pub mod OpenSteps
 pub mod Refusals
 pub mod Said

@@ -3,11 +3,13 @@ use mathlib.Core.Path.{refl}
 use mathlib.Core.List.{List, [], _∷_}
 use Prim.Native.Nat.{ℕ}
 use lib.ListN.{length, replicate}
+use Rattle.semantics.specs.Programs as programs
+use Rattle.semantics.specs.Decide.{sublists, stableTest}
 use Rattle.rewriting.specs.Marked.{left}
 use Rattle.rewriting.specs.Reaches.{fire, reachFrom, reach}
 use Rattle.rewriting.specs.Steps.{inNoHead, condition, conditionHolds, applies, effect}
 use Rattle.rewriting.specs.Search.{least, firstAtom, firstPartner, firstTarget, firstStep, reduce}
-use Rattle.answers.specs.Answers.{ask}
+use Rattle.answers.specs.Answers.{ask, writtenIf}
 use Rattle.table.specs.StepWords.{wordsOf}
 use Rattle.table.specs.Questions as questions
 use Rattle.table.specs.Places.{startFrom}
@@ -16,10 +18,12 @@ use Rattle.table.specs.View.{part, entryAt, entriesFrom, view}
 use Rattle.table.specs.Effects.{find, clears, marksAfter, marksAfterAll}
 use Rattle.dependency.specs.Decide.{turned, leads, cyclic}
 use Rattle.cycle.specs.Answer.{cycleOf}
-use Rattle.step_lists.specs.Lists as lists
+use Rattle.models_words.specs.Words.{below, entriesOf, stableWord, modelsOf}
+use Rattle.models_list.specs.Answer.{modelsAnswer, modelsOut}
+use Rattle.step_lists.specs.Lists as checking
 use Rattle.step_questions.specs.Questions as steps
 use Rattle.reducer_results.specs.Reductions as reductions
-use Rattle.claims.proofs.Said.{Example, Said, row, writes, value, refusal, checkCall, cycleCall, AllSay}
+use Rattle.claims.proofs.Said.{Example, Said, row, writes, lists, value, refusal, checkCall, modelsCall, cycleCall, AllSay}
 
 -- a list checked on a table
 abbrev checks : List ℕ → List ℕ → Said → Example
@@ -28,6 +32,10 @@ checks ws l s = row (checkCall ws (replicate (length ws) 1) l) s
 -- the cycle answer of a table
 abbrev cycles : List ℕ → Said → Example
 cycles ws s = row (cycleCall ws) s
+
+-- the list of all stable models, into a slice of so many words
+abbrev models : List ℕ → ℕ → Said → Example
+models ws room s = row (modelsCall ws room) s
 
 -- 1. 0 <- 1., with two atoms
 abbrev success : List ℕ
@@ -82,8 +90,32 @@ rows =
     ∷ cycles (3 ∷ 4 ∷ 1 ∷ 1 ∷ 0 ∷ 0 ∷ 1 ∷ 1 ∷ 0 ∷ 1 ∷ 1 ∷ 0 ∷ 1 ∷ 1 ∷ 0 ∷ 1 ∷ 2 ∷ 1 ∷ 1 ∷ 0 ∷ 2 ∷ 0 ∷ []) (value 1)
     -- a constraint leads nowhere, and a fact ends a chain: <- 0. 0 <- 1. 1.
     ∷ cycles (2 ∷ 3 ∷ 0 ∷ 1 ∷ 0 ∷ 0 ∷ 1 ∷ 1 ∷ 0 ∷ 0 ∷ 1 ∷ 1 ∷ 0 ∷ 0 ∷ 1 ∷ []) (value 0)
+    -- Slip 3. "the sum of 2 to the power of each atom in it", "Words ascend", "Words of the slice past the count don't change": 0 <- ~1. 1 <- ~0.; 0|1. 2|3.; the facts 0. 2.
+    ∷ lists (2 ∷ 2 ∷ 1 ∷ 0 ∷ 1 ∷ 0 ∷ 1 ∷ 1 ∷ 0 ∷ 1 ∷ 1 ∷ 0 ∷ []) (1 ∷ 2 ∷ [])
+    ∷ lists (4 ∷ 2 ∷ 2 ∷ 0 ∷ 0 ∷ 0 ∷ 1 ∷ 2 ∷ 0 ∷ 0 ∷ 2 ∷ 3 ∷ []) (5 ∷ 6 ∷ 9 ∷ 10 ∷ [])
+    ∷ lists (3 ∷ 2 ∷ 1 ∷ 0 ∷ 0 ∷ 0 ∷ 1 ∷ 0 ∷ 0 ∷ 2 ∷ []) (5 ∷ [])
+    -- "A set is listed exactly when the test of demand 2 would say yes": the empty set, where there are no clauses, or none that begins: 0 <- 1. 1 <- 0.
+    ∷ lists (3 ∷ 0 ∷ []) (0 ∷ [])
+    ∷ lists (0 ∷ 0 ∷ []) (0 ∷ [])
+    ∷ lists (2 ∷ 2 ∷ 1 ∷ 1 ∷ 0 ∷ 0 ∷ 1 ∷ 1 ∷ 1 ∷ 0 ∷ 1 ∷ 0 ∷ []) (0 ∷ [])
+    -- minimal models of the reduct, not of the program: of 0 <- ~1. over two atoms the sets 0 and 1 are minimal models, only 0 is stable; of 0|1. 0 <- 1. 1 <- 0. the set 0, 1
+    ∷ lists (2 ∷ 1 ∷ 1 ∷ 0 ∷ 1 ∷ 0 ∷ 1 ∷ []) (1 ∷ [])
+    ∷ lists (2 ∷ 3 ∷ 2 ∷ 0 ∷ 0 ∷ 0 ∷ 1 ∷ 1 ∷ 1 ∷ 0 ∷ 0 ∷ 1 ∷ 1 ∷ 1 ∷ 0 ∷ 1 ∷ 0 ∷ []) (3 ∷ [])
+    -- none: 0 <- ~0.; the empty clause; a constraint forbids the one there would be: 0. <- 0.
+    ∷ lists (1 ∷ 1 ∷ 1 ∷ 0 ∷ 1 ∷ 0 ∷ 0 ∷ []) []
+    ∷ lists (1 ∷ 1 ∷ 0 ∷ 0 ∷ 0 ∷ []) []
+    ∷ lists (1 ∷ 2 ∷ 1 ∷ 0 ∷ 0 ∷ 0 ∷ 0 ∷ 1 ∷ 0 ∷ 0 ∷ []) []
+    -- "31, after 30, is for a slice shorter than the count": 0|1. has two; none need no word
+    ∷ models (2 ∷ 1 ∷ 2 ∷ 0 ∷ 0 ∷ 0 ∷ 1 ∷ []) 2 (value 2)
+    ∷ models (2 ∷ 1 ∷ 2 ∷ 0 ∷ 0 ∷ 0 ∷ 1 ∷ []) 1 (refusal 31 0)
+    ∷ models (2 ∷ 1 ∷ 2 ∷ 0 ∷ 0 ∷ 0 ∷ 1 ∷ []) 0 (refusal 31 0)
+    ∷ models (1 ∷ 1 ∷ 0 ∷ 0 ∷ 0 ∷ []) 0 (value 0)
+    -- "30, after 8, is for more than 16 atoms", before 31: 17 atoms with and without a slice; a word left over is 8
+    ∷ models (17 ∷ 0 ∷ []) 6 (refusal 30 0)
+    ∷ models (17 ∷ 0 ∷ []) 0 (refusal 30 0)
+    ∷ models (17 ∷ 0 ∷ 0 ∷ []) 6 (refusal 8 2)
     ∷ []
 
 pub requests : AllSay rows
-unfolding left fire reachFrom reach inNoHead condition conditionHolds applies effect least firstAtom firstPartner firstTarget firstStep reduce ask questions.atomsFrom questions.partsFrom questions.clauseFrom questions.clausesFrom questions.allUsed questions.tableOf startFrom clausesOf programOf part entryAt entriesFrom view find clears marksAfter marksAfterAll steps.shapeQuestions steps.stepQuestions lists.stepsFrom lists.checkList wordsOf reductions.bodyLiterals reductions.room reductions.stepsOf reductions.reduction questions.onWalk questions.onTable turned leads cyclic cycleOf
-requests = (refl, (refl, (refl, ((refl, refl), (refl, (refl, (refl, (refl, (refl, (refl, (refl, (refl, (refl, (refl, (refl, (refl, ((refl, refl), (refl, (refl, (refl, (refl, (refl, (refl, (refl, (refl, (refl, (refl, tt)))))))))))))))))))))))))))
+unfolding left fire reachFrom reach inNoHead condition conditionHolds applies effect least firstAtom firstPartner firstTarget firstStep reduce ask questions.atomsFrom questions.partsFrom questions.clauseFrom questions.clausesFrom questions.allUsed questions.tableOf startFrom clausesOf programOf part entryAt entriesFrom view find clears marksAfter marksAfterAll steps.shapeQuestions steps.stepQuestions checking.stepsFrom checking.checkList wordsOf reductions.bodyLiterals reductions.room reductions.stepsOf reductions.reduction questions.onWalk questions.onTable turned leads cyclic cycleOf programs.satisfies programs.reduct programs.models sublists stableTest below entriesOf stableWord modelsOf modelsAnswer modelsOut writtenIf
+requests = (refl, (refl, (refl, ((refl, refl), (refl, (refl, (refl, (refl, (refl, (refl, (refl, (refl, (refl, (refl, (refl, (refl, ((refl, refl), (refl, (refl, (refl, (refl, (refl, (refl, (refl, (refl, (refl, (refl, ((refl, refl), ((refl, refl), ((refl, refl), ((refl, refl), ((refl, refl), ((refl, refl), ((refl, refl), ((refl, refl), ((refl, refl), ((refl, refl), ((refl, refl), (refl, (refl, (refl, (refl, (refl, (refl, (refl, tt)))))))))))))))))))))))))))))))))))))))))))))

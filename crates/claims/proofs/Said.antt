@@ -1,4 +1,4 @@
--- The calls, and what each says in document 01's numbers: the value of a call that is taken, or the number and place of the first question that gets a no.
+-- The calls, and what each says in the documents' numbers: the value of a call that is taken, or the number and place of the first question that gets a no.
 use mathlib.Core.Path.{_≡_}
 use mathlib.Core.List.{List, [], _∷_}
 use mathlib.Core.Option.{Option, none, some}
@@ -17,6 +17,7 @@ use Rattle.step_lists.specs.Lists.{checkList}
 use Rattle.reducer_results.specs.Reductions.{Reduction, reduction}
 use Rattle.reduced_table.specs.Reduced.{reducedAnswer}
 use Rattle.models_test.specs.Answer.{testOf}
+use Rattle.models_list.specs.Answer.{modelsAnswer, modelsOut}
 use Rattle.cycle.specs.Answer.{cycleOf}
 use Rattle.text_form.specs.Reader.{readAnswer}
 use Rattle.text_form.specs.Writer.{writeAnswer}
@@ -30,13 +31,14 @@ abbrev pub saidBy : Answer → Said
 saidBy (Accepted k) = value k
 saidBy (Refused r) = refusal (refusalNumber r) (refusalPlace r)
 
--- a call with what is lent to it: words, then marks, a list of steps or a slice; reading and writing text, the length of the slice
+-- a call with what is lent to it: words, then marks, a list of steps or a slice; listing all stable models, reading and writing text, the length of the slice
 pub data Call : Type 0 where
   tableCall : List ℕ → Call
   checkCall : List ℕ → List ℕ → List ℕ → Call
   reduceCall : List ℕ → List ℕ → List ℕ → Call
   reducedCall : List ℕ → List ℕ → List ℕ → Call
   testCall : List ℕ → List ℕ → Call
+  modelsCall : List ℕ → ℕ → Call
   cycleCall : List ℕ → Call
   readCall : List ℕ → ℕ → Call
   writeCall : List ℕ → ℕ → Call
@@ -48,6 +50,7 @@ answered (checkCall ws ms ls) = checkList ws ms ls .answer
 answered (reduceCall ws ms ls) = reduction ws ms ls .answer
 answered (reducedCall ws ms out) = reducedAnswer ws ms out
 answered (testCall ws set) = testOf ws set
+answered (modelsCall ws room) = modelsAnswer ws room
 answered (cycleCall ws) = cycleOf ws
 answered (readCall ts room) = readAnswer ts room
 answered (writeCall ws room) = writeAnswer ws room
@@ -66,10 +69,11 @@ firstNo ws ms ls k = stepQuestions some (getD ws 0 0) (view ws ms) (kindAt ls k)
 
 -- ---- rows of tables that are computed
 
--- a call says this; or the reducer writes this list for a table
+-- a call says this; or the reducer writes this list for a table; or these are the words of its stable models
 pub data Example : Type 0 where
   row : Call → Said → Example
   writes : List ℕ → List ℕ → Example
+  lists : List ℕ → List ℕ → Example
 
 -- the reducer's call, lent a mark for each word and 64 words for the list, at first all 0
 abbrev pub reduced64 : List ℕ → Reduction
@@ -78,6 +82,8 @@ reduced64 ws = reduction ws (replicate (length ws) 0) (replicate 64 0)
 abbrev pub Says : Example → Type 0
 Says (row c s) = says c ≡ s
 Says (writes ws l) = (reduced64 ws .answer ≡ Accepted (length l / 4)) × (reduced64 ws .list ≡ written l (replicate 64 0))
+-- into a slice of six words, at first all 9
+Says (lists ws l) = (modelsAnswer ws 6 ≡ Accepted (length l)) × (modelsOut ws (replicate 6 9) ≡ written l (replicate 6 9))
 
 abbrev pub AllSay : List Example → Type 0
 AllSay [] = Unit {0}

@@ -9,7 +9,7 @@ use lib.Dec.{leb, eqb}
 use lib.ListN.{length, getD}
 use Rattle.semantics.specs.Decide.{stableTest}
 use Rattle.semantics.proofs.Tests.{and-iff, bit-bound}
-use Rattle.answers.specs.declared.CallQuestion.the-variants.{MarksLength, ListLength, ListRoom, TableRoom, TextRoom}
+use Rattle.answers.specs.declared.CallQuestion.the-variants.{MarksLength, ListLength, ListRoom, TableRoom, TextRoom, FewAtoms, ModelsRoom}
 use Rattle.answers.specs.declared.EntryQuestion.the-variants.{EntryBelow, EntryAscending}
 use Rattle.answers.specs.declared.Refusal.the-variants.{Call, Entry, Step}
 use Rattle.answers.specs.declared.Answer.the-variants.{Accepted, Refused}
@@ -25,6 +25,8 @@ use Rattle.table.proofs.Laws.{table-part}
 use Rattle.table.proofs.Encoding.{passed-limits}
 use Rattle.table.proofs.Refused.{NearBy, near-ask, atoms-near, small-walk, small-table}
 use Rattle.models_test.specs.Answer.{setOf, testOf}
+use Rattle.models_words.proofs.Antichains.{few-models}
+use Rattle.models_list.specs.Answer.{modelWords, modelsAnswer}
 use Rattle.dependency.specs.Decide.{cyclic}
 use Rattle.cycle.specs.Answer.{cycleOf}
 use Rattle.reduced_marks.specs.Allowed.{allowed, marksFrom}
@@ -39,7 +41,7 @@ use Rattle.reducer_results.proofs.Taken.{reduction-answer, steps-room}
 use Rattle.text_form.specs.Writer.{textOf, writeAnswer}
 use Rattle.text_form.proofs.Calls.{text-short}
 
--- ---- a set, and the cycle answer
+-- ---- a set, all stable models, and the cycle answer
 
 set-near : (set : List ℕ) (n : ℕ) → NearBy 16 (setOf set n)
 unfolding setOf
@@ -49,6 +51,12 @@ set-near set n = near-ask (λ r. refusalPlace r ≤ 16) 16 _ _ _ (omega arith) (
 pub test-small : (ws set : List ℕ) → Small (testOf ws set)
 unfolding testOf
 test-small ws set = small-table ws _ (λ p. small-walk 16 (omega arith) (setOf set (getD ws 0 0)) _ (set-near set (getD ws 0 0)) (λ e. omega (arith, bit-bound (stableTest (programOf ws) set))))
+
+pub models-small : (ws : List ℕ) (room : ℕ) → Small (modelsAnswer ws room)
+unfolding modelsAnswer programOf
+models-small ws room = small-table ws _ (λ p.
+    small-ask (leb (getD ws 0 0) 16) (Call FewAtoms) _ (omega arith) (λ t.
+    small-ask (leb (length (modelWords ws)) room) (Call ModelsRoom) (Accepted (length (modelWords ws))) (omega arith) (λ _. omega (arith, few-models (programOf ws) (leb-true (getD ws 0 0) 16 t)))))
 
 pub cycle-small : (ws : List ℕ) → Small (cycleOf ws)
 unfolding cycleOf

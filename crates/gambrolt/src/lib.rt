@@ -9,6 +9,7 @@ ghost use Rattle.reducer_results.specs.Reductions.{reduction};
 ghost use Rattle.reduced_table.specs.Reduced.{reducedAnswer, reducedOut};
 ghost use Rattle.cycle.specs.Answer.{cycleOf};
 ghost use Rattle.models_test.specs.Answer.{testOf};
+ghost use Rattle.models_list.specs.Answer.{modelsAnswer, modelsOut};
 ghost use Rattle.text_form.specs.Reader.{readAnswer, tableAfter};
 ghost use Rattle.text_form.specs.Writer.{writeAnswer, outAfter};
 use table::Checked;
@@ -55,6 +56,14 @@ pub extern "C" fn gambrolt_test(words: &[u16], set: &[u16]) -> u64
     ensures { λ r. ⌜ r ≡ answerCode (testOf (now (words .entry)) (now (set .entry))) ⌝ }
 {
     answers::answer_code(models_test::test_set(words, set))
+}
+
+// Questions 1 to 8, 30 and 31, then the words of all stable models.
+#[no_mangle]
+pub extern "C" fn gambrolt_models(words: &[u16], out: &mut [u16]) -> u64
+    ensures { λ r. ⌜ (r ≡ answerCode (modelsAnswer (now (words .entry)) (length (now (out .entry))))) × (now (out .exit) ≡ modelsOut (now (words .entry)) (now (out .entry))) ⌝ }
+{
+    answers::answer_code(models_list::list_models(words, out))
 }
 
 // Questions 1 to 8, then whether some atom leads back to itself.

@@ -1,0 +1,4 @@
+pub mod Masks
+pub mod Gathered
+pub mod Listed
+pub mod Answer
