@@ -3,8 +3,9 @@
  *
  * A ground program (disjunctive clauses, constraints, default negation) is a table of 16-bit words. The library checks
  * tables, shortens a program step by step, checks such lists of steps, writes the shortened program, tests whether a set
- * of atoms is a stable model, answers whether atoms depend on themselves, and reads and writes a text form. What every
- * call returns, and what it leaves in the caller's memory, is proved for every input, however damaged.
+ * of atoms is a stable model, lists the stable models of a program of few atoms, answers whether atoms depend on
+ * themselves, and reads and writes a text form. What every call returns, and what it leaves in the caller's memory, is
+ * proved for every input, however damaged.
  *
  *   - A call allocates nothing, keeps no state and no pointer, and calls nobody. Threads may call at the same time, each
  *     with buffers of its own.
@@ -52,7 +53,7 @@ extern "C" {
 
 /* ---- Version --------------------------------------------------------------------------------------------------------- */
 
-#define GAMBROLT_VERSION "3.0.0"
+#define GAMBROLT_VERSION "3.1.0"
 
 static inline const char *gambrolt_version(void)
 {
@@ -65,7 +66,8 @@ static inline const char *gambrolt_version(void)
 #define GAMBROLT_MAX_CLAUSES 2048
 #define GAMBROLT_MAX_WORDS   8192  /* of a table: as many words, or marks, hold every table */
 #define GAMBROLT_MAX_LIST    32760 /* words of a list: as many hold the list of every reduction */
-#define GAMBROLT_MAX_SET     16    /* entries of a set that is tested */
+#define GAMBROLT_MAX_SET     16    /* entries of a set that is tested; atoms of a program whose stable models are listed */
+#define GAMBROLT_MAX_MODELS  12870 /* words of a list of stable models: as many hold every list */
 #define GAMBROLT_MAX_TEXT    65536 /* bytes of a text: as many hold the text of every table */
 
 /* ---- Steps ----------------------------------------------------------------------------------------------------------- */
@@ -147,7 +149,9 @@ enum gambrolt_question {
     GAMBROLT_WORD_LIMIT      = 26, /* do the words so far stay within 8192? */
     GAMBROLT_TEXT_ALL_USED   = 27, /* is no byte left? place of the first */
     GAMBROLT_TEXT_ROOM       = 28, /* does the text fit? */
-    GAMBROLT_ATOM_MATCHES    = 29  /* kind 3, after 15: where the partner has exactly one head atom, is it the atom? */
+    GAMBROLT_ATOM_MATCHES    = 29, /* kind 3, after 15: where the partner has exactly one head atom, is it the atom? */
+    GAMBROLT_FEW_ATOMS       = 30, /* are there at most 16 atoms? */
+    GAMBROLT_MODELS_ROOM     = 31  /* does the list of stable models fit? */
 };
 
 /* What a refusal number says, in words. */
@@ -184,6 +188,8 @@ static inline const char *gambrolt_message(unsigned number)
     case GAMBROLT_TEXT_ALL_USED: return "bytes are left over after the last line";
     case GAMBROLT_TEXT_ROOM: return "the text does not fit";
     case GAMBROLT_ATOM_MATCHES: return "the atom of a success step is not the one head atom of its partner";
+    case GAMBROLT_FEW_ATOMS: return "there are more than 16 atoms";
+    case GAMBROLT_MODELS_ROOM: return "the list of stable models does not fit";
     default: return "no such refusal";
     }
 }
@@ -228,6 +234,17 @@ uint64_t gambrolt_reduced_table(const uint16_t *table, size_t table_len, const u
  * Value: 1 for yes, 0 for no. The time doubles with each entry.
  */
 uint64_t gambrolt_test(const uint16_t *table, size_t table_len, const uint16_t *set, size_t set_len);
+
+/*
+ * Lists the stable models of a program of at most 16 atoms, which are the sets that gambrolt_test says yes to: 30, 31.
+ * Value: the number of stable models.
+ * out: a word for each stable model, the sum of 2 to the power of each of its atoms, in ascending order, in its first words.
+ * GAMBROLT_MAX_MODELS words always suffice: no stable model is a proper subset of another, and no more than 12,870 subsets
+ * of 16 atoms are so (Sperner's theorem).
+ * The time doubles with each atom, and grows faster with atoms of disjunctive heads; 16 atoms take milliseconds as a rule,
+ * and up to some 20 seconds with a table that is made to take long.
+ */
+uint64_t gambrolt_models(const uint16_t *table, size_t table_len, uint16_t *out, size_t out_len);
 
 /*
  * Answers whether some atom depends on itself, from head to positive body, along any chain of clauses. Negative body atoms

@@ -23,6 +23,10 @@ pub fn test(table: &[u16], set: &[u16]) -> usize {
     taken(unsafe { gambrolt_test(table.as_ptr(), table.len(), set.as_ptr(), set.len()) })
 }
 
+pub fn models(table: &[u16], out: &mut [u16]) -> usize {
+    taken(unsafe { gambrolt_models(table.as_ptr(), table.len(), out.as_mut_ptr(), out.len()) })
+}
+
 pub fn check_table(table: &[u16]) -> usize {
     taken(unsafe { gambrolt_check_table(table.as_ptr(), table.len()) })
 }

@@ -3,6 +3,7 @@
 #![deny(warnings)]
 mod calls;
 mod incremental;
+mod models;
 mod timing;
 
 use gambrolt_tests::independent::program::{words, Clause, Program};
@@ -39,6 +40,8 @@ fn main() {
     cycles("a chain through all atoms", chain, 1023);
     cycles("each of 32 atoms leads to each of 32", layers, 122);
     cycles("the same, negative", |size| negated(layers(size)), 122);
+    println!();
+    models::lists();
 }
 
 /// One line: the size of a shape's table, and the steps of its list.

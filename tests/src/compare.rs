@@ -3,13 +3,14 @@ use crate::independent::{self, Answer, Refused};
 use crate::library;
 use std::fmt::Debug;
 
-/// How many calls were compared, how often each question refused one, how many steps of each kind were made, and how many
-/// programs had which circles.
+/// How many calls were compared, how often each question refused one, how many steps of each kind were made, how many
+/// programs had which circles, and what the lists of stable models were.
 pub struct Tally {
     pub cases: u64,
-    pub met: [u64; 30],
+    pub met: [u64; 32],
     pub made: [u64; 9],
     pub circles: Circles,
+    pub listed: Listed,
 }
 
 /// Programs with a circle over positive bodies, with circles through negative literals alone, and without any.
@@ -18,6 +19,34 @@ pub struct Circles {
     pub positive: u64,
     pub negative: u64,
     pub none: u64,
+}
+
+/// Lists of stable models: how often each question refused one, and how often that of a program of more than 16 atoms; how
+/// many had no model, one, and several; how often a slice was too short for a program of more than 16 atoms; and how many
+/// programs were listed again after some step.
+#[derive(Debug, Default)]
+pub struct Listed {
+    pub met: [u64; 32],
+    pub met_above: [u64; 32],
+    pub none: u64,
+    pub one: u64,
+    pub several: u64,
+    pub too_short: u64,
+    pub reduced: u64,
+}
+
+impl Listed {
+    fn count(&mut self, table: &[u16], answer: Answer) {
+        match answer {
+            Err(Refused { number, .. }) => {
+                self.met[number as usize] += 1;
+                self.met_above[number as usize] += u64::from(table.first().is_some_and(|&atoms| atoms > 16));
+            }
+            Ok(0) => self.none += 1,
+            Ok(1) => self.one += 1,
+            Ok(_) => self.several += 1,
+        }
+    }
 }
 
 /// "the refusal's number times 2^48 plus its place, or, taken, the value"
@@ -30,7 +59,8 @@ fn code(answer: Answer) -> u64 {
 
 impl Tally {
     pub fn new() -> Tally {
-        Tally { cases: 0, met: [0; 30], made: [0; 9], circles: Circles::default() }
+        let (circles, listed) = (Circles::default(), Listed::default());
+        Tally { cases: 0, met: [0; 32], made: [0; 9], circles, listed }
     }
 
     /// Compares what a call gave with what document 01 says, both with all memory that was lent for writing.
@@ -96,6 +126,14 @@ impl Tally {
     pub fn test(&mut self, table: &[u16], set: &[u16]) -> Answer {
         let answer = independent::stable::test(table, set);
         self.same(&("test", table, set), answer, (), library::test(table, set), ())
+    }
+
+    /// The answer, and the out slice afterwards.
+    pub fn models(&mut self, table: &[u16], out: &[u16]) -> (Answer, Vec<u16>) {
+        let (answer, after) = independent::stable::list(table, out);
+        let (given, words) = library::models(table, out);
+        self.listed.count(table, answer);
+        (self.same(&("models", table, out.len()), answer, &after, given, &words), after)
     }
 
     pub fn cycle(&mut self, table: &[u16]) -> Answer {

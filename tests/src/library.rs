@@ -30,6 +30,7 @@ pub mod exports {
             out_len: usize,
         ) -> u64;
         pub fn gambrolt_test(table: *const u16, table_len: usize, set: *const u16, set_len: usize) -> u64;
+        pub fn gambrolt_models(table: *const u16, table_len: usize, out: *mut u16, out_len: usize) -> u64;
         pub fn gambrolt_cycle(table: *const u16, table_len: usize) -> u64;
         pub fn gambrolt_read_text(text: *const u8, text_len: usize, table: *mut u16, table_len: usize) -> u64;
         pub fn gambrolt_write_text(table: *const u16, table_len: usize, out: *mut u8, out_len: usize) -> u64;
@@ -146,6 +147,14 @@ pub fn test(table: &[u16], set: &[u16]) -> u64 {
     words.back_unchanged(table);
     entries.back_unchanged(set);
     answer
+}
+
+/// The answer, and the out slice afterwards.
+pub fn models(table: &[u16], out: &[u16]) -> (u64, Vec<u16>) {
+    let (words, mut listed) = (Lent::new(table), Lent::new(out));
+    let answer = unsafe { exports::gambrolt_models(words.start(), words.len, listed.start_mut(), listed.len) };
+    words.back_unchanged(table);
+    (answer, listed.back())
 }
 
 pub fn cycle(table: &[u16]) -> u64 {

@@ -75,6 +75,11 @@ fn kept(words: &[u16], rest: &[u16]) -> String {
     format!("{} words={}", answered(answer), words_shown(&out, 9))
 }
 
+fn models(words: &[u16], rest: &[u16]) -> String {
+    let (answer, out) = Tally::new().models(words, &vec![9; rest[0].into()]);
+    format!("{} words={}", answered(answer), words_shown(&out, 9))
+}
+
 fn write(words: &[u16], rest: &[u16]) -> String {
     let (answer, out) = Tally::new().write_text(words, &vec![b'.'; rest[0].into()]);
     let text = String::from_utf8(out).unwrap().replace('\n', "/");
@@ -94,6 +99,7 @@ fn printed(case: &[u8]) -> String {
         b"table" => table(&words),
         b"cycle" => answered(Tally::new().cycle(&words)),
         b"set" => answered(Tally::new().test(&words, &numbers(after))),
+        b"models" => models(&words, &numbers(after)),
         b"list" => list(&words, &numbers(after)),
         b"reduce" => reduce(&words, &numbers(after)),
         b"kept" => kept(&words, &numbers(after)),

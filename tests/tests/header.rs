@@ -1,5 +1,6 @@
 //! The numbers and names of include/gambrolt.h: each question's is that of a call which document 01's literal implementation
-//! and the library refuse by it, each kind's that of a step which they make, and each limit's is document 01's.
+//! and the library refuse by it, each kind's that of a step which they make, and each limit's is document 01's or follows
+//! from it.
 #![deny(warnings)]
 use gambrolt_tests::compare::Tally;
 use gambrolt_tests::independent::program::{parse, words};
@@ -86,14 +87,19 @@ fn of_texts() -> Vec<(&'static str, u64)> {
 /// Those of document 02, in the order of their numbers.
 fn of_requests() -> Vec<(&'static str, u64)> {
     let success = words(&parse(2, "1. 0 <- 1."));
-    vec![("ATOM_MATCHES", number(Tally::new().check(&success, &[1; 11], &[3, 1, 0, 0]).0))]
+    let models = |table: &[u16], room: usize| number(Tally::new().models(table, &vec![0; room]).0);
+    vec![
+        ("ATOM_MATCHES", number(Tally::new().check(&success, &[1; 11], &[3, 1, 0, 0]).0)),
+        ("FEW_ATOMS", models(&[17, 0], 1)),
+        ("MODELS_ROOM", models(&[16, 0], 0)),
+    ]
 }
 
 #[test]
 fn questions() {
     let expected = named(&[of_tables(), of_steps_and_sets(), of_texts(), of_requests()].concat());
     assert_eq!(values("gambrolt_question"), expected);
-    assert!(expected.iter().map(|(_, number)| *number).eq(1..=29), "a number is missing or stands twice");
+    assert!(expected.iter().map(|(_, number)| *number).eq(1..=31), "a number is missing or stands twice");
 }
 
 /// Each question has one message, and no message is said twice.
@@ -107,7 +113,7 @@ fn messages() {
     }
     said.sort_unstable();
     said.dedup();
-    assert_eq!(said.len(), 29);
+    assert_eq!(said.len(), 31);
 }
 
 /// The kind of the first step on a program.
@@ -134,7 +140,9 @@ fn limits() {
         let (_, rest) = HEADER.split_once(&format!("#define GAMBROLT_MAX_{name} ")).unwrap();
         rest.split_whitespace().next().unwrap().parse::<usize>().unwrap()
     };
-    let names = ["ATOMS", "CLAUSES", "WORDS", "LIST", "SET", "TEXT"];
-    assert_eq!(names.map(limit), [1024, 2048, 8192, 32760, 16, 65536]);
+    let names = ["ATOMS", "CLAUSES", "WORDS", "LIST", "SET", "MODELS", "TEXT"];
+    // the subsets of 16 things of which half of them are in: the middle of Pascal's triangle's row 16
+    let halves = (1..=8).fold(1, |subsets, i| subsets * (8 + i) / i);
+    assert_eq!(names.map(limit), [1024, 2048, 8192, 32760, 16, halves, 65536]);
     assert_eq!(HEADER.matches("#define GAMBROLT_MAX_").count(), names.len());
 }

@@ -72,6 +72,22 @@ fn questions_of_a_set() {
     assert_eq!(stable::test(&twenty, &[3, 4, 4]), refused(21, 2));
 }
 
+/// Slip 3 of document 02.
+#[test]
+fn lists_of_models() {
+    let list = |atoms: u16, program: &str, room: usize| stable::list(&words(&parse(atoms, program)), &vec![9; room]);
+    assert_eq!(list(2, "0 <- ~1. 1 <- ~0.", 3), (Ok(2), vec![1, 2, 9]));
+    assert_eq!(list(2, "0 <- ~1. 1 <- ~0.", 1), (refused(31, 0), vec![9]));
+    assert_eq!(list(2, "0|1. 0 <- 1. 1 <- 0.", 1), (Ok(1), vec![3]));
+    assert_eq!(list(2, "0 <- 1. 0 <- ~1. 1 <- 0.", 0), (Ok(0), vec![]));
+    // {0, 1}, {0, 2} and {3}: the words 3, 5 and 8
+    assert_eq!(list(4, "3 <- ~0. 0 <- ~3. 1|2 <- 0.", 4), (Ok(3), vec![3, 5, 8, 9]));
+    assert_eq!(list(0, "", 1), (Ok(1), vec![0]));
+    assert_eq!(list(1, "0 <- ~0.", 1), (Ok(0), vec![9]));
+    assert_eq!(list(17, "", 0), (refused(30, 0), vec![]));
+    assert_eq!(stable::list(&[17, 0, 0], &[]).0, refused(8, 2));
+}
+
 #[test]
 fn cycles() {
     let cycle = |program: &str| cycle::cycle(&words(&parse(4, program))).unwrap();

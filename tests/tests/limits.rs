@@ -1,9 +1,11 @@
-//! Tables, marks, sets and texts at the limits. The answers were worked out by hand; document 01's literal implementation and
-//! the library give the same, in all of the memory that is lent to them.
+//! Tables, marks, sets, lists of stable models and texts at the limits. The answers were worked out by hand; the literal
+//! implementation of the documents and the library give the same, in all of the memory that is lent to them.
 #![deny(warnings)]
 use gambrolt_tests::compare::Tally;
+use gambrolt_tests::independent::program::{parse, words, Program};
 use gambrolt_tests::independent::{Answer, Refused};
 use gambrolt_tests::library;
+use gambrolt_tests::make::programs::one_of_any;
 
 fn refused(number: u64, place: u64) -> Answer {
     Err(Refused { number, place })
@@ -89,6 +91,77 @@ fn sets_and_cycles() {
     let but_14: Vec<u16> = all.iter().copied().filter(|&atom| atom != 14).collect();
     assert_eq!(both(&many(2046, 2031, facts(&but_14)), &all), (0, 0));
     assert_eq!(both(&many(2048, 2046, vec![0; 6]), &all), (0, 0));
+}
+
+/// The words below 2^16 that have so many bits within each of these masks, ascending.
+fn words_with(masks: &[(u16, u32)]) -> Vec<u16> {
+    let fits = |word: &u16| masks.iter().all(|&(mask, bits)| (word & mask).count_ones() == bits);
+    (0..=u16::MAX).filter(fits).collect()
+}
+
+/// The list is that of these models, with just enough room, and is refused with a word less. The library alone is asked:
+/// the literal implementation takes long for these programs of 16 atoms.
+fn listed(table: &[u16], models: &[u16]) {
+    let count = models.len();
+    assert_eq!(library::models(table, &vec![9; count + 2]), (count as u64, [models, &[9, 9]].concat()));
+    assert_eq!(library::models(table, &vec![9; count]), (count as u64, models.to_vec()));
+    assert_eq!(library::models(table, &vec![9; count - 1]), (31 << 48, vec![9; count - 1]));
+}
+
+#[test]
+fn models_of_up_to_16_atoms() {
+    let models = |table: &[u16], room: usize| Tally::new().models(table, &vec![9; room]);
+    assert_eq!(models(&[0, 0], 2), (Ok(1), vec![0, 9]));
+    assert_eq!(models(&[0, 0], 0), (refused(31, 0), vec![]));
+    assert_eq!(models(&[0, 1, 0, 0, 0], 0), (Ok(0), vec![]));
+    assert_eq!(models(&[16, 1, 0, 0, 0], 0), (Ok(0), vec![]));
+    assert_eq!(models(&[16, 1, 0, 0, 0], 1), (Ok(0), vec![9]));
+    assert_eq!(models(&[16, 0], 2), (Ok(1), vec![0, 9]));
+    assert_eq!(models(&[16, 0], 0), (refused(31, 0), vec![]));
+    let facts = words(&parse(16, "0. 1. 2. 3. 4. 5. 6. 7. 8. 9. 10. 11. 12. 13. 14. 15."));
+    assert_eq!(models(&facts, 2), (Ok(1), vec![65535, 9]));
+    assert_eq!(models(&facts, 0), (refused(31, 0), vec![]));
+}
+
+#[test]
+fn models_of_more_atoms() {
+    let models = |table: &[u16], room: usize| Tally::new().models(table, &vec![9; room]);
+    for atoms in [17, 32, 1024] {
+        assert_eq!(models(&[atoms, 0], 1), (refused(30, 0), vec![9]));
+        assert_eq!(models(&[atoms, 0], 0), (refused(30, 0), vec![]), "30 before 31");
+        assert_eq!(models(&[atoms, 0, 0], 1), (refused(8, 2), vec![9]), "8 before 30");
+        assert_eq!(models(&[atoms, 1, 1, 0, 0, atoms], 1), (refused(6, 5), vec![9]), "6 before 30");
+    }
+    assert_eq!(models(&[1025, 0], 0), (refused(2, 0), vec![]), "2 before 30");
+    assert_eq!(models(&[17, 2049], 0), (refused(3, 1), vec![]), "3 before 30");
+}
+
+/// Eight pairs of which one or the other holds: by disjunction, by negation, and in a table of 8,192 words.
+#[test]
+fn models_of_pairs() {
+    let one_of_each = words_with(&[0, 2, 4, 6, 8, 10, 12, 14].map(|low| (3 << low, 1)));
+    assert_eq!(one_of_each.len(), 256);
+    let either = parse(16, "0|1. 2|3. 4|5. 6|7. 8|9. 10|11. 12|13. 14|15.");
+    listed(&words(&either), &one_of_each);
+    let by_negation = (0..16).map(|atom| format!("{atom} <- ~{}.", atom ^ 1)).collect::<String>();
+    listed(&words(&parse(16, &by_negation)), &one_of_each);
+    // behind clauses that every set satisfies
+    let mut full = parse(16, &(0..1630).map(|i| format!("{0} <- {0}.", i % 16)).collect::<String>());
+    full.clauses.extend(either.clauses);
+    let full = words(&full);
+    assert_eq!(full.len(), 8192);
+    listed(&full, &one_of_each);
+    assert_eq!(library::models(&[full, vec![0]].concat(), &[9; 300]), (1 << 48, vec![9; 300]));
+}
+
+/// Many stable models: six of twelve atoms, as one of any seven holds, and two of the other four, as one of any three does.
+#[test]
+fn thousands_of_models() {
+    let clauses = [one_of_any(0..12, 7), one_of_any(12..16, 3)].concat();
+    let table = words(&Program { atoms: 16, clauses });
+    let halves = words_with(&[(0x0fff, 6), (0xf000, 2)]);
+    assert_eq!((table.len(), halves.len()), (7946, 924 * 6));
+    listed(&table, &halves);
 }
 
 /// Chains as long as there are atoms, and bodies as long as a table holds.

@@ -164,6 +164,37 @@ fn circles() {
     assert_eq!(cycle(&[2, 3, 0, 1, 0, 0, 1, 1, 0, 0, 1, 1, 0, 0, 1]), Ok(0));
 }
 
+/// The list of the table's stable models, in a slice of six words.
+fn listed(words: &[u16], models: &[u16]) {
+    let (answer, out) = Tally::new().models(words, &[9; 6]);
+    assert_eq!((answer, out), (Ok(models.len() as u64), [models, &[9; 6][models.len()..]].concat()));
+}
+
+/// `Requests.antt`, slip 3.
+#[test]
+fn models() {
+    listed(&[2, 2, 1, 0, 1, 0, 1, 1, 0, 1, 1, 0], &[1, 2]);
+    listed(&[4, 2, 2, 0, 0, 0, 1, 2, 0, 0, 2, 3], &[5, 6, 9, 10]);
+    listed(&[3, 2, 1, 0, 0, 0, 1, 0, 0, 2], &[5]);
+    listed(&[3, 0], &[0]);
+    listed(&[0, 0], &[0]);
+    listed(&[2, 2, 1, 1, 0, 0, 1, 1, 1, 0, 1, 0], &[0]);
+    listed(&[2, 1, 1, 0, 1, 0, 1], &[1]);
+    listed(&[2, 3, 2, 0, 0, 0, 1, 1, 1, 0, 0, 1, 1, 1, 0, 1, 0], &[3]);
+    listed(&[1, 1, 1, 0, 1, 0, 0], &[]);
+    listed(&[1, 1, 0, 0, 0], &[]);
+    listed(&[1, 2, 1, 0, 0, 0, 0, 1, 0, 0], &[]);
+    let count = |words: &[u16], room: usize| Tally::new().models(words, &vec![9; room]).0;
+    let either = [2, 1, 2, 0, 0, 0, 1];
+    assert_eq!(count(&either, 2), Ok(2));
+    assert_eq!(count(&either, 1), no(31, 0));
+    assert_eq!(count(&either, 0), no(31, 0));
+    assert_eq!(count(&[1, 1, 0, 0, 0], 0), Ok(0));
+    assert_eq!(count(&[17, 0], 6), no(30, 0));
+    assert_eq!(count(&[17, 0], 0), no(30, 0));
+    assert_eq!(count(&[17, 0, 0], 6), no(8, 2));
+}
+
 /// `OpenSteps.antt`: the lists that the reducer has to write.
 #[test]
 fn open_steps() {

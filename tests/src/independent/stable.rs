@@ -1,4 +1,4 @@
-//! Stable models, and the test of a set: 19, 20, 21.
+//! Stable models, the test of a set: 19, 20, 21; and their list: 30, 31.
 use super::program::{Clause, Program, Set};
 use super::table::Table;
 use super::{ask, Answer};
@@ -41,4 +41,26 @@ pub fn models(program: &Program) -> Vec<Set> {
     let all: Set = (0..program.atoms).collect();
     let sets = proper_subsets(&all).chain([all.clone()]);
     sets.filter(|set| is_stable(program, set)).collect()
+}
+
+/// Slip 3: "write every stable model as one word". The answer, and the out slice afterwards.
+pub fn list(words: &[u16], out: &[u16]) -> (Answer, Vec<u16>) {
+    let mut out = out.to_vec();
+    let answer = list_on(words, &mut out);
+    (answer, out)
+}
+
+fn list_on(words: &[u16], out: &mut [u16]) -> Answer {
+    let table = Table::read(words)?;
+    ask(table.atoms <= 16, 30, 0)?;
+    let mut listed: Vec<u16> = models(&table.program()).iter().map(word).collect();
+    listed.sort_unstable();
+    ask(out.len() >= listed.len(), 31, 0)?;
+    out[..listed.len()].copy_from_slice(&listed);
+    Ok(listed.len() as u64)
+}
+
+/// "the sum of 2 to the power of each atom in it"
+pub fn word(set: &Set) -> u16 {
+    set.iter().map(|&atom| 2u16.pow(atom.into())).sum()
 }

@@ -1,6 +1,7 @@
 //! Random programs.
 use crate::independent::program::{Clause, Program, Set};
 use crate::random::Random;
+use std::ops::Range;
 
 /// At most so many atoms, clauses and atoms a part.
 #[derive(Clone, Copy)]
@@ -29,6 +30,31 @@ pub fn program(random: &mut Random, size: Size) -> Program {
         program.clauses.push(clause);
     }
     program
+}
+
+/// A program that often has several stable models: atoms of which one or the other holds, by negation or by disjunction,
+/// and few facts.
+pub fn choices(random: &mut Random, size: Size) -> Program {
+    let atoms = random.upto(size.atoms) as u16;
+    let mut program = Program { atoms, clauses: Vec::new() };
+    for _ in 0..random.upto(size.clauses / 2) {
+        let (one, other, body) = (part(random, atoms, 1), part(random, atoms, 1), part(random, atoms, 1));
+        let either = |head: &Set, neg: &Set| Clause { head: head.clone(), pos: Set::new(), neg: neg.clone() };
+        match random.upto(4) {
+            0 | 1 => program.clauses.extend([either(&one, &other), either(&other, &one)]),
+            2 => program.clauses.push(either(&(&one | &other), &Set::new())),
+            3 => program.clauses.push(either(&(&one | &other), &body)),
+            _ => program.clauses.push(clause(random, atoms, size.part, 8)),
+        }
+    }
+    program
+}
+
+/// A disjunctive fact of each so many of the atoms: a set that satisfies them lacks fewer than so many.
+pub fn one_of_any(atoms: Range<u16>, many: u32) -> Vec<Clause> {
+    let numbers = (0u32..1 << atoms.len()).filter(|bits| bits.count_ones() == many);
+    let head = |bits: u32| atoms.clone().filter(|atom| bits >> (atom - atoms.start) & 1 == 1).collect();
+    numbers.map(|bits| Clause { head: head(bits), ..Clause::default() }).collect()
 }
 
 fn clause(random: &mut Random, atoms: u16, most: usize, facts: usize) -> Clause {

@@ -1,11 +1,16 @@
 //! Tables, sound and damaged.
-use super::programs::{program, Size};
+use super::programs::{choices as choosing, program, Size};
 use crate::independent::program::words;
 use crate::random::Random;
 
 /// The words of a random program.
 pub fn table(random: &mut Random, size: Size) -> Vec<u16> {
     words(&program(random, size))
+}
+
+/// The words of a random program that leaves choices.
+pub fn choices(random: &mut Random, size: Size) -> Vec<u16> {
+    words(&choosing(random, size))
 }
 
 /// The words of a random program, most often damaged in one to three places.
@@ -20,7 +25,8 @@ pub fn damaged(random: &mut Random, size: Size) -> Vec<u16> {
 /// Words at which some question turns.
 const EDGES: [u16; 12] = [0, 1, 2, 3, 4, 1023, 1024, 1025, 2048, 2049, 65534, 65535];
 
-fn damage(random: &mut Random, table: &mut Vec<u16>) {
+/// Damage in one place.
+pub fn damage(random: &mut Random, table: &mut Vec<u16>) {
     let len = table.len();
     let place = random.upto(len);
     match random.upto(7) {

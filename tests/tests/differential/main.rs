@@ -3,12 +3,13 @@
 #![deny(warnings)]
 #![allow(unused_must_use)] // a comparison fails by itself
 mod full_size;
+mod listing;
 mod models;
 mod steps;
 mod tables;
 mod texts;
 
-use gambrolt_tests::compare::{Circles, Tally};
+use gambrolt_tests::compare::{Circles, Listed, Tally};
 use gambrolt_tests::make::shapes::SHAPES;
 use gambrolt_tests::random::Random;
 use std::time::Instant;
@@ -16,7 +17,7 @@ use std::time::Instant;
 /// A group of cases: its name, how many draws it makes, and what one draw compares.
 type Group = (&'static str, u64, fn(&mut Random, &mut Tally));
 
-const GROUPS: [Group; 12] = [
+const GROUPS: [Group; 18] = [
     ("tables", 120_000, tables::damaged),
     ("lists", 100_000, steps::checked),
     ("reducing", 60_000, steps::reduced),
@@ -29,6 +30,12 @@ const GROUPS: [Group; 12] = [
     ("texts at the limits", 20, texts::at_the_limits),
     ("texts written", 20_000, texts::written),
     ("circles", 40_000, tables::circles),
+    ("models listed", 30_000, listing::listed),
+    ("models listed, to ten atoms", 1_000, listing::listed_to_ten),
+    ("models listed, spread over 16 atoms", 2_000, listing::spread),
+    ("models listed, more than 16 atoms", 10_000, listing::many_atoms),
+    ("models listed and sets tested", 2_000, listing::tested),
+    ("models listed before and after", 10_000, listing::same_list),
 ];
 
 fn main() {
@@ -67,8 +74,22 @@ fn report(tally: &Tally) {
     println!("{:?}", tally.circles);
     let Circles { positive, negative, none } = tally.circles;
     assert!(positive.min(negative).min(none) > 1_000, "too few circles, or programs without");
-    let never: Vec<usize> = (1..=29).filter(|&number| tally.met[number] == 0).collect();
+    lists(&tally.listed);
+    let never: Vec<usize> = (1..=31).filter(|&number| tally.met[number] == 0).collect();
     assert!(never.is_empty(), "questions never met: {never:?}");
     assert!(tally.cases >= 200_000, "too few cases");
     println!("differential tests: ok");
+}
+
+/// Fails where the lists of stable models were refused too seldom by some question, or were too much alike.
+fn lists(listed: &Listed) {
+    let refused = [&listed.met[1..=8], &listed.met[30..]].concat();
+    println!("lists of stable models refused by 1 to 8, 30 and 31: {refused:?}");
+    assert!(refused.iter().all(|&times| times > 100), "a question was met too seldom");
+    let many_atoms = [&listed.met_above[1..=8], &[listed.too_short]].concat();
+    println!("of more than 16 atoms by 1 to 8, and by 30 with a slice too short: {many_atoms:?}");
+    assert!(many_atoms.iter().all(|&times| times > 50), "two questions met too seldom at once");
+    let Listed { none, one, several, reduced, .. } = listed;
+    println!("lists of no model, one and several: {none}, {one}, {several}; after some step: {reduced}");
+    assert!(none.min(one).min(several).min(reduced) > &1_000, "too few lists of a kind");
 }
