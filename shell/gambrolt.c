@@ -22,12 +22,14 @@ static const char help_text[] =
     "output, atoms numbered as they came. The list of steps that reduced it is checked by\n"
     "a second, independent call before anything is written.\n"
     "\nForm:\n"
-    "  -o FILE           write the program to FILE\n"
+    "  -o FILE           write the program, or the models, to FILE\n"
     "  --text            read and write the text form (atoms=, clauses=, head= ..)\n"
     "  --to-lp           write readable ground rules with the order's names\n"
     "  --to-text         convert aspif to the text form, without reducing\n"
     "  --from-text       convert the text form to aspif, or with --to-lp to ground rules\n"
     "  --no-reduce       read, check and write the program as it is\n"
+    "  --models          list the stable models of what is left by their names, one a line, then\n"
+    "                    their number, in place of the program; at most 16 atoms may be left\n"
     "\nThe certificate:\n"
     "  --steps=FILE      write the list of steps to FILE, a line a step, or as JSON if FILE\n"
     "                    ends in .json; --steps alone, with --text: after the program\n"
@@ -41,7 +43,7 @@ static const char help_text[] =
     "                    same order by `gringo --text`\n"
     "\nOther:\n"
     "  --pass-through    hand a program that can't be reduced on as it came, and say so\n"
-    "  --dry-run         do everything, but write no program\n"
+    "  --dry-run         do everything, but write no program and no models\n"
     "  -h, --help        print this and exit\n"
     "  -V, --version     print the version and exit\n"
     "\nChoices are reduced as either-or clauses and written as choices again. Rules with weight\n"
@@ -67,7 +69,7 @@ static const struct {
 } known[] = {
     {"--text", &options.text, NULL}, {"--steps", &options.steps, NULL}, {"--to-lp", &options.to_lp, NULL},
     {"--to-text", &options.to_text, NULL}, {"--from-text", &options.from_text, NULL},
-    {"--no-reduce", &options.no_reduce, NULL}, {"--explain", &options.explain, NULL},
+    {"--no-reduce", &options.no_reduce, NULL}, {"--models", &options.models, NULL}, {"--explain", &options.explain, NULL},
     {"--explain=", &options.explain, &explain_file}, {"--stats", &options.stats, NULL},
     {"--stats=json", &options.json, NULL}, {"--stats=json:", &options.json, &stats_file},
     {"--names=", &options.names, &names_file}, {"--steps=", &options.list, &steps_file},
@@ -120,6 +122,8 @@ static int settle(struct options *o)
     o->list_json = o->list && ends_in(steps_file, ".json");
     if (o->text && other_form)
         return usage("--text reads and writes the text form: no other form goes with it", "");
+    if (o->models && (other_form || o->steps || o->check || o->names || o->pass_through))
+        return usage("--models goes with --text, --no-reduce and reports: it lists models and writes no program", "");
     if (o->to_lp && o->to_text)
         return usage("--to-lp and --to-text are two forms for one output", "");
     if (o->steps && !o->text)

@@ -37,8 +37,7 @@ void beyond(struct order *o, const char *format, ...)
     va_end(arguments);
 }
 
-/* Whether a part of the library refuses a call that it must take. */
-static int refused(struct order *o, const char *part, uint64_t answer)
+int refused(struct order *o, const char *part, uint64_t answer)
 {
     unsigned number = gambrolt_refusal(answer);
     return number ? refuse(o, "self-check: the %s refuses: %s (refused=%u,%llu)" REPORT, part, gambrolt_message(number),
@@ -101,7 +100,7 @@ static int put_text(struct order *o, int steps)
 /* An order that can't be reduced: refused, or handed on as it came. */
 static int run_beyond(struct order *o, const struct options *options)
 {
-    if (options->to_lp || options->to_text || options->check) /* which don't go with --pass-through */
+    if (options->to_lp || options->to_text || options->check || options->models) /* which don't go with --pass-through */
         return refuse(o, "%s", o->beyond);
     if (!options->pass_through)
         return refuse(o, "%s; --pass-through hands it on unreduced", o->beyond);
@@ -119,7 +118,8 @@ static int lacks(struct order *o, const struct options *options)
 {
     const struct statement *s;
     for (size_t k = 0; (s = statement_at(o, k)); k++) {
-        int choice = s->kind == RULE && s->role == CHOICE, weight = s->kind == RULE && s->role == CARRIED;
+        int choice = s->kind == RULE && s->role == CHOICE, weight = s->kind == RULE && rule_of(o, s).weights;
+        const char *beside = options->models ? decides_beside(o, s) : NULL;
         if (options->to_lp && s->kind == THEORY)
             return refuse(o, "line %zu: theory statement: --to-lp can't write theories; write aspif", s->line);
         if (options->to_text && (choice || weight))
@@ -128,7 +128,24 @@ static int lacks(struct order *o, const struct options *options)
         if (options->to_text && (s->kind == EXTERNAL || s->kind == THEORY))
             return refuse(o, "line %zu: %s: the text form has none; write aspif or --to-lp", s->line,
                           s->kind == EXTERNAL ? "external statement" : "theory statement");
+        if (beside)
+            return refuse(o, "line %zu: %s: --models takes rules with normal bodies and choices alone; %shand the program "
+                          "to a solver", s->line, beside, weight ? TRANSLATE ", or " : "");
     }
+    return 0;
+}
+
+/* What is asked for: the program, or what stands in its place. */
+static int put_output(struct order *o, const struct options *options)
+{
+    if (options->models)
+        return put_models(o, !options->no_reduce);
+    if (options->text || options->to_text)
+        return put_text(o, options->steps);
+    if (options->to_lp)
+        put_lp(o, !options->no_reduce);
+    else
+        put_aspif(o);
     return 0;
 }
 
@@ -167,11 +184,7 @@ int run(struct order *o, const struct options *options)
     if (options->names && name_ground(o))
         putf(&o->notes, "gambrolt: names: its rules do not fit the input's one by one, so none is taken; "
              "ground both alike\n");
-    if (options->to_lp)
-        put_lp(o, !options->no_reduce);
-    else if (!options->text && !options->to_text)
-        put_aspif(o);
-    else if (put_text(o, options->steps))
+    if (put_output(o, options))
         return -1;
     put_reports(o, options);
     return 0;

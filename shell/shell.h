@@ -88,6 +88,7 @@ struct order {
 struct options {
     int text, to_text, from_text, to_lp, no_reduce, steps, pass_through, names, explain, stats, json;
     int list, list_json, check; /* --steps=FILE, in JSON; --check=FILE */
+    int models;
 };
 
 /* run.c: one whole run in memory. Returns 0, or -1 with the fault and no output. */
@@ -95,6 +96,9 @@ int run(struct order *o, const struct options *options);
 
 /* Sets the fault and returns -1. */
 int refuse(struct order *o, const char *format, ...) __attribute__((format(printf, 2, 3)));
+
+/* Whether a part of the library refuses a call that it must take, which is then the fault. */
+int refused(struct order *o, const char *part, uint64_t answer);
 
 /* Says why an order can't be reduced, though it is well-formed; the first reason counts. */
 void beyond(struct order *o, const char *format, ...) __attribute__((format(printf, 2, 3)));
@@ -127,6 +131,12 @@ void put_objects(struct buffer *b, const struct order *o);
 
 /* Reads o->given, in either form, and has the library check it; returns -1 with the fault where it is refused. */
 int check_steps(struct order *o);
+
+/* models.c: the kind of a statement that decides beside the table what is a stable model, or NULL. */
+const char *decides_beside(const struct order *o, const struct statement *s);
+
+/* The stable models of what is left, a line each, and their number; or -1 with the fault where its atoms are too many. */
+int put_models(struct order *o, int reduced);
 
 /* write.c: adds to a buffer. Where memory runs out, the program ends with status 2. */
 void put(struct buffer *b, const void *bytes, size_t len);

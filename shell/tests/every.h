@@ -1,6 +1,6 @@
 /*
- * every.h - one input in every form, for damage.c and fuzz.c. What may happen: a program is written, or nothing is written
- * and the fault is one line that names a line of the input.
+ * every.h - one input in every form, for damage.c and fuzz.c. What may happen: a program or a list of models is written,
+ * or nothing is written and the fault is one line that names a line of the input, or how many atoms are left.
  */
 #include "shell.h"
 
@@ -11,7 +11,9 @@ static const struct options every[] = {
     {.explain = 1, .stats = 1, .list = 1},
     {.to_lp = 1, .stats = 1, .json = 1, .list = 1, .list_json = 1},
     {.no_reduce = 1, .pass_through = 1},
-    {.text = 1, .steps = 1}};
+    {.text = 1, .steps = 1},
+    {.models = 1},
+    {.text = 1, .models = 1}};
 
 /* A sound order, to be read with names from anything, and checked with any list. */
 static const char sound[] =
@@ -39,6 +41,11 @@ static void give(struct buffer *b, const char *bytes, size_t len)
     b->at[len] = 0;
 }
 
+static int is_told(const char *fault)
+{
+    return strncmp(fault, "line ", 5) == 0 || strstr(fault, " atoms are left after the reduction") != NULL;
+}
+
 /* The number of forms that are refused, or -1 where something else happens. The order `o`, all zeros, is used for all. */
 static int try_every(struct order *o, const char *bytes, size_t len)
 {
@@ -46,7 +53,7 @@ static int try_every(struct order *o, const char *bytes, size_t len)
     for (size_t i = 0; i < sizeof every / sizeof *every; i++) {
         give(&o->bytes, bytes, len);
         int answer = run(o, &every[i]);
-        if (answer ? o->output.len > 0 || strncmp(o->fault, "line ", 5) != 0 : o->output.len == 0)
+        if (answer ? o->output.len > 0 || !is_told(o->fault) : o->output.len == 0)
             return -1;
         refused += answer != 0;
         reset(o);

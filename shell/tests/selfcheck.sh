@@ -9,7 +9,7 @@ for lie in "one step too many" "one step too few" "a wrong kind" "a mark more" "
         "countless steps") part="count of steps" ;;
         *) part="different marks" ;;
     esac
-    for options in "" "--stats --explain=$tmp/explained" --to-lp; do
+    for options in "" "--stats --explain=$tmp/explained" --to-lp --models; do
         rm -f "$tmp/explained"
         # shellcheck disable=SC2086
         LIE=$lie build/lying $options <"$tmp/in" >"$tmp/out" 2>"$tmp/err"
