@@ -231,7 +231,7 @@ uint64_t gambrolt_reduced_table(const uint16_t *table, size_t table_len, const u
 
 /*
  * Tests whether a set of atoms, given in ascending order, is a stable model: 19, 20, 21.
- * Value: 1 for yes, 0 for no. The time doubles with each entry.
+ * Value: 1 for yes, 0 for no. The time doubles with each entry, and 16 take milliseconds.
  */
 uint64_t gambrolt_test(const uint16_t *table, size_t table_len, const uint16_t *set, size_t set_len);
 
@@ -241,8 +241,8 @@ uint64_t gambrolt_test(const uint16_t *table, size_t table_len, const uint16_t *
  * out: a word for each stable model, the sum of 2 to the power of each of its atoms, in ascending order, in its first words.
  * GAMBROLT_MAX_MODELS words always suffice: no stable model is a proper subset of another, and no more than 12,870 subsets
  * of 16 atoms are so (Sperner's theorem).
- * The time doubles with each atom, and grows faster with atoms of disjunctive heads; 16 atoms take milliseconds as a rule,
- * and up to some 20 seconds with a table that is made to take long.
+ * The time doubles with each atom: 16 atoms take milliseconds with a short table, and some tenths of a second with one of
+ * 8192 words that is made to take long.
  */
 uint64_t gambrolt_models(const uint16_t *table, size_t table_len, uint16_t *out, size_t out_len);
 

@@ -91,7 +91,7 @@ fn largest_test() {
     let set: Vec<u16> = (0..16).collect();
     let (time, stable) = best(3, || calls::test(&table, &set));
     assert_eq!(stable, 1);
-    println!("| testing 16 entries, {} words, {} clauses | {time:.0} |", table.len(), table[1]);
+    println!("| testing 16 entries, {} words, {} clauses | {time:.2} |", table.len(), table[1]);
 }
 
 /// A table whose text has some 40 kB, written and read.

@@ -7,8 +7,11 @@ use gambrolt_tests::random::Random;
 use std::io::Write;
 use std::process::{Command, Stdio};
 
-/// The shape's name, how often it is run, and its clauses.
-type Shape = (&'static str, usize, Vec<Clause>);
+/// The shape's name, and its clauses.
+type Shape = (&'static str, Vec<Clause>);
+
+/// How often each is run.
+const RUNS: usize = 5;
 
 /// The words that hold every list.
 const ROOM: usize = 12870;
@@ -21,19 +24,18 @@ pub fn lists() {
     }
 }
 
-fn shapes() -> [Shape; 8] {
-    let in_turn = |i: usize| i as u16 % 16;
-    let mut random = Random::new(16);
-    let in_any_order = |_| random.upto(15) as u16;
+fn shapes() -> [Shape; 9] {
+    let ten_and_six = [one_of_any(0..10, 4), one_of_any(10..16, 3)].concat();
     [
-        ("no clauses", 5, Vec::new()),
-        ("idle clauses", 5, behind_idle(in_turn, Vec::new())),
-        ("one of each two, by disjunction", 5, blocks(2, 2)),
-        ("one of each two, by negation", 5, pairs_by_negation()),
-        ("two of each four", 5, blocks(4, 3)),
-        ("six of twelve, two of four", 5, [one_of_any(0..12, 7), one_of_any(12..16, 3)].concat()),
-        ("three of each four, behind idle clauses", 1, behind_idle(in_turn, blocks(4, 2))),
-        ("the same, idle clauses in random order", 1, behind_idle(in_any_order, blocks(4, 2))),
+        ("no clauses", Vec::new()),
+        ("idle clauses", behind_idle(Vec::new())),
+        ("one of each two, by disjunction", blocks(2, 2)),
+        ("one of each two, by negation", pairs_by_negation()),
+        ("two of each four", blocks(4, 3)),
+        ("six of twelve, two of four", [one_of_any(0..12, 7), one_of_any(12..16, 3)].concat()),
+        ("three of each four, behind idle clauses", behind_idle(blocks(4, 2))),
+        ("six of each eight, behind idle clauses", behind_idle(blocks(8, 3))),
+        ("seven of ten, four of six, behind idle clauses", behind_idle(ten_and_six)),
     ]
 }
 
@@ -46,23 +48,25 @@ fn pairs_by_negation() -> Vec<Clause> {
     (0..16).map(|atom| Clause { head: [atom].into(), pos: Set::new(), neg: [atom ^ 1].into() }).collect()
 }
 
-/// The clauses, behind as many idle ones as a table has room for: an atom from itself, which every set satisfies.
-fn behind_idle(mut atom: impl FnMut(usize) -> u16, clauses: Vec<Clause>) -> Vec<Clause> {
+/// The clauses, behind as many idle ones as a table has room for: an atom from itself, which every set satisfies, the atoms
+/// in random order.
+fn behind_idle(clauses: Vec<Clause>) -> Vec<Clause> {
     let taken = words(&Program { atoms: 16, clauses: clauses.clone() }).len();
-    let idle = (0..(8192 - taken) / 5).map(|i| {
-        let same: Set = [atom(i)].into();
+    let mut random = Random::new(16);
+    let idle = (0..(8192 - taken) / 5).map(|_| {
+        let same: Set = [random.upto(15) as u16].into();
         Clause { head: same.clone(), pos: same, neg: Set::new() }
     });
     idle.chain(clauses).collect()
 }
 
 /// One line: a shape by the library and by clasp, which have to find as many stable models.
-fn line((name, runs, clauses): Shape) {
+fn line((name, clauses): Shape) {
     let program = Program { atoms: 16, clauses };
     let (table, mut out) = (words(&program), vec![0; ROOM]);
-    let (time, count) = best(runs, || calls::models(&table, &mut out));
+    let (time, count) = best(RUNS, || calls::models(&table, &mut out));
     let text = aspif(&program);
-    let (solving, answered) = best(runs, || by_clasp(&text));
+    let (solving, answered) = best(RUNS, || by_clasp(&text));
     let solver = match answered {
         Some(models) => {
             assert_eq!(models, count, "{name}: the library and clasp differ");

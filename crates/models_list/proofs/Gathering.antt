@@ -1,19 +1,22 @@
 -- The clauses of a reduct, gathered one by one: they ask of the subsets of a set what the reduct by it asks.
-use Prim.Native.Nat.{ℕ, _+_, _≤_, _<_}
+use Prim.Native.Nat.{ℕ, _+_, _-_, _≤_, _<_}
 use mathlib.Core.Path.{_≡_, refl, sym, ap, _∙_}
 use mathlib.Core.List.{List}
-use mathlib.Core.Bool.{Bool, true, false, not, _&&_, So}
+use mathlib.Core.Bool.{Bool, true, false, not, _&&_, _||_, So}
 use native.Mathlib.Omega.{arith}
+use native.Mathlib.Nat.{add-zero}
 use native.Mathlib.Numerals.{add-one}
-use lib.Bits.{bitAnd, and-self}
+use lib.Bits.{bitAnd, bitOr}
 use lib.Dec.{eqb}
 use lib.ListN.{length, getD, set}
-use borrow.Author.Tests.{eq-eqb, ne-eqb, eqb-true}
+use borrow.Author.Tests.{eq-eqb, eqb-true}
+use Rattle.semantics.specs.Lists.{bit}
 use Rattle.semantics.proofs.Tests.{and-iff, not-iff, or-iff, so-by, not-so}
 use Rattle.models_masks.specs.Masks.{allBelow, inside, holds, modelled, minimal}
 use Rattle.models_masks.proofs.Search.{allBelow-ext, allBelow-lost}
 use Rattle.models_masks.proofs.Bits.{inside-trans}
-use Rattle.models_masks.proofs.Models.{modelled-more}
+use Rattle.models_masks.proofs.Models.{modelled-more, modelled-front}
+use Rattle.models_masks.proofs.Failing.{or-zero, missing-zero}
 use Rattle.models_list.specs.Masks.{entersMask, reductHolds, reductModelled, stableMask}
 use Rattle.models_list.specs.Gathered.{Gathered}
 
@@ -33,14 +36,19 @@ module _ (h p q m : ℕ) where
   unfolding reductHolds
   entered e x = rw (and-iff (eqb (bitAnd q m) 0) (inside p m) .0 e .0)
 
-  -- and of m itself that its head meets m
-  entered-fails : entersMask p q m ≡ true → bitAnd h m ≡ 0 → reductHolds h p q m m ≡ false
-  unfolding holds
-  entered-fails e z = entered e m ∙ rw (and-iff (eqb (bitAnd q m) 0) (inside p m) .0 e .1, z)
+-- ---- on masks, at one stroke
 
-  entered-holds : entersMask p q m ≡ true → ¬ (bitAnd h m ≡ 0) → reductHolds h p q m m ≡ true
-  unfolding holds
-  entered-holds e z = entered e m ∙ rw (and-iff (eqb (bitAnd q m) 0) (inside p m) .0 e .1, ne-eqb (bitAnd h m) 0 z)
+pub enters-word : (p q m : ℕ) → eqb (bitOr (bitAnd q m) (p - bitAnd p m)) 0 ≡ entersMask p q m
+enters-word p q m = or-zero (bitAnd q m) (p - bitAnd p m) ∙ ap (λ t. eqb (bitAnd q m) 0 && t) (missing-zero p m)
+
+none-of : (a b c : Bool) → not ((a && b) && c) ≡ (not a || (not b || not c))
+none-of true true c = refl
+none-of true false c = refl
+none-of false b c = refl
+
+pub reduct-word : (h p q m : ℕ) → not (eqb (bitOr (bitOr (bitAnd q m) (p - bitAnd p m)) (bitAnd h m)) 0) ≡ reductHolds h p q m m
+unfolding reductHolds holds
+reduct-word h p q m = rw (or-zero (bitOr (bitAnd q m) (p - bitAnd p m)) (bitAnd h m), enters-word p q m) (none-of (eqb (bitAnd q m) 0) (inside p m) (eqb (bitAnd h m) 0))
 
 -- ---- one clause more
 
@@ -63,33 +71,34 @@ module _ (hs ps ns : List ℕ) (m : ℕ) where
   gathering-start bs ks = record { most = omega arith; model = refl; asks = λ x e. refl }
 
   module _ (bs ks : List ℕ) (k i : ℕ) (g : Gathering hs ps ns m bs ks k i) where
-    pub gathering-aside : entersMask (getD ps i 0) (getD ns i 0) m ≡ false → Gathering hs ps ns m bs ks k (i + 1)
-    gathering-aside e =
-        let t : (x : ℕ) → bitAnd x m ≡ x → of i x ≡ true = aside (getD hs i 0) (getD ps i 0) (getD ns i 0) m e in
-        record {
-          most = omega (arith, g .most);
-          model = more i m ∙ rw (t m (and-self m), g .model);
-          asks = λ x h. g .asks x h ∙ sym (more i x ∙ rw (t x h));
-        }
+    -- the next clause is written behind the others, and counted where it enters
+    pub gathering-next : k < length bs → k < length ks → of i m ≡ true → (d : ℕ) → d ≡ bit (entersMask (getD ps i 0) (getD ns i 0) m)
+        → Gathering hs ps ns m (set bs k (getD ps i 0)) (set ks k (getD hs i 0)) (k + d) (i + 1)
+    gathering-next a b t d q = go (entersMask (getD ps i 0) (getD ns i 0) m) refl q
+      where
+        model : reductModelled hs ps ns (i + 1) m m ≡ true
+        model = more i m ∙ rw (t, g .model)
 
-    pub gathering-one : k < length bs → k < length ks → entersMask (getD ps i 0) (getD ns i 0) m ≡ true → ¬ (bitAnd (getD hs i 0) m ≡ 0)
-        → Gathering hs ps ns m (set bs k (getD ps i 0)) (set ks k (getD hs i 0)) (k + 1) (i + 1)
-    gathering-one a b e z =
-        let t = entered (getD hs i 0) (getD ps i 0) (getD ns i 0) m e in
-        record {
+        go : (e : Bool) → entersMask (getD ps i 0) (getD ns i 0) m ≡ e → d ≡ bit e → Gathering hs ps ns m (set bs k (getD ps i 0)) (set ks k (getD hs i 0)) (k + d) (i + 1)
+        go true e z = rw z (record {
           most = omega (arith, g .most);
-          model = more i m ∙ rw (entered-holds (getD hs i 0) (getD ps i 0) (getD ns i 0) m e z, g .model);
-          asks = λ x h. modelled-more bs ks k (getD ps i 0) (getD hs i 0) x a b ∙ sym (more i x ∙ rw (t x, ← g .asks x h));
-        }
+          model = model;
+          asks = λ x h. modelled-more bs ks k (getD ps i 0) (getD hs i 0) x a b ∙ sym (more i x ∙ rw (entered (getD hs i 0) (getD ps i 0) (getD ns i 0) m e x, ← g .asks x h));
+        })
+        go false e z = rw (z, add-zero) (record {
+          most = omega (arith, g .most);
+          model = model;
+          asks = λ x h. modelled-front bs ks k (getD ps i 0) (getD hs i 0) x ∙ g .asks x h ∙ sym (more i x ∙ rw (aside (getD hs i 0) (getD ps i 0) (getD ns i 0) m e x h));
+        })
 
     pub gathering-end : (n : ℕ) → n ≤ i → i ≤ n → k ≤ length bs → k ≤ length ks → Gathered hs ps ns n m bs ks k
     gathering-end n a b c d =
         let e : i ≡ n = omega arith in
         record { body = c; head = d; model = rw (← e) (g .model); asks = λ x h. rw (← e) (g .asks x h) }
 
-  pub gathering-lost : (n i : ℕ) → i < n → entersMask (getD ps i 0) (getD ns i 0) m ≡ true → bitAnd (getD hs i 0) m ≡ 0 → reductModelled hs ps ns n m m ≡ false
+  pub gathering-lost : (n i : ℕ) → i < n → of i m ≡ false → reductModelled hs ps ns n m m ≡ false
   unfolding reductModelled
-  gathering-lost n i l e z = allBelow-lost _ n i l (entered-fails (getD hs i 0) (getD ps i 0) (getD ns i 0) m e z)
+  gathering-lost n i l e = allBelow-lost _ n i l e
 
 -- ---- the subsets
 

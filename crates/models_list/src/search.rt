@@ -1,7 +1,7 @@
 // The search for all stable models: every set is asked whether it satisfies its reduct, and of those that do, whether a proper subset does too.
 ghost use mathlib.Core.Path.{_≡_};
 ghost use Prim.Native.Nat.{_^_, _≤_};
-ghost use Rattle.models_list.specs.Masks.{entersMask, stableMask, GatherRoom};
+ghost use Rattle.models_list.specs.Masks.{entersMask, reductHolds, stableMask, GatherRoom};
 ghost use Rattle.models_list.specs.Gathered.{Gathers};
 ghost use Rattle.models_list.specs.Listed.{Listable, Searchable, Found};
 use crate::Reduct;
@@ -10,13 +10,18 @@ use crate::Reduct;
 fn enters(pos: u16, neg: u16, m: u16) -> bool
     ensures { λ r. ⌜ r ≡ entersMask pos neg m ⌝ }
 {
-    if neg & m != 0 {
-        return false;
-    }
-    pos & m == pos
+    ((neg & m) | (pos - (pos & m))) == 0
 }
 
-// The clauses that enter, one behind the other, up to one that m fails. The others hold of every subset of m.
+// Whether the set m satisfies what the reduct by it leaves of a clause.
+fn holds(head: u16, pos: u16, neg: u16, m: u16) -> bool
+    ensures { λ r. ⌜ r ≡ reductHolds head pos neg m m ⌝ }
+{
+    ((neg & m) | (pos - (pos & m)) | (head & m)) != 0
+}
+
+// The clauses that enter, one behind the other, up to one that m fails. The others hold of every subset of m. Each clause is written, and the next one over it where it does
+// not enter: a branch here would be guessed wrong too often.
 fn gather(
     heads: &[u16],
     poss: &[u16],
@@ -31,15 +36,15 @@ fn gather(
 {
     let mut k: usize = 0;
     for i in 0..n {
-        if !enters(poss[i], negs[i], m) {
-            continue;
-        }
-        if heads[i] & m == 0 {
+        let head = heads[i];
+        let pos = poss[i];
+        let neg = negs[i];
+        if !holds(head, pos, neg, m) {
             return Reduct::Fails;
         }
-        bodies[k] = poss[i];
-        kept[k] = heads[i];
-        k += 1;
+        bodies[k] = pos;
+        kept[k] = head;
+        k += answers::one_if(enters(pos, neg, m));
     }
     Reduct::Asks(k)
 }

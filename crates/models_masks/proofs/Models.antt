@@ -20,14 +20,17 @@ use Rattle.models_masks.specs.Masks.{maskOf, allBelow, inside, holds, mo
 use Rattle.models_masks.proofs.Search.{allBelow-iff, allBelow-ext}
 use Rattle.models_masks.proofs.Bits.{mask-inj, mask-bound, mask-le, inside-iff, apart-iff, bitsIn, bitsIn-sub, mask-of-bits}
 
+-- what stands behind the first n clauses is not asked
+pub modelled-front : (bs hs : List ℕ) (n b h x : ℕ) → modelled (set bs n b) (set hs n h) n x ≡ modelled bs hs n x
+unfolding modelled
+modelled-front bs hs n b h x =
+    allBelow-ext _ _ n (λ i q. ap₂ (λ u v. holds u v x) (getD-set-other bs n i b 0 (λ e. omega arith)) (getD-set-other hs n i h 0 (λ e. omega arith)))
+
 -- one clause more
 pub modelled-more : (bs hs : List ℕ) (n b h x : ℕ) → n < length bs → n < length hs → modelled (set bs n b) (set hs n h) (n + 1) x ≡ (holds b h x && modelled bs hs n x)
 unfolding modelled allBelow
 modelled-more bs hs n b h x l k =
-    rw (add-one n)
-    (ap₂ (λ p q. p && q)
-    (ap₂ (λ u v. holds u v x) (getD-set-same bs n b 0 l) (getD-set-same hs n h 0 k))
-    (allBelow-ext _ _ n (λ i q. ap₂ (λ u v. holds u v x) (getD-set-other bs n i b 0 (λ e. omega arith)) (getD-set-other hs n i h 0 (λ e. omega arith)))))
+    rw (add-one n) (ap₂ (λ p q. p && q) (ap₂ (λ u v. holds u v x) (getD-set-same bs n b 0 l) (getD-set-same hs n h 0 k)) (modelled-front bs hs n b h x))
 
 -- a clause's masks, for a clause whose positive body is within the list, and a set within the list
 pub masks-iff : (s : List ℕ) (Y : Atoms) → Subset Y (among s) → (c : Clause) → ((a : ℕ) → a ∈ c .pos → a ∈ s)

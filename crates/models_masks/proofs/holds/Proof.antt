@@ -1,17 +1,15 @@
 -- `models_masks::holds` meets its contract.
-use Prim.Native.Nat.{_-_}
-use borrow.Author.Tests.{eq-eqb, ne-eqb}
-use Rattle.models_masks.specs.Masks.{holds}
+use native.Mathlib.Omega.{arith}
+use lib.Bits.{and-le-l}
+use Rattle.models_masks.proofs.Failing.{holds-word}
 use Rattle.models_masks.proofs.holds.Statement.{statement}
 use Rattle.models_masks.proofs.holds.Tie as tie
 
-returns : tie.Need-returns
-unfolding holds
-returns c = simp (ne-eqb _ _ (c .if1 .taken))
+sub-result : tie.Need-sub-result
+sub-result c = omega (arith, and-le-l (c .args .body) (c .args .x))
 
-returns-2 : tie.Need-returns-2
-unfolding holds
-returns-2 c = simp (eq-eqb _ _ (c .if1 .left))
+returns : tie.Need-returns
+returns c = holds-word (c .args .body) (c .args .head) (c .args .x)
 
 pub holds-spec : {M : Type 1} → statement M
-holds-spec = tie.close (tie.spec returns returns-2)
+holds-spec = tie.close (tie.spec sub-result returns)
