@@ -68,7 +68,7 @@ static void find_clauses(const struct order *o, struct program *left)
     }
 }
 
-/* Says by how much the atoms are too many. */
+/* Says by how much the atoms are too many. A lone fact is one that no other clause mentions. */
 static int refuse_atoms(struct order *o, const struct program *left, int reduced)
 {
     char choices[60] = "";
@@ -77,8 +77,8 @@ static int refuse_atoms(struct order *o, const struct program *left, int reduced
         chosen++;
     if (chosen)
         snprintf(choices, sizeof choices, " (%zu of them stand for leaving a choice)", chosen);
-    return refuse(o, "%zu atoms%s%s, %zu over the %d of which --models lists the stable models; %shand the program to a "
-                  "solver", left->atoms, reduced ? " are left after the reduction" : "", choices,
+    return refuse(o, "%zu atoms besides lone facts%s%s, %zu over the %d of which --models lists the stable models; %shand the "
+                  "program to a solver", left->atoms, reduced ? " are left after the reduction" : "", choices,
                   left->atoms - LISTED, LISTED, reduced ? "" : "leave out --no-reduce, or ");
 }
 

@@ -43,7 +43,7 @@ static void give(struct buffer *b, const char *bytes, size_t len)
 
 static int is_told(const char *fault)
 {
-    return strncmp(fault, "line ", 5) == 0 || strstr(fault, " atoms are left after the reduction") != NULL;
+    return strncmp(fault, "line ", 5) == 0 || strstr(fault, " atoms besides lone facts are left after the reduction") != NULL;
 }
 
 /* The number of forms that are refused, or -1 where something else happens. The order `o`, all zeros, is used for all. */

@@ -77,7 +77,7 @@ fits() {
         return
     fi
     build/gambrolt <"$tmp/in" >"$tmp/reduced"
-    atoms=$(sed -n 's/^gambrolt: \([0-9]*\) atoms are left after the reduction.*/\1/p' "$tmp/err")
+    atoms=$(sed -n 's/^gambrolt: \([0-9]*\) atoms besides lone facts are left after the reduction.*/\1/p' "$tmp/err")
     expect "$what: more than 16 atoms in: $(cat "$tmp/err")" [ "${atoms:-0}" -gt 16 ]
     expect "$what: by how many" grep -q ", $((atoms - 16)) over the 16 of which --models lists" "$tmp/err"
     grep -q '^1 1 ' "$tmp/reduced" || # which has one choice for several of the table
@@ -227,10 +227,10 @@ fits "--models, 16 atoms"
 expect "16 atoms are listed" [ "$fitted" -gt "$before" ]
 expect "16 atoms have 256 models" [ "$(tail -n 1 "$tmp/out")" = "Models       : 256" ]
 pairs 17 >"$tmp/in"
-refused "17 atoms" --models "gambrolt: 17 atoms are left after the reduction, 1 over the 16 of which --models lists the stable models; hand the program to a solver"
-refused "17 atoms, unreduced" "--models --no-reduce" "gambrolt: 17 atoms, 1 over the 16 of which --models lists the stable models; leave out --no-reduce, or hand the program to a solver"
+refused "17 atoms" --models "gambrolt: 17 atoms besides lone facts are left after the reduction, 1 over the 16 of which --models lists the stable models; hand the program to a solver"
+refused "17 atoms, unreduced" "--models --no-reduce" "gambrolt: 17 atoms besides lone facts, 1 over the 16 of which --models lists the stable models; leave out --no-reduce, or hand the program to a solver"
 printf 'asp 1 0 0\n1 1 9 1 2 3 4 5 6 7 8 9 0 0\n0\n' >"$tmp/in"
-refused "9 choices" --models "gambrolt: 18 atoms are left after the reduction (9 of them stand for leaving a choice), 2 over the 16"
+refused "9 choices" --models "gambrolt: 18 atoms besides lone facts are left after the reduction (9 of them stand for leaving a choice), 2 over the 16"
 printf 'asp 1 0 0\n1 1 8 1 2 3 4 5 6 7 8 0 0\n4 1 a 1 1\n4 1 h 1 8\n0\n' >"$tmp/in"
 before=$fitted
 fits "--models, 8 choices"

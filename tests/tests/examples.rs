@@ -179,6 +179,8 @@ fn a_stack_of_192_kilobytes() {
         library::reduced_table(&table, &marks, &table);
         assert_eq!(library::test(&table, &(0..16).collect::<Vec<_>>()), 0);
         assert_eq!(library::cycle(&table), 1);
+        let pairs = words(&parse(16, "0|1. 2|3. 4|5. 6|7. 8|9. 10|11. 12|13. 14|15."));
+        assert_eq!(library::models(&pairs, &vec![0; 12870]).0, 256);
         let (bytes, text) = library::write_text(&table, &vec![0; 65536]);
         assert_eq!(library::read_text(&text[..bytes as usize], &vec![0; 8192]).0, table.len() as u64);
     };

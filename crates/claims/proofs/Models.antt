@@ -91,12 +91,16 @@ module _ (ws out : List ℕ) (k : ℕ) (h : modelsAnswer ws (length out) ≡ Acc
   unfolding modelsOut writtenIf
   after = rw h
 
-  -- the words that the call has written: "the count is in the result"
+  -- the words that the call has written
   abbrev pub wordsListed : List ℕ
   wordsListed = take k (modelsOut ws out)
 
   pub listed-words : wordsListed ≡ modelsOf (programOf ws)
   listed-words = rw after (take-written (modelWords ws) out k (taken .2))
+
+  -- "the count is in the result"
+  pub listed-count : k ≡ length wordsListed
+  listed-count = taken .2 ∙ ap length (sym listed-words)
 
   -- "Words of the slice past the count don't change."
   pub listed-past : drop k (modelsOut ws out) ≡ drop k out

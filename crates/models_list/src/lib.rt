@@ -10,6 +10,12 @@ use table::Checked;
 mod masks;
 mod search;
 
+// Question 30.
+const MAX_ATOMS: u16 = 16;
+
+// As many stable models as 16 atoms can have.
+const MAX_MODELS: usize = 12870;
+
 // What the reduct by a set comes to: the set fails a clause, or as many clauses are to be asked of its subsets.
 pub enum Reduct {
     Fails,
@@ -27,10 +33,10 @@ pub fn list_models(words: &[u16], out: &mut [u16]) -> Answer
         };
         return Answer::Refused(r);
     };
-    if 16 < words[0] {
+    if MAX_ATOMS < words[0] {
         return Answer::Refused(Refusal::Call(CallQuestion::FewAtoms));
     }
-    let mut found = [0u16; 12870];
+    let mut found = [0u16; MAX_MODELS];
     let count = search::all_models(words, &mut found);
     if out.len() < count {
         return Answer::Refused(Refusal::Call(CallQuestion::ModelsRoom));
