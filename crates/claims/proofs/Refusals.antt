@@ -26,7 +26,7 @@ use Rattle.step_lists.specs.Lists as lists
 use Rattle.step_questions.specs.Questions as steps
 use Rattle.reducer_results.specs.Reductions as reductions
 use Rattle.reduced_table.specs.Reduced as compaction
-use Rattle.text_form.specs.Digits.{width, places, digits, others, commas}
+use Rattle.text_form.specs.Digits.{between, width, places, digits, others, commas}
 use Rattle.text_form.specs.Render.{atomsKey, clausesKey, headKey, posKey, negKey, lineText, clauseText, clausesText, render}
 use Rattle.text_form.specs.Reader as reader
 use Rattle.text_form.specs.Writer as writer
@@ -170,5 +170,5 @@ rows =
     ∷ []
 
 pub refusals : AllSay rows
-unfolding satisfies reduct models sublists stableTest left fire reachFrom reach inNoHead condition conditionHolds applies effect least firstAtom firstPartner firstTarget firstStep search.reduce ask questions.atomsFrom questions.partsFrom questions.clauseFrom questions.clausesFrom questions.allUsed questions.tableOf startFrom clausesOf clausesWords encode programOf part entryAt entriesFrom view find clears marksAfter marksAfterAll clearableFrom marksFrom sets.setOf sets.testOf steps.shapeQuestions steps.stepQuestions lists.stepsFrom lists.checkList wordsOf reductions.bodyLiterals reductions.room reductions.stepsOf reductions.reduction compaction.markedAnswer compaction.reducedAnswer width places digits others commas lineText clauseText clausesText render reader.then reader.starts reader.run reader.ended reader.spanAt reader.nextOf reader.scan reader.numbers reader.onSpan reader.valueOf reader.valueAt reader.numberAt reader.countAt reader.order reader.onOrder reader.listOf reader.listAt reader.clauseAt reader.clausesAt reader.restAt reader.programAt reader.readText reader.readAnswer writer.textOf writer.writeAnswer questions.onWalk questions.onTable
+unfolding satisfies reduct models sublists stableTest left fire reachFrom reach inNoHead condition conditionHolds applies effect least firstAtom firstPartner firstTarget firstStep search.reduce ask questions.atomsFrom questions.partsFrom questions.clauseFrom questions.clausesFrom questions.allUsed questions.tableOf startFrom clausesOf clausesWords encode programOf part entryAt entriesFrom view find clears marksAfter marksAfterAll clearableFrom marksFrom sets.setOf sets.testOf steps.shapeQuestions steps.stepQuestions lists.stepsFrom lists.checkList wordsOf reductions.bodyLiterals reductions.room reductions.stepsOf reductions.reduction compaction.markedAnswer compaction.reducedAnswer between width places digits others commas lineText clauseText clausesText render reader.then reader.starts reader.run reader.ended reader.spanAt reader.nextOf reader.scan reader.numbers reader.onSpan reader.valueOf reader.valueAt reader.numberAt reader.countAt reader.order reader.onOrder reader.listOf reader.listAt reader.clauseAt reader.clausesAt reader.restAt reader.programAt reader.readText reader.readAnswer writer.textOf writer.writeAnswer questions.onWalk questions.onTable
 refusals = (refl, (refl, (refl, (refl, (refl, (refl, (refl, (refl, (refl, (refl, (refl, (refl, (refl, (refl, (refl, (refl, (refl, (refl, (refl, (refl, (refl, (refl, (refl, (refl, (refl, (refl, (refl, (refl, (refl, (refl, (refl, (refl, (refl, (refl, (refl, (refl, (refl, (refl, (refl, (refl, (refl, (refl, (refl, (refl, (refl, (refl, (refl, (refl, (refl, (refl, (refl, (refl, (refl, (refl, (refl, (refl, (refl, (refl, (refl, (refl, (refl, (refl, (refl, (refl, (refl, (refl, (refl, (refl, (refl, tt)))))))))))))))))))))))))))))))))))))))))))))))))))))))))))))))))))))

@@ -47,6 +47,10 @@ module _ (ws ms ls : List ℕ) (r : Answer) (p : Passed ws) (a : Answered ws mar
     pub marks-ready : MarksReady ws ms
     marks-ready = record { passed = p; marked = rw (a .marks) (omega (arith, lengths-kept ws marks₀ list₀ s (reducer-taken ws marks₀ list₀ s said) .0, marks-long, passed-limits ws p .short)) }
 
+    -- there are few steps, and the list holds them
+    pub count-few : s ≤ 65536
+    count-few = omega (arith, list-long ws marks₀ list₀ s said, list-room)
+
     pub steps-inside : 4 * s ≤ length ls
     steps-inside = rw (a .list) (omega (arith, lengths-kept ws marks₀ list₀ s (reducer-taken ws marks₀ list₀ s said) .1, list-long ws marks₀ list₀ s said))
 

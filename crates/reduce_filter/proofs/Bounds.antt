@@ -21,7 +21,7 @@ use Rattle.table.proofs.Encoding.{passed-limits, passed-within}
 use Rattle.reducer_results.specs.Reductions.{stepsOf}
 use Rattle.reducer_results.proofs.Taken.{steps-accepted, steps-few}
 use Rattle.text_form.specs.Digits.{width, digits, others, commas}
-use Rattle.text_form.proofs.Numbers.{digits-length, width-four}
+use Rattle.text_form.proofs.Widths.{one-digit, digits-length, width-four}
 use Rattle.text_form.proofs.Texts.{line-length}
 use Rattle.reduce_filter.specs.Output.{stepKey}
 use Rattle.reduce_filter.proofs.Steps.{stepText, stepsText}
@@ -80,14 +80,11 @@ step-short n m s a b q =
       arith,
       line-length stepKey (commas (number (s .kind) ∷ s .target ∷ s .partner ∷ s .atom ∷ [])),
       four (number (s .kind)) (s .target) (s .partner) (s .atom),
-      width-one (number (s .kind)) (omega arith),
+      one-digit (number (s .kind)) (omega arith),
       width-four (s .target) (omega (arith, q .target)),
       width-four (s .partner) (omega (arith, q .partner)),
       width-four (s .atom) (omega (arith, q .atom)),
     )
-  where
-    width-one : (v : ℕ) → v < 10 → width v ≡ 1
-    width-one v h = Rattle.text_form.proofs.Numbers.width-by (λ w. w ≡ 1) v (λ _. refl) (λ x _. absurd (omega arith)) (λ x _. absurd (omega arith)) (λ x _. absurd (omega arith)) (λ x. absurd (omega arith))
 
 steps-lines : (n m : ℕ) (P : Marked) (l : List Step) → n ≤ 1024 → m ≤ 2048 → length P ≡ m → So (accepted n P l) → length (stepsText l) ≤ 22 * length l
 unfolding accepted stepsText

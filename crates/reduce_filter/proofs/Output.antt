@@ -16,7 +16,7 @@ use Rattle.text_form.specs.Digits.{digits, commas}
 use Rattle.text_form.specs.Render.{lineText}
 use Rattle.text_form.specs.Writer.{textOf}
 use Rattle.text_form.proofs.Calls.{text-short}
-use Rattle.text_form.proofs.Numbers.{digits-length, width-five}
+use Rattle.text_form.proofs.Widths.{digits-length, width-five}
 use Rattle.text_form.proofs.Texts.{line-length}
 use Rattle.reduce_filter.specs.Output.{stepsKey, refusedKey, listLines, reductionOf, reducedLines, reducedText, refusedText}
 use Rattle.reduce_filter.proofs.Bounds.{pair-length, steps-short}

@@ -12,11 +12,14 @@ use Rattle.table.specs.Encoding.{encode}
 use Rattle.table.proofs.Encoding.{encode-passes}
 use Rattle.answers.specs.declared.Answer.{Answer}
 use Rattle.answers.specs.declared.Answer.the-variants.{Accepted, Refused}
-use Rattle.answers.specs.Answers.{written}
+use Rattle.answers.specs.Refusals.{refusalNumber, refusalPlace}
+use Rattle.answers.specs.Answers.{written, Small}
+use Rattle.answers.proofs.Numbers.{number-range}
 use Rattle.text_form.specs.Reader.{readAnswer, tableAfter}
 use Rattle.text_form.specs.Stored.{Puts}
 use Rattle.answers.proofs.Slices.{sets-written, take-written}
 use Rattle.text_form.proofs.Calls.{accepted-reads}
+use Rattle.text_form.proofs.Near.{read-small}
 use Rattle.reduce_filter.specs.declared.Printed.{Printed}
 use Rattle.reduce_filter.specs.Output.{reducedText, refusalText, printed, outputOf, isRefused, outputBytes, Prints}
 
@@ -56,6 +59,10 @@ module _ (ts new : List ℕ) (k : ℕ) (h : readAnswer ts (length blank) ≡ Acc
   words-output = ap (λ i. reducedText (take i new)) (sub-zero k) ∙ ap (λ t. reducedText (take k t)) e ∙ sym (ap (λ a. printed a (tableAfter ts blank)) (said-of ts (Accepted k) h))
 
 -- ---- a text that is refused
+
+-- its number and place are numbers that can be written
+pub refused-small : (ts : List ℕ) (r : Refusal) → readAnswer ts (length blank) ≡ Refused r → (refusalNumber r ≤ 65536) × (refusalPlace r ≤ 65536)
+refused-small ts r h = (omega (arith, number-range r .1), subst Small h (read-small ts (length blank)))
 
 pub refused-output : (ts : List ℕ) (r : Refusal) → readAnswer ts (length blank) ≡ Refused r → refusalText r ≡ outputOf ts
 unfolding outputOf

@@ -47,7 +47,7 @@ pub struct Printed {
 
 // Two numbers joined by a comma; the place past them.
 fn put_pair(out: &mut [u8], at: usize, a: usize, b: usize) -> usize
-    requires { ⌜ at + length (commas (a ∷ b ∷ [])) ≤ length (now out) ⌝ }
+    requires { ⌜ ((a ≤ 65536) × (b ≤ 65536)) × (at + length (commas (a ∷ b ∷ [])) ≤ length (now out)) ⌝ }
     ensures { λ r. ⌜ Puts (now (out .entry)) (now (out .exit)) at r (commas (a ∷ b ∷ [])) ⌝ }
 {
     let n = put_number(out, at, a);
@@ -56,7 +56,7 @@ fn put_pair(out: &mut [u8], at: usize, a: usize, b: usize) -> usize
 
 // The line of a refusal, which is the whole output; the number of its bytes.
 fn put_refused(out: &mut [u8], number: usize, place: usize) -> usize
-    requires { ⌜ length (refusedText number place) ≤ length (now out) ⌝ }
+    requires { ⌜ ((number ≤ 65536) × (place ≤ 65536)) × (length (refusedText number place) ≤ length (now out)) ⌝ }
     ensures { λ r. ⌜ Puts (now (out .entry)) (now (out .exit)) 0 r (refusedText number place) ⌝ }
 {
     let a = put_bytes(out, 0, b"refused=");
@@ -89,7 +89,7 @@ fn put_steps(out: &mut [u8], at: usize, list: &[u16], s: usize) -> usize
 
 // The count of steps, and a line for each; the place past them.
 fn put_list(out: &mut [u8], at: usize, list: &[u16], s: usize) -> usize
-    requires { ⌜ (4 * s ≤ length (now list)) × (at + length (listLines (now list) s) ≤ length (now out)) ⌝ }
+    requires { ⌜ ((s ≤ 65536) × (4 * s ≤ length (now list))) × (at + length (listLines (now list) s) ≤ length (now out)) ⌝ }
     ensures { λ r. ⌜ Puts (now (out .entry)) (now (out .exit)) at r (listLines (now (list .entry)) s) ⌝ }
 {
     let n = put_number_line(out, at, b"steps=", s);

@@ -15,64 +15,7 @@ use Rattle.text_form.specs.declared.Next.{Next}
 use Rattle.text_form.specs.declared.Next.the-variants.{Digit, Comma, Bad}
 use Rattle.text_form.specs.Digits.{width, places, digits, others, commas}
 use Rattle.text_form.specs.Reader.{nextOf, Scanned, emit, onNext, scan, numbers}
-
--- ---- digits
-
--- how many digits there are, case by case
-pub width-by : (F : ℕ → Type 0) (v : ℕ) → (v < 10 → F 1) → (10 ≤ v → v < 100 → F 2) → (100 ≤ v → v < 1000 → F 3) → (1000 ≤ v → v < 10000 → F 4) → (10000 ≤ v → F 5) → F (width v)
-unfolding width
-width-by F v a b c d e =
-    by-cases (decLt v 10) (λ h. rw (lt-ltb v 10 h) (a h))
-    (λ h. by-cases (decLt v 100) (λ i. rw (le-ltb v 10 (omega arith), lt-ltb v 100 i) (b (omega arith) i))
-    (λ i. by-cases (decLt v 1000) (λ j. rw (le-ltb v 10 (omega arith), le-ltb v 100 (omega arith), lt-ltb v 1000 j) (c (omega arith) j))
-    (λ j. by-cases (decLt v 10000) (λ k. rw (le-ltb v 10 (omega arith), le-ltb v 100 (omega arith), le-ltb v 1000 (omega arith), lt-ltb v 10000 k) (d (omega arith) k))
-    (λ k. rw (le-ltb v 10 (omega arith), le-ltb v 100 (omega arith), le-ltb v 1000 (omega arith), le-ltb v 10000 (omega arith)) (e (omega arith))))))
-
-pub width-some : (v : ℕ) → 0 < width v
-width-some v = width-by (λ k. 0 < k) v (λ a. omega arith) (λ a b. omega arith) (λ a b. omega arith) (λ a b. omega arith) (λ a. omega arith)
-
-pub width-five : (v : ℕ) → width v ≤ 5
-width-five v = width-by (λ k. k ≤ 5) v (λ a. omega arith) (λ a b. omega arith) (λ a b. omega arith) (λ a b. omega arith) (λ a. omega arith)
-
--- "A number has one to four digits"
-pub width-four : (v : ℕ) → v ≤ 9999 → width v ≤ 4
-width-four v h = width-by (λ k. k ≤ 4) v (λ a. omega arith) (λ a b. omega arith) (λ a b. omega arith) (λ a b. omega arith) (λ a. absurd (omega arith))
-
--- a digit more
-width-more : (v x : ℕ) → 0 < v → v ≤ 9999 → x < 10 → width (v * 10 + x) ≡ suc (width v)
-width-more v x p l h =
-    let u = v * 10 + x in
-    width-by (λ j. j ≡ suc (width v)) u
-    (λ a. absurd (omega arith))
-    (λ a b. width-by (λ k. 2 ≡ suc k) v (λ c. refl) (λ c d. absurd (omega arith)) (λ c d. absurd (omega arith)) (λ c d. absurd (omega arith)) (λ c. absurd (omega arith)))
-    (λ a b. width-by (λ k. 3 ≡ suc k) v (λ c. absurd (omega arith)) (λ c d. refl) (λ c d. absurd (omega arith)) (λ c d. absurd (omega arith)) (λ c. absurd (omega arith)))
-    (λ a b. width-by (λ k. 4 ≡ suc k) v (λ c. absurd (omega arith)) (λ c d. absurd (omega arith)) (λ c d. refl) (λ c d. absurd (omega arith)) (λ c. absurd (omega arith)))
-    (λ a. width-by (λ k. 5 ≡ suc k) v (λ c. absurd (omega arith)) (λ c d. absurd (omega arith)) (λ c d. absurd (omega arith)) (λ c d. refl) (λ c. absurd (omega arith)))
-
-pub places-length : (v k : ℕ) → length (places v k) ≡ k
-unfolding places
-places-length v zero = refl
-places-length v (suc k) = ap suc (places-length v k)
-
-pub digits-length : (v : ℕ) → length (digits v) ≡ width v
-unfolding digits
-digits-length v = places-length v (width v)
-
-places-more : (v x k : ℕ) → x < 10 → places (v * 10 + x) (suc k) ≡ places v k ++ (48 + x) ∷ []
-unfolding places
-places-more v x zero h = let e : 48 + (v * 10 + x) / 10 ^ 0 % 10 ≡ 48 + x = omega arith in rw e
-places-more v x (suc k) h =
-    let d : (v * 10 + x) / 10 ≡ v = omega arith in
-    let e : (v * 10 + x) / 10 ^ suc k ≡ v / 10 ^ k = rw (pow-suc 10 k, mul-comm (10 ^ k) 10, ← div-div-eq-div-mul (v * 10 + x) 10 (10 ^ k), d) in
-    rw (e, places-more v x k h)
-
-digits-more : (v x : ℕ) → 0 < v → v ≤ 9999 → x < 10 → digits (v * 10 + x) ≡ digits v ++ (48 + x) ∷ []
-unfolding digits
-digits-more v x p l h = rw (width-more v x p l h) (places-more v x (width v) h)
-
-digits-one : (v : ℕ) → v < 10 → digits v ≡ (48 + v) ∷ []
-unfolding digits width places
-digits-one v h = let e : 48 + v / 10 ^ 0 % 10 ≡ 48 + v = omega arith in simp (lt-ltb v 10 h) (rw e)
+use Rattle.text_form.proofs.Widths.{width-by, digits-one, digits-more, digits-last}
 
 -- ---- one byte
 
@@ -139,8 +82,7 @@ scan-digits (suc n) x a b r = by-cases (decLt x 10)
     (λ h. rw (digits-one x h) (scan-on false 0 x (48 + x) r (next-begin x h)))
     (λ h. let e : x / 10 * 10 + x % 10 ≡ x = omega arith in
     let i : scan false 0 (digits (x / 10) ++ ((48 + x % 10) ∷ r)) ≡ scan true (x / 10) ((48 + x % 10) ∷ r) = scan-digits n (x / 10) (omega arith) (omega arith) ((48 + x % 10) ∷ r) in
-    let d : digits x ≡ digits (x / 10) ++ (48 + x % 10) ∷ [] = ap digits (sym e) ∙ digits-more (x / 10) (x % 10) (omega arith) (omega arith) (omega arith) in
-    rw (d, append-assoc) (i ∙ scan-on true (x / 10) x (48 + x % 10) r (next-on (x / 10) (x % 10) (omega arith) (omega arith) (omega arith) ∙ ap Digit e)))
+    rw (digits-last x (omega arith) (omega arith), append-assoc) (i ∙ scan-on true (x / 10) x (48 + x % 10) r (next-on (x / 10) (x % 10) (omega arith) (omega arith) (omega arith) ∙ ap Digit e)))
 
 -- numbers of at most four digits
 abbrev pub FourDigits : List ℕ → Type 0
@@ -176,7 +118,7 @@ scan-inv g v (b ∷ l) a z h =
     grown : (g : Bool) (w : ℕ) → (g ≡ false → v ≡ 0) → Goes g v b w → (w ≤ 9999) × (pre g v ++ (b ∷ l) ≡ digits w ++ l)
     grown true w z d =
         let m = d .more refl in
-        (omega (arith, d .value, d .small), rw (d .byte, d .value, digits-more v (d .x) (m .0) (omega arith) (d .small), append-assoc))
+        (omega (arith, d .value, d .small), rw (d .byte, d .value, digits-more v (d .x) (m .0) (d .small) (omega (arith, d .small, m .1)), append-assoc))
     grown false w z d =
         let e : w ≡ d .x = omega (arith, d .value, z refl) in
         (omega (arith, d .small), rw (d .byte, e, digits-one (d .x) (d .small)))
@@ -193,25 +135,15 @@ scan-inv g v (b ∷ l) a z h =
 
 -- ---- values
 
-digits-some : (x : ℕ) → (b : ℕ) × (l : List ℕ) × (digits x ≡ b ∷ l)
-unfolding digits places
-digits-some x = go (width x) (width-some x)
-  where
-    go : (k : ℕ) → 0 < k → (b : ℕ) × (l : List ℕ) × (places x k ≡ b ∷ l)
-    go zero h = absurd (omega arith)
-    go (suc k) h = (48 + x / 10 ^ k % 10, places x k, refl)
-
-numbers-cons : (t : List ℕ) (b : ℕ) (l : List ℕ) → t ≡ b ∷ l → numbers t ≡ scan false 0 t
-unfolding numbers
-numbers-cons t b l e = rw e
-
 -- the numbers of a list, written, are read
 pub numbers-of : (xs : List ℕ) → FourDigits xs → numbers (commas xs) ≡ record { ok = true; xs = xs }
-unfolding commas numbers
+unfolding commas numbers scan
 numbers-of [] s = refl
-numbers-of (x ∷ xs) s =
-    let (b, l, e) = digits-some x in
-    numbers-cons (digits x ++ others xs) b (l ++ others xs) (rw e) ∙ scan-others x xs s
+numbers-of (x ∷ xs) s = go (digits x ++ others xs) (scan-others x xs s)
+  where
+    go : (t : List ℕ) → scan false 0 t ≡ record { ok = true; xs = x ∷ xs } → numbers t ≡ record { ok = true; xs = x ∷ xs }
+    go [] h = let e = ap (λ (s : Scanned). s .ok) h in let z : _≡_ {A = ℕ} 0 1 = cc in absurd (omega arith)
+    go (b ∷ l) h = h
 
 -- what is read as numbers is those numbers, written
 pub numbers-inv : (l : List ℕ) → numbers l .ok ≡ true → (l ≡ commas (numbers l .xs)) × FourDigits (numbers l .xs)

@@ -13,7 +13,8 @@ use Rattle.table.specs.Encoding.{clauseWords, clausesWords, encode, OrderedClau
 use Rattle.text_form.specs.Render.{atomsKey, clausesKey, headKey, posKey, negKey, lineText, clauseText, clausesText, render}
 use Rattle.text_form.specs.Reader.{done, then, clauseAt, clausesAt, restAt, programAt, readText}
 use Rattle.answers.specs.Answers.{ask}
-use Rattle.text_form.proofs.Numbers.{FourDigits, width-four, digits-length}
+use Rattle.text_form.proofs.Widths.{width-four, digits-length}
+use Rattle.text_form.proofs.Numbers.{FourDigits}
 use Rattle.text_form.proofs.Lines.{ordered-small, ask-inv, then-inv, list-of, list-inv, count-of, count-inv}
 
 -- ---- a clause

@@ -1,12 +1,22 @@
 -- The digits of a number and the numbers of a list, as bytes.
 use Prim.Native.Nat.{ℕ, zero, suc, _+_, _/_, _%_, _^_}
 use mathlib.Core.List.{List, [], _∷_, _++_}
-use mathlib.Core.Bool.{cond}
-use lib.Dec.{ltb}
+use mathlib.Core.Bool.{Bool, cond, _&&_}
+use lib.Dec.{leb}
 
--- how many digits a number up to 99,999 has: "A number has one to four digits", "a place may have five digits"
+-- v is one of the numbers from a to b
+unfoldable pub between : ℕ → ℕ → ℕ → Bool
+between a b v = leb a v && leb v b
+
+-- How many digits a number has: "A number has one to four digits", "a place may have five digits"; as "cases that people can hold against the text form: 0 to 9, 10 to 99,
+-- 100 to 999, 1,000 to 9,999, and for the place of a refusal 10,000 to 65,536". No larger number is written.
 unfoldable pub width : ℕ → ℕ
-width v = cond (ltb v 10) 1 (cond (ltb v 100) 2 (cond (ltb v 1000) 3 (cond (ltb v 10000) 4 5)))
+width v =
+    cond (between 0 9 v) 1
+    (cond (between 10 99 v) 2
+    (cond (between 100 999 v) 3
+    (cond (between 1000 9999 v) 4
+    (cond (between 10000 65536 v) 5 0))))
 
 -- the k last decimal places of v; 48 is the byte of 0
 unfoldable pub places : ℕ → ℕ → List ℕ

@@ -1,4 +1,5 @@
 pub mod Digits
+pub mod Numerals
 pub mod Render
 pub mod Reader
 pub mod Writer

@@ -3,13 +3,15 @@ use Prim.Native.Nat.{ℕ, suc, _+_, _-_, _/_, _%_, _^_, _≤_, _<_}
 use mathlib.Core.Path.{_≡_, refl, sym, ap, _∙_}
 use mathlib.Core.List.{List, [], _∷_, _++_}
 use native.Mathlib.Omega.{arith}
+use native.Mathlib.Nat.{div-div-eq-div-mul, pow-suc}
 use native.Mathlib.Numerals.{add-one}
 use lib.ListN.{length, length-append, getD, drop, set, drop-of-length-le}
-use lib.Seq.{sets, drop-cons}
-use Rattle.text_form.specs.Digits.{places, digits, others, commas}
+use lib.Seq.{sets, length-sets, drop-cons}
+use Rattle.text_form.specs.Digits.{width, places, digits, others, commas}
 use Rattle.text_form.specs.Render.{lineText}
 use Rattle.text_form.specs.Stored.{Puts}
-use Rattle.table.proofs.Slices.{sets-append}
+use Rattle.text_form.proofs.Widths.{places-length}
+use Rattle.table.proofs.Slices.{sets-append, set-sets}
 
 -- ---- pieces one after the other
 
@@ -48,13 +50,37 @@ module _ (w w₀ : List ℕ) (n at : ℕ) (r whole : List ℕ) (l : Left w w₀ 
 
 -- ---- digits
 
-pub places-on : (out : List ℕ) (at v w j : ℕ) → j < w → sets out (at + j) (places v (w - j)) ≡ sets (set out (at + j) (48 + v / 10 ^ (w - (j + 1)) % 10)) (at + (j + 1)) (places v (w - (j + 1)))
-unfolding places
-places-on out at v w j h = let q : w - j ≡ suc (w - (j + 1)) = omega arith in let i : at + (j + 1) ≡ suc (at + j) = omega arith in rw (q, i)
+-- A number of w digits is being written into `old` from `at` on: its last j decimal places are stored, and the number without them is left.
+pub record Placed (old out : List ℕ) (at v w left j : ℕ) : Type 0 where
+  pub most : j ≤ w
+  pub rest : left ≡ v / 10 ^ j
+  pub holds : out ≡ sets old (at + (w - j)) (places v j)
 
-pub places-end : (out : List ℕ) (at v w j : ℕ) → w ≤ j → sets out (at + j) (places v (w - j)) ≡ out
+pub placed-start : (out : List ℕ) (at v w : ℕ) → Placed out out at v w v 0
 unfolding places
-places-end out at v w j h = let q : w - j ≡ 0 = omega arith in rw q
+placed-start out at v w = record { most = omega arith; rest = omega arith; holds = refl }
+
+module _ (old out : List ℕ) (at v w left j : ℕ) (s : Placed old out at v w left j) where
+  pub placed-long : length out ≡ length old
+  placed-long = ap length (s .holds) ∙ length-sets old (at + (w - j)) (places v j)
+
+  pub placed-on : j < w → Placed old (set out (at + (w - (j + 1))) (48 + left % 10)) at v w (left / 10) (j + 1)
+  unfolding places
+  placed-on h =
+      let p = at + (w - suc j) in
+      let q : at + (w - j) ≡ suc p = omega arith in
+      record {
+        most = omega arith;
+        rest = rw (s .rest, add-one j, pow-suc 10 j, div-div-eq-div-mul);
+        holds = rw (s .rest, s .holds, q, add-one j) (set-sets old (suc p) p (48 + v / 10 ^ j % 10) (places v j) (omega arith));
+      }
+
+  pub placed-end : w ≤ j → w ≡ width v → Puts old out at (at + w) (digits v)
+  unfolding digits
+  placed-end l e =
+      let q : j ≡ width v = omega (arith, s .most) in
+      let z : at + (w - j) ≡ at = omega arith in
+      record { next = omega (arith, places-length v (width v)); holds = s .holds ∙ rw (z, q) }
 
 -- ---- bytes
 

@@ -17,43 +17,18 @@ use answers::Refusal;
 use table::Checked;
 use table::wide;
 
-// How many digits a number has.
+// How many digits a number has: one to four in a text, five for the place of a refusal.
 pub fn number_width(v: usize) -> usize
     ensures { λ r. ⌜ r ≡ width v ⌝ }
 {
-    if v < 10 {
-        return 1;
+    match v {
+        0..=9 => 1,
+        10..=99 => 2,
+        100..=999 => 3,
+        1000..=9999 => 4,
+        10000..=65536 => 5,
+        _ => 0,
     }
-    if v < 100 {
-        return 2;
-    }
-    if v < 1000 {
-        return 3;
-    }
-    if v < 10000 {
-        return 4;
-    }
-    5
-}
-
-// A power of ten.
-fn scale(k: usize) -> usize
-    requires { ⌜ k < 5 ⌝ }
-    ensures { λ r. ⌜ (r ≡ 10 ^ k) × (0 < r) ⌝ }
-{
-    if k < 1 {
-        return 1;
-    }
-    if k < 2 {
-        return 10;
-    }
-    if k < 3 {
-        return 100;
-    }
-    if k < 4 {
-        return 1000;
-    }
-    10000
 }
 
 // The byte of the last decimal place.
@@ -63,14 +38,16 @@ fn digit(x: usize) -> u8
     (48 + x % 10) as u8
 }
 
-// The digits of a number; the place past them.
+// The digits of a number, the last one first; the place past them.
 pub fn put_number(out: &mut [u8], at: usize, v: usize) -> usize
-    requires { ⌜ at + length (digits v) ≤ length (now out) ⌝ }
+    requires { ⌜ (v ≤ 65536) × (at + length (digits v) ≤ length (now out)) ⌝ }
     ensures { λ r. ⌜ Puts (now (out .entry)) (now (out .exit)) at r (digits v) ⌝ }
 {
     let w = number_width(v);
+    let mut left = v;
     for j in 0..w {
-        out[at + j] = digit(v / scale(w - (j + 1)));
+        out[at + (w - (j + 1))] = digit(left);
+        left = left / 10;
     }
     at + w
 }
@@ -88,7 +65,7 @@ pub fn put_bytes(out: &mut [u8], at: usize, bytes: &[u8]) -> usize
 
 // A comma and a number; the place past them.
 pub fn put_next(out: &mut [u8], at: usize, v: usize) -> usize
-    requires { ⌜ at + 1 + length (digits v) ≤ length (now out) ⌝ }
+    requires { ⌜ (v ≤ 65536) × (at + 1 + length (digits v) ≤ length (now out)) ⌝ }
     ensures { λ r. ⌜ Puts (now (out .entry)) (now (out .exit)) at r (44 ∷ digits v) ⌝ }
 {
     out[at] = b',';
@@ -131,7 +108,7 @@ pub fn put_line(out: &mut [u8], at: usize, key: &[u8], part: &[u16]) -> usize
 
 // A line of one number: its key, the number, a line feed; the place past it.
 pub fn put_number_line(out: &mut [u8], at: usize, key: &[u8], v: usize) -> usize
-    requires { ⌜ at + length (lineText (now key) (digits v)) ≤ length (now out) ⌝ }
+    requires { ⌜ (v ≤ 65536) × (at + length (lineText (now key) (digits v)) ≤ length (now out)) ⌝ }
     ensures { λ r. ⌜ Puts (now (out .entry)) (now (out .exit)) at r (lineText (now (key .entry)) (digits v)) ⌝ }
 {
     let a = put_bytes(out, at, key);

@@ -3,7 +3,7 @@ use borrow.Author.Needs.{needs}
 use mathlib.Core.Path.{sym, subst}
 use Rattle.answers.specs.Answers.{Small}
 use lib.ListN.{length}
-use Rattle.gambrolt.proofs.Texts.{read-small}
+use Rattle.text_form.proofs.Near.{read-small}
 use Rattle.gambrolt.proofs.gambrolt_read_text.Statement.{statement}
 use Rattle.gambrolt.proofs.gambrolt_read_text.Tie as tie
 

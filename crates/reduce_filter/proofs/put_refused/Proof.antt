@@ -11,15 +11,15 @@ use Rattle.reduce_filter.proofs.put_refused.Tie as tie
 
 put-bytes-requires : tie.Need-put-bytes-requires
 unfolding refusedText
-put-bytes-requires c κs = omega (arith, c .before .before .before .pre, line-length refusedKey (commas (c .before .before .before .args .number ∷ c .before .before .before .args .place ∷ [])))
+put-bytes-requires c κs = omega (arith, c .before .before .before .pre .1, line-length refusedKey (commas (c .before .before .before .args .number ∷ c .before .before .before .args .place ∷ [])))
 
 put-pair-requires : tie.Need-put-pair-requires
 unfolding refusedText
-put-pair-requires c κs = omega (arith, c .before .before .before .before .before .before .before .pre, line-length refusedKey (commas (c .before .before .before .before .before .before .before .args .number ∷ c .before .before .before .before .before .before .before .args .place ∷ [])), c .before .before .before .put-bytes .ensures .next, c .before .before .before .put-bytes .kept .0)
+put-pair-requires c κs = (search needs, omega (arith, c .before .before .before .before .before .before .before .pre .1, line-length refusedKey (commas (c .before .before .before .before .before .before .before .args .number ∷ c .before .before .before .before .before .before .before .args .place ∷ [])), c .before .before .before .put-bytes .ensures .next, c .before .before .before .put-bytes .kept .0))
 
 put-bytes-requires-2 : tie.Need-put-bytes-requires-2
 unfolding refusedText
-put-bytes-requires-2 c κs = omega (arith, c .before .before .before .before .before .before .before .before .before .before .before .before .pre, line-length refusedKey (commas (c .before .before .before .before .before .before .before .before .before .before .before .before .args .number ∷ c .before .before .before .before .before .before .before .before .before .before .before .before .args .place ∷ [])), c .before .before .before .before .before .before .before .before .put-bytes .ensures .next, c .before .before .before .before .before .before .before .before .put-bytes .kept .0, c .before .before .before .before .put-pair .ensures .next, c .before .before .before .before .put-pair .kept .0)
+put-bytes-requires-2 c κs = omega (arith, c .before .before .before .before .before .before .before .before .before .before .before .before .pre .1, line-length refusedKey (commas (c .before .before .before .before .before .before .before .before .before .before .before .before .args .number ∷ c .before .before .before .before .before .before .before .before .before .before .before .before .args .place ∷ [])), c .before .before .before .before .before .before .before .before .put-bytes .ensures .next, c .before .before .before .before .before .before .before .before .put-bytes .kept .0, c .before .before .before .before .put-pair .ensures .next, c .before .before .before .before .put-pair .kept .0)
 
 returns : tie.Need-returns
 unfolding refusedText

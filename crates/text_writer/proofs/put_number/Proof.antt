@@ -1,52 +1,40 @@
--- `text_writer::put_number` meets its contract. The loop's invariant: the decimal places left, stored from here on, give all of them. Assumes nothing.
-use Prim.Native.Nat.{_≤_, _-_, _+_}
-use mathlib.Core.Path.{_≡_, refl, sym, _∙_}
+-- `text_writer::put_number` meets its contract. The loop's invariant: the last j digits are stored, and the number without them is left. Assumes nothing.
+use Prim.Native.Nat.{_-_}
 use native.Mathlib.Omega.{arith}
-use native.Mathlib.Nat.{add-zero}
-use lib.ListN.{length, length-set}
-use lib.Seq.{sets}
-use Rattle.text_form.specs.Digits.{width, places, digits}
-use Rattle.text_form.proofs.Numbers.{width-five, digits-length}
-use Rattle.text_writer.proofs.Laws.{places-on, places-end}
+use Rattle.text_form.proofs.Widths.{digits-length}
+use Rattle.text_writer.proofs.Laws.{Placed, placed-start, placed-long, placed-on, placed-end}
 use borrow.Author.Needs.{needs}
 use Rattle.text_writer.proofs.put_number.Statement.{statement}
 use Rattle.text_writer.proofs.put_number.Tie as tie
 
 abbrev Inv-loop : tie.InvT-loop
-Inv-loop out₀ at v w j₀ out j = (j ≤ w) × ((length out ≡ length out₀) × (sets out (at + j) (places v (w - j)) ≡ sets out₀ at (digits v)))
+Inv-loop out₀ at v w left₀ j₀ out left j = Placed out₀ out at v w left j
 
 abbrev μ-loop : tie.MeasureT-loop
-μ-loop out₀ at v w j₀ out j = w - j
+μ-loop out₀ at v w left₀ j₀ out left j = w - j
 
 loop-holds : tie.Need-loop-holds Inv-loop μ-loop
-unfolding digits
-loop-holds c = let e = c .number-width .ensures in let q : c .number-width .result - 0 ≡ width (c .before .before .args .v) = omega arith in (search needs, (refl, rw (q, add-zero)))
+loop-holds c = placed-start _ _ _ _
 
-scale-requires : tie.Need-scale-requires Inv-loop μ-loop
-scale-requires c κs = omega (arith, c .before .before .number-width .ensures, width-five (c .before .before .before .before .args .v))
-
-div-digit : tie.Need-div-digit Inv-loop μ-loop
-div-digit c = omega (arith, c .scale .ensures .1)
-
-add-out : tie.Need-add-out Inv-loop μ-loop
-add-out c = omega (arith, c .before .before .before .before .before .before .pre, digits-length (c .before .before .before .before .before .before .args .v), c .before .before .before .before .number-width .ensures)
+add-out-2 : tie.Need-add-out-2 Inv-loop μ-loop
+add-out-2 c = omega (arith, c .before .before .before .before .before .pre .1, digits-length (c .before .before .before .before .before .args .v), c .before .before .before .number-width .ensures)
 
 slice-write-out : tie.Need-slice-write-out Inv-loop μ-loop
-slice-write-out c = omega (arith, c .before .before .before .before .before .before .pre, digits-length (c .before .before .before .before .before .before .args .v), c .before .before .before .before .number-width .ensures, c .before .before .before .loop .inv .1 .0)
+slice-write-out c = omega (arith, c .before .before .before .before .before .pre .1, digits-length (c .before .before .before .before .before .args .v), c .before .before .before .number-width .ensures, placed-long _ _ _ _ _ _ _ (c .before .before .loop .inv))
 
 loop-again : tie.Need-loop-again Inv-loop μ-loop
-loop-again c = let inv = c .before .before .before .loop .inv in (search needs, (simp length-set (inv .1 .0), rw (c .digit .ensures, c .before .scale .ensures .0) (sym (places-on _ _ _ _ _ (c .before .before .loop-test .taken)) ∙ inv .1 .1)))
+loop-again c = rw (c .digit .ensures) (placed-on _ _ _ _ _ _ _ (c .before .before .loop .inv) (c .before .loop-test .taken))
 
 add-result : tie.Need-add-result Inv-loop μ-loop
-add-result c = omega (arith, c .before .before .before .before .pre, digits-length (c .before .before .before .before .args .v), c .before .before .number-width .ensures)
+add-result c = omega (arith, c .before .before .before .before .pre .1, digits-length (c .before .before .before .before .args .v), c .before .before .number-width .ensures)
 
 same-length : tie.Need-same-length Inv-loop μ-loop
-same-length c = c .before .loop .inv .1 .0
+same-length c = placed-long _ _ _ _ _ _ _ (c .before .loop .inv)
 
 returns : tie.Need-returns Inv-loop μ-loop
-returns c = record { next = omega (arith, digits-length (c .before .before .before .before .args .v), c .before .before .number-width .ensures); holds = sym (places-end _ _ _ _ _ (c .loop-test .left)) ∙ c .before .loop .inv .1 .1 }
+returns c = placed-end _ _ _ _ _ _ _ (c .before .loop .inv) (c .loop-test .left) (c .before .before .number-width .ensures)
 
 pub put-number-spec : {M : Type 1} → statement M
 put-number-spec =
     tie.close
-    (tie.spec Inv-loop μ-loop (λ c κs. search needs) loop-holds (λ c. search needs) (λ c. search needs) scale-requires div-digit (λ c κs. search needs) add-out slice-write-out (λ c. search needs) (λ c. search needs) loop-again add-result same-length returns)
+    (tie.spec Inv-loop μ-loop (λ c κs. search needs) loop-holds (λ c κs. search needs) (λ c. search needs) (λ c. search needs) add-out-2 slice-write-out (λ c. search needs) (λ c. search needs) loop-again add-result same-length returns)
