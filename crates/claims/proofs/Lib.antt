@@ -6,6 +6,7 @@ pub mod Requests
 pub mod Successes
 pub mod Cycles
 pub mod Models
+pub mod Digits
 pub mod OpenSteps
 pub mod Refusals
 pub mod Said

@@ -23,7 +23,10 @@ use Rattle.models_list.specs.Answer.{modelsAnswer, modelsOut}
 use Rattle.step_lists.specs.Lists as checking
 use Rattle.step_questions.specs.Questions as steps
 use Rattle.reducer_results.specs.Reductions as reductions
-use Rattle.claims.proofs.Said.{Example, Said, row, writes, lists, value, refusal, checkCall, modelsCall, cycleCall, AllSay}
+use Rattle.text_form.specs.Digits.{between, width, places, digits, others, commas}
+use Rattle.text_form.specs.Render.{lineText, clauseText, clausesText, render}
+use Rattle.text_form.specs.Writer.{textOf, writeAnswer, outAfter}
+use Rattle.claims.proofs.Said.{Example, Said, row, writes, lists, texts, digitsAre, value, refusal, checkCall, modelsCall, cycleCall, writeCall, AllSay}
 
 -- a list checked on a table
 abbrev checks : List ℕ → List ℕ → Said → Example
@@ -114,8 +117,35 @@ rows =
     ∷ models (17 ∷ 0 ∷ []) 6 (refusal 30 0)
     ∷ models (17 ∷ 0 ∷ []) 0 (refusal 30 0)
     ∷ models (17 ∷ 0 ∷ 0 ∷ []) 6 (refusal 8 2)
+    -- Slip 4. "cases that people can hold against the text form: 0 to 9, 10 to 99, 100 to 999, 1,000 to 9,999, and for the place of a refusal 10,000 to 65,536": both ends of each
+    ∷ digitsAre 0 (48 ∷ [])
+    ∷ digitsAre 9 (57 ∷ [])
+    ∷ digitsAre 10 (49 ∷ 48 ∷ [])
+    ∷ digitsAre 99 (57 ∷ 57 ∷ [])
+    ∷ digitsAre 100 (49 ∷ 48 ∷ 48 ∷ [])
+    ∷ digitsAre 999 (57 ∷ 57 ∷ 57 ∷ [])
+    ∷ digitsAre 1000 (49 ∷ 48 ∷ 48 ∷ 48 ∷ [])
+    ∷ digitsAre 9999 (57 ∷ 57 ∷ 57 ∷ 57 ∷ [])
+    ∷ digitsAre 10000 (49 ∷ 48 ∷ 48 ∷ 48 ∷ 48 ∷ [])
+    ∷ digitsAre 65536 (54 ∷ 53 ∷ 53 ∷ 51 ∷ 54 ∷ [])
+    -- "every output keeps its bytes": "atoms=" and the number, "clauses=0"
+    ∷ texts (9 ∷ 0 ∷ []) (97 ∷ 116 ∷ 111 ∷ 109 ∷ 115 ∷ 61 ∷ 57 ∷ 10 ∷ 99 ∷ 108 ∷ 97 ∷ 117 ∷ 115 ∷ 101 ∷ 115 ∷ 61 ∷ 48 ∷ 10 ∷ [])
+    ∷ texts (10 ∷ 0 ∷ []) (97 ∷ 116 ∷ 111 ∷ 109 ∷ 115 ∷ 61 ∷ 49 ∷ 48 ∷ 10 ∷ 99 ∷ 108 ∷ 97 ∷ 117 ∷ 115 ∷ 101 ∷ 115 ∷ 61 ∷ 48 ∷ 10 ∷ [])
+    ∷ texts (99 ∷ 0 ∷ []) (97 ∷ 116 ∷ 111 ∷ 109 ∷ 115 ∷ 61 ∷ 57 ∷ 57 ∷ 10 ∷ 99 ∷ 108 ∷ 97 ∷ 117 ∷ 115 ∷ 101 ∷ 115 ∷ 61 ∷ 48 ∷ 10 ∷ [])
+    ∷ texts (100 ∷ 0 ∷ []) (97 ∷ 116 ∷ 111 ∷ 109 ∷ 115 ∷ 61 ∷ 49 ∷ 48 ∷ 48 ∷ 10 ∷ 99 ∷ 108 ∷ 97 ∷ 117 ∷ 115 ∷ 101 ∷ 115 ∷ 61 ∷ 48 ∷ 10 ∷ [])
+    ∷ texts (999 ∷ 0 ∷ []) (97 ∷ 116 ∷ 111 ∷ 109 ∷ 115 ∷ 61 ∷ 57 ∷ 57 ∷ 57 ∷ 10 ∷ 99 ∷ 108 ∷ 97 ∷ 117 ∷ 115 ∷ 101 ∷ 115 ∷ 61 ∷ 48 ∷ 10 ∷ [])
+    ∷ texts (1000 ∷ 0 ∷ []) (97 ∷ 116 ∷ 111 ∷ 109 ∷ 115 ∷ 61 ∷ 49 ∷ 48 ∷ 48 ∷ 48 ∷ 10 ∷ 99 ∷ 108 ∷ 97 ∷ 117 ∷ 115 ∷ 101 ∷ 115 ∷ 61 ∷ 48 ∷ 10 ∷ [])
+    -- "atoms=1024", "clauses=1", "head=9,10,99,100,999,1000,1023", "pos=", "neg="
+    ∷ texts (1024 ∷ 1 ∷ 7 ∷ 0 ∷ 0 ∷ 9 ∷ 10 ∷ 99 ∷ 100 ∷ 999 ∷ 1000 ∷ 1023 ∷ []) (97 ∷ 116 ∷ 111 ∷ 109 ∷ 115 ∷ 61 ∷ 49 ∷ 48 ∷ 50 ∷ 52 ∷ 10 ∷ 99 ∷ 108 ∷ 97 ∷ 117 ∷ 115 ∷ 101 ∷ 115 ∷ 61 ∷ 49 ∷ 10 ∷ 104 ∷ 101 ∷ 97 ∷ 100 ∷ 61 ∷ 57 ∷ 44 ∷ 49 ∷ 48 ∷ 44 ∷ 57 ∷ 57 ∷ 44 ∷ 49 ∷ 48 ∷ 48 ∷ 44 ∷ 57 ∷ 57 ∷ 57 ∷ 44 ∷ 49 ∷ 48 ∷ 48 ∷ 48 ∷ 44 ∷ 49 ∷ 48 ∷ 50 ∷ 51 ∷ 10 ∷ 112 ∷ 111 ∷ 115 ∷ 61 ∷ 10 ∷ 110 ∷ 101 ∷ 103 ∷ 61 ∷ 10 ∷ [])
+    -- m empty clauses: "atoms=0" and its line feed are 8 bytes, "clauses=" and one 9, a clause 16, and the digits of m
+    ∷ row (writeCall (0 ∷ 9 ∷ replicate 27 0) 162) (value 162)
+    ∷ row (writeCall (0 ∷ 10 ∷ replicate 30 0) 179) (value 179)
+    ∷ row (writeCall (0 ∷ 9 ∷ replicate 27 0) 161) (refusal 28 0)
+    ∷ row (writeCall (0 ∷ 10 ∷ replicate 30 0) 178) (refusal 28 0)
+    ∷ row (writeCall (0 ∷ 99 ∷ replicate 297 0) 1603) (value 1603)
+    ∷ row (writeCall (0 ∷ 100 ∷ replicate 300 0) 1620) (value 1620)
     ∷ []
 
 pub requests : AllSay rows
-unfolding left fire reachFrom reach inNoHead condition conditionHolds applies effect least firstAtom firstPartner firstTarget firstStep reduce ask questions.atomsFrom questions.partsFrom questions.clauseFrom questions.clausesFrom questions.allUsed questions.tableOf startFrom clausesOf programOf part entryAt entriesFrom view find clears marksAfter marksAfterAll steps.shapeQuestions steps.stepQuestions checking.stepsFrom checking.checkList wordsOf reductions.bodyLiterals reductions.room reductions.stepsOf reductions.reduction questions.onWalk questions.onTable turned leads cyclic cycleOf programs.satisfies programs.reduct programs.models sublists stableTest below entriesOf stableWord modelsOf modelsAnswer modelsOut writtenIf
-requests = (refl, (refl, (refl, ((refl, refl), (refl, (refl, (refl, (refl, (refl, (refl, (refl, (refl, (refl, (refl, (refl, (refl, ((refl, refl), (refl, (refl, (refl, (refl, (refl, (refl, (refl, (refl, (refl, (refl, ((refl, refl), ((refl, refl), ((refl, refl), ((refl, refl), ((refl, refl), ((refl, refl), ((refl, refl), ((refl, refl), ((refl, refl), ((refl, refl), ((refl, refl), (refl, (refl, (refl, (refl, (refl, (refl, (refl, tt)))))))))))))))))))))))))))))))))))))))))))))
+unfolding left fire reachFrom reach inNoHead condition conditionHolds applies effect least firstAtom firstPartner firstTarget firstStep reduce ask questions.atomsFrom questions.partsFrom questions.clauseFrom questions.clausesFrom questions.allUsed questions.tableOf startFrom clausesOf programOf part entryAt entriesFrom view find clears marksAfter marksAfterAll steps.shapeQuestions steps.stepQuestions checking.stepsFrom checking.checkList wordsOf reductions.bodyLiterals reductions.room reductions.stepsOf reductions.reduction questions.onWalk questions.onTable turned leads cyclic cycleOf programs.satisfies programs.reduct programs.models sublists stableTest below entriesOf stableWord modelsOf modelsAnswer modelsOut writtenIf between width places digits others commas lineText clauseText clausesText render textOf writeAnswer outAfter
+requests = (refl, (refl, (refl, ((refl, refl), (refl, (refl, (refl, (refl, (refl, (refl, (refl, (refl, (refl, (refl, (refl, (refl, ((refl, refl), (refl, (refl, (refl, (refl, (refl, (refl, (refl, (refl, (refl, (refl, ((refl, refl), ((refl, refl), ((refl, refl), ((refl, refl), ((refl, refl), ((refl, refl), ((refl, refl), ((refl, refl), ((refl, refl), ((refl, refl), ((refl, refl), (refl, (refl, (refl, (refl, (refl, (refl, (refl, (refl, (refl, (refl, (refl, (refl, (refl, (refl, (refl, (refl, (refl, ((refl, refl), ((refl, refl), ((refl, refl), ((refl, refl), ((refl, refl), ((refl, refl), ((refl, refl), (refl, (refl, (refl, (refl, (refl, (refl, tt))))))))))))))))))))))))))))))))))))))))))))))))))))))))))))))))))))

@@ -20,7 +20,8 @@ use Rattle.models_test.specs.Answer.{testOf}
 use Rattle.models_list.specs.Answer.{modelsAnswer, modelsOut}
 use Rattle.cycle.specs.Answer.{cycleOf}
 use Rattle.text_form.specs.Reader.{readAnswer}
-use Rattle.text_form.specs.Writer.{writeAnswer}
+use Rattle.text_form.specs.Digits.{digits}
+use Rattle.text_form.specs.Writer.{writeAnswer, outAfter}
 
 pub data Said : Type 0 where
   value : ℕ → Said
@@ -69,11 +70,13 @@ firstNo ws ms ls k = stepQuestions some (getD ws 0 0) (view ws ms) (kindAt ls k)
 
 -- ---- rows of tables that are computed
 
--- a call says this; or the reducer writes this list for a table; or these are the words of its stable models
+-- a call says this; or the reducer writes this list for a table; or these are the words of its stable models; or these are the bytes of its text; or of a number
 pub data Example : Type 0 where
   row : Call → Said → Example
   writes : List ℕ → List ℕ → Example
   lists : List ℕ → List ℕ → Example
+  texts : List ℕ → List ℕ → Example
+  digitsAre : ℕ → List ℕ → Example
 
 -- the reducer's call, lent a mark for each word and 64 words for the list, at first all 0
 abbrev pub reduced64 : List ℕ → Reduction
@@ -84,6 +87,9 @@ Says (row c s) = says c ≡ s
 Says (writes ws l) = (reduced64 ws .answer ≡ Accepted (length l / 4)) × (reduced64 ws .list ≡ written l (replicate 64 0))
 -- into a slice of six words, at first all 9
 Says (lists ws l) = (modelsAnswer ws 6 ≡ Accepted (length l)) × (modelsOut ws (replicate 6 9) ≡ written l (replicate 6 9))
+-- into a slice of 64 bytes, at first all dots
+Says (texts ws bs) = (writeAnswer ws 64 ≡ Accepted (length bs)) × (outAfter ws (replicate 64 46) ≡ written bs (replicate 64 46))
+Says (digitsAre v bs) = digits v ≡ bs
 
 abbrev pub AllSay : List Example → Type 0
 AllSay [] = Unit {0}

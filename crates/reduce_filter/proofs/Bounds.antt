@@ -29,12 +29,12 @@ use Rattle.reduce_filter.proofs.Steps.{stepText, stepsText}
 -- ---- the words of a step
 
 -- the words of an applicable step on m clauses and n atoms
-record Small (n m : ℕ) (s : Step) : Type 0 where
-  target : s .target < m
-  partner : s .partner ≤ m
-  atom : s .atom ≤ n
+pub record Small (n m : ℕ) (s : Step) : Type 0 where
+  pub target : s .target < m
+  pub partner : s .partner ≤ m
+  pub atom : s .atom ≤ n
 
-applies-small : (n : ℕ) (P : Marked) (s : Step) → So (applies n P s) → Small n (length P) s
+pub applies-small : (n : ℕ) (P : Marked) (s : Step) → So (applies n P s) → Small n (length P) s
 unfolding applies
 applies-small n P s h =
     let w = simp and-iff at h in
@@ -100,7 +100,7 @@ steps-lines n m P (s ∷ l) a b e h =
 
 -- ---- the reducer's list
 
-length-whole : (cs : List Clause) → length (whole cs) ≡ length cs
+pub length-whole : (cs : List Clause) → length (whole cs) ≡ length cs
 length-whole [] = refl
 length-whole (c ∷ cs) = ap suc (length-whole cs)
 

@@ -6,4 +6,5 @@ pub mod Output
 pub mod Answers
 pub mod Prints
 pub mod ReadsBack
+pub mod Before
 pub mod Input

@@ -61,8 +61,8 @@ module _ (ts new : List ℕ) (k : ℕ) (h : readAnswer ts (length blank) ≡ Acc
 -- ---- a text that is refused
 
 -- its number and place are numbers that can be written
-pub refused-small : (ts : List ℕ) (r : Refusal) → readAnswer ts (length blank) ≡ Refused r → (refusalNumber r ≤ 65536) × (refusalPlace r ≤ 65536)
-refused-small ts r h = (omega (arith, number-range r .1), subst Small h (read-small ts (length blank)))
+pub refused-small : (ts : List ℕ) (room : ℕ) (r : Refusal) → readAnswer ts room ≡ Refused r → (refusalNumber r ≤ 65536) × (refusalPlace r ≤ 65536)
+refused-small ts room r h = (omega (arith, number-range r .1), subst Small h (read-small ts room))
 
 pub refused-output : (ts : List ℕ) (r : Refusal) → readAnswer ts (length blank) ≡ Refused r → refusalText r ≡ outputOf ts
 unfolding outputOf

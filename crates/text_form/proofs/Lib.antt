@@ -5,3 +5,4 @@ pub mod Lines
 pub mod Texts
 pub mod Near
 pub mod Calls
+pub mod Before

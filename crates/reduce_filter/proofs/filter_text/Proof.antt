@@ -14,7 +14,7 @@ put-reduced-requires : tie.Need-put-reduced-requires
 put-reduced-requires c κs = (words-passed (c .before .before .before .before .before .before .before .before .before .before .before .args .text .now) _ _ (sym (c .before .before .before .before .before .before .before .read-text .ensures .0) ∙ c .before .before .before .before .answer .given .1) (c .before .before .before .before .before .before .before .read-text .ensures .1), omega (arith, c .before .before .before .before .before .before .before .before .before .before .before .pre))
 
 put-refused-requires : tie.Need-put-refused-requires
-put-refused-requires c κs = (rw (c .before .before .refusal-number .ensures, c .refusal-place .ensures) (refused-small (c .before .before .before .before .before .before .before .before .before .before .before .args .text .now) _ (sym (c .before .before .before .before .before .before .before .read-text .ensures .0) ∙ c .before .before .before .before .answer2 .given .1)), omega (arith, c .before .before .before .before .before .before .before .before .before .before .before .pre, refused-short (c .before .before .refusal-number .result) (c .refusal-place .result)))
+put-refused-requires c κs = (rw (c .before .before .refusal-number .ensures, c .refusal-place .ensures) (refused-small (c .before .before .before .before .before .before .before .before .before .before .before .args .text .now) _ _ (sym (c .before .before .before .before .before .before .before .read-text .ensures .0) ∙ c .before .before .before .before .answer2 .given .1)), omega (arith, c .before .before .before .before .before .before .before .before .before .before .before .pre, refused-short (c .before .before .refusal-number .result) (c .refusal-place .result)))
 
 returns : tie.Need-returns
 returns c = puts-prints _ _ _ _ _ _ (sym (c .before .before .before .before .before .before .before .before .before .before .read-text .ensures .0) ∙ c .before .before .before .before .before .before .before .answer .given .1) refl (c .before .before .before .before .before .before .before .before .before .before .before .before .before .before .pre) (output-short _ (words-passed (c .before .before .before .before .before .before .before .before .before .before .before .before .before .before .args .text .now) _ _ (sym (c .before .before .before .before .before .before .before .before .before .before .read-text .ensures .0) ∙ c .before .before .before .before .before .before .before .answer .given .1) (c .before .before .before .before .before .before .before .before .before .before .read-text .ensures .1))) (words-output (c .before .before .before .before .before .before .before .before .before .before .before .before .before .before .args .text .now) _ _ (sym (c .before .before .before .before .before .before .before .before .before .before .read-text .ensures .0) ∙ c .before .before .before .before .before .before .before .answer .given .1) (c .before .before .before .before .before .before .before .before .before .before .read-text .ensures .1)) (c .before .before .put-reduced .ensures)

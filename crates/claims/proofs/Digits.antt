@@ -1,0 +1,61 @@
+-- Slip 4 of document 02, "Digits by cases": of every number from 0 to 65,536, and of the text of every table.
+use Prim.Native.Nat.{ℕ, _≤_}
+use mathlib.Core.Path.{_≡_, sym, ap, _∙_}
+use mathlib.Core.List.{List, [], _∷_, append-nil}
+use mathlib.Core.Bool.{true}
+use lib.ListN.{length}
+use Rattle.table.specs.Questions.{Passed}
+use Rattle.table.specs.Programs.{programOf}
+use Rattle.text_form.specs.Digits.{width, digits, others, commas}
+use Rattle.text_form.specs.Numerals.{Numeral}
+use Rattle.text_form.specs.Reader.{numbers}
+use Rattle.text_form.specs.Writer.{textOf}
+use Rattle.text_form.proofs.Widths as widths
+use Rattle.text_form.proofs.Numbers.{numbers-of}
+use Rattle.text_form.proofs.Before.{renderBy, digitsBefore, digits-before, text-by}
+
+-- ---- "For every number from 0 to 65,536 the digits written are proved to be as many as its case says"
+
+pub as-many : (v : ℕ) → length (digits v) ≡ width v
+as-many v = widths.digits-length v
+
+-- "0 to 9"
+pub one-digit : (v : ℕ) → v ≤ 9 → length (digits v) ≡ 1
+one-digit v h = as-many v ∙ widths.one-digit v h
+
+-- "10 to 99"
+pub two-digits : (v : ℕ) → 10 ≤ v → v ≤ 99 → length (digits v) ≡ 2
+two-digits v a b = as-many v ∙ widths.two-digits v a b
+
+-- "100 to 999"
+pub three-digits : (v : ℕ) → 100 ≤ v → v ≤ 999 → length (digits v) ≡ 3
+three-digits v a b = as-many v ∙ widths.three-digits v a b
+
+-- "1,000 to 9,999"
+pub four-digits : (v : ℕ) → 1000 ≤ v → v ≤ 9999 → length (digits v) ≡ 4
+four-digits v a b = as-many v ∙ widths.four-digits v a b
+
+-- "and for the place of a refusal 10,000 to 65,536"
+pub five-digits : (v : ℕ) → 10000 ≤ v → v ≤ 65536 → length (digits v) ≡ 5
+five-digits v a b = as-many v ∙ widths.five-digits v a b
+
+-- ---- the digits are the number's
+
+-- They are digits, without leading zero save 0 itself, and stand for the number;
+pub read-back : (v : ℕ) → v ≤ 65536 → Numeral (digits v) v
+read-back = widths.digits-numeral
+
+-- no other bytes do.
+pub no-other : (bs : List ℕ) (v : ℕ) → v ≤ 65536 → Numeral bs v → bs ≡ digits v
+no-other = widths.numeral-digits
+
+-- The reader of texts reads them as the number, up to four digits.
+pub reader-reads : (v : ℕ) → v ≤ 9999 → numbers (digits v) ≡ record { ok = true; xs = v ∷ [] }
+unfolding commas others
+reader-reads v h = ap numbers (sym (append-nil (digits v))) ∙ numbers-of (v ∷ []) (h, tt)
+
+-- ---- "every output keeps its bytes"
+
+-- The text of every table is what it was with the number of digits found as before; the program's output likewise: `output-before` (`reduce_filter/proofs/Before.antt`).
+pub text-before : (ws : List ℕ) → Passed ws → renderBy digitsBefore (programOf ws) ≡ textOf ws
+text-before = text-by digitsBefore digits-before
