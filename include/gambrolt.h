@@ -53,7 +53,7 @@ extern "C" {
 
 /* ---- Version --------------------------------------------------------------------------------------------------------- */
 
-#define GAMBROLT_VERSION "3.1.0"
+#define GAMBROLT_VERSION "3.1.1"
 
 static inline const char *gambrolt_version(void)
 {

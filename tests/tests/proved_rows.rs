@@ -195,6 +195,36 @@ fn models() {
     assert_eq!(count(&[17, 0, 0], 6), no(8, 2));
 }
 
+/// A table's text, in a slice of 64 bytes that were dots.
+fn written(words: &[u16], text: &str) {
+    let (answer, bytes) = Tally::new().write_text(words, &[b'.'; 64]);
+    assert_eq!(answer, Ok(text.len() as u64));
+    assert_eq!(String::from_utf8(bytes).unwrap(), format!("{text:.<64}"));
+}
+
+/// Slip 4: texts with numbers at both ends of each case. The digits of a number alone are lines of the program `cases`.
+#[test]
+fn numbers() {
+    written(&[9, 0], "atoms=9\nclauses=0\n");
+    written(&[10, 0], "atoms=10\nclauses=0\n");
+    written(&[99, 0], "atoms=99\nclauses=0\n");
+    written(&[100, 0], "atoms=100\nclauses=0\n");
+    written(&[999, 0], "atoms=999\nclauses=0\n");
+    written(&[1000, 0], "atoms=1000\nclauses=0\n");
+    let atoms = [1024, 1, 7, 0, 0, 9, 10, 99, 100, 999, 1000, 1023];
+    written(&atoms, "atoms=1024\nclauses=1\nhead=9,10,99,100,999,1000,1023\npos=\nneg=\n");
+    let clauses = |m: u16, room: usize| {
+        let words = [vec![0, m], vec![0; 3 * usize::from(m)]].concat();
+        Tally::new().write_text(&words, &vec![b'.'; room]).0
+    };
+    assert_eq!(clauses(9, 162), Ok(162));
+    assert_eq!(clauses(10, 179), Ok(179));
+    assert_eq!(clauses(9, 161), no(28, 0));
+    assert_eq!(clauses(10, 178), no(28, 0));
+    assert_eq!(clauses(99, 1603), Ok(1603));
+    assert_eq!(clauses(100, 1620), Ok(1620));
+}
+
 /// `OpenSteps.antt`: the lists that the reducer has to write.
 #[test]
 fn open_steps() {
