@@ -1,17 +1,20 @@
 -- Slip 4 of document 02, "Digits by cases": of every number from 0 to 65,536, and of the text of every table.
 use Prim.Native.Nat.{ℕ, _≤_}
-use mathlib.Core.Path.{_≡_, sym, ap, _∙_}
-use mathlib.Core.List.{List, [], _∷_, append-nil}
+use mathlib.Core.Path.{_≡_, sym, ap, subst, _∙_}
+use mathlib.Core.Logic.{_↔_}
+use mathlib.Core.List.{List, [], _∷_}
 use mathlib.Core.Bool.{true}
+use native.Mathlib.Omega.{arith}
 use lib.ListN.{length}
 use Rattle.table.specs.Questions.{Passed}
 use Rattle.table.specs.Programs.{programOf}
-use Rattle.text_form.specs.Digits.{width, digits, others, commas}
+use Rattle.text_form.specs.Digits.{width, digits, commas}
 use Rattle.text_form.specs.Numerals.{Numeral}
 use Rattle.text_form.specs.Reader.{numbers}
 use Rattle.text_form.specs.Writer.{textOf}
 use Rattle.text_form.proofs.Widths as widths
-use Rattle.text_form.proofs.Numbers.{numbers-of}
+use Rattle.text_form.proofs.Numbers.{FourDigits, numbers-of, numbers-inv}
+use Rattle.text_form.proofs.Lines.{commas-one}
 use Rattle.text_form.proofs.Before.{renderBy, digitsBefore, digits-before, text-by}
 
 -- ---- "For every number from 0 to 65,536 the digits written are proved to be as many as its case says"
@@ -49,10 +52,12 @@ read-back = widths.digits-numeral
 pub no-other : (bs : List ℕ) (v : ℕ) → v ≤ 65536 → Numeral bs v → bs ≡ digits v
 no-other = widths.numeral-digits
 
--- The reader of texts reads them as the number, up to four digits.
-pub reader-reads : (v : ℕ) → v ≤ 9999 → numbers (digits v) ≡ record { ok = true; xs = v ∷ [] }
-unfolding commas others
-reader-reads v h = ap numbers (sym (append-nil (digits v))) ∙ numbers-of (v ∷ []) (h, tt)
+-- The reader of texts reads bytes as one number exactly when they are its numeral, of at most four digits.
+pub reader-exactly : (bs : List ℕ) (v : ℕ) → (numbers bs ≡ record { ok = true; xs = v ∷ [] }) ↔ (Numeral bs v × (v ≤ 9999))
+reader-exactly bs v = (
+  λ h. let w = subst (λ l. (bs ≡ commas l) × FourDigits l) (ap (λ s. s .xs) h) (numbers-inv bs (ap (λ s. s .ok) h)) in (rw (w .0, commas-one v) (read-back v (omega (arith, w .1 .0))), w .1 .0),
+  λ h. ap numbers (no-other bs v (omega (arith, h .1)) (h .0) ∙ sym (commas-one v)) ∙ numbers-of (v ∷ []) (h .1, tt),
+)
 
 -- ---- "every output keeps its bytes"
 

@@ -10,7 +10,6 @@ use Rattle.semantics.proofs.Tests.{and-iff}
 use Rattle.rewriting.specs.Marked.{Marked, whole}
 use Rattle.rewriting.specs.Steps.{Step, applies, effect}
 use Rattle.rewriting.specs.Runs.{accepted}
-use Rattle.rewriting.specs.Kinds.{number}
 use Rattle.rewriting.proofs.Effect.{length-effect}
 use Rattle.rewriting.proofs.Rows.{number-bounds}
 use Rattle.answers.specs.declared.Refusal.{Refusal}

@@ -1,7 +1,7 @@
 -- "every output keeps its bytes", of texts: how many digits a number has was found otherwise before slip 4, and every text is what it was. The texts are written here with
 -- another way `d` of writing numbers; one that agrees with `digits` up to 65,536, the largest number that is written, gives the same bytes.
 use Prim.Native.Nat.{ℕ, _≤_}
-use mathlib.Core.Path.{_≡_, refl, ap, ap₂, _∙_}
+use mathlib.Core.Path.{_≡_, refl, ap}
 use mathlib.Core.List.{List, [], _∷_, _++_, List·Memᴰ·head, List·Memᴰ·tail}
 use mathlib.Core.Bool.{cond}
 use native.Mathlib.Omega.{arith}

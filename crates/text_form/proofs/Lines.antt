@@ -233,7 +233,7 @@ one [] h = absurd (omega arith)
 one (x ∷ []) h = refl
 one (x ∷ y ∷ xs) h = absurd (omega arith)
 
-commas-one : (x : ℕ) → commas (x ∷ []) ≡ digits x
+pub commas-one : (x : ℕ) → commas (x ∷ []) ≡ digits x
 unfolding commas others
 commas-one x = append-nil (digits x)
 

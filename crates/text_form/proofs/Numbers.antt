@@ -1,21 +1,19 @@
 -- The digits of a number read back as the number, and what reads as a number is its digits; the same for lists.
-use Prim.Native.Nat.{ℕ, zero, suc, _+_, _-_, _*_, _/_, _%_, _^_, _≤_, _<_}
+use Prim.Native.Nat.{ℕ, zero, suc, _+_, _-_, _*_, _/_, _%_, _≤_, _<_}
 use mathlib.Core.Path.{_≡_, refl, sym, ap, _∙_}
 use mathlib.Core.Logic.{by-cases}
 use mathlib.Core.List.{List, [], _∷_, _++_, append-assoc}
 use mathlib.Core.Bool.{Bool, true, false, _&&_, _||_, not, cond}
 use native.Mathlib.Omega.{arith}
-use native.Mathlib.Nat.{div-div-eq-div-mul, pow-suc, mul-comm}
 use native.Mathlib.Decide.{decLt}
-use lib.ListN.{length}
 use lib.Dec.{leb, eqb}
-use borrow.Author.Tests.{le-ltb, lt-ltb, le-leb, leb-true, eqb-true}
+use borrow.Author.Tests.{le-leb, leb-true, eqb-true}
 use Rattle.semantics.proofs.Tests.{and-iff}
 use Rattle.text_form.specs.declared.Next.{Next}
 use Rattle.text_form.specs.declared.Next.the-variants.{Digit, Comma, Bad}
-use Rattle.text_form.specs.Digits.{width, places, digits, others, commas}
+use Rattle.text_form.specs.Digits.{digits, others, commas}
 use Rattle.text_form.specs.Reader.{nextOf, Scanned, emit, onNext, scan, numbers}
-use Rattle.text_form.proofs.Widths.{width-by, digits-one, digits-more, digits-last}
+use Rattle.text_form.proofs.Widths.{digits-one, digits-more, digits-last}
 
 -- ---- one byte
 
