@@ -91,6 +91,16 @@ fn parsed(room: u16, text: &[u8]) -> String {
     format!("{} words={}", answered(answer), words_shown(&table[..answer.unwrap_or(0) as usize], 7))
 }
 
+/// The numbers from the first word on, as many more as the second says, up to 65,536: how many, how many bytes, a sum over
+/// these, and the last one's. No call of the library writes a number alone.
+fn digits(words: &[u16]) -> String {
+    let (first, more) = (u32::from(words[0]), u32::from(words[1]));
+    let numbers: Vec<String> = (first..=65536.min(first + more)).map(|number| number.to_string()).collect();
+    let bytes = numbers.concat().into_bytes();
+    let sum = bytes.iter().fold(0, |sum, &byte| (31 * sum + u32::from(byte)) % 65521);
+    format!("numbers={} bytes={} sum={sum} text={}..", numbers.len(), bytes.len(), numbers.last().unwrap())
+}
+
 /// The line that the program prints for a case.
 fn printed(case: &[u8]) -> String {
     let (before, after) = parts(case);
@@ -105,6 +115,7 @@ fn printed(case: &[u8]) -> String {
         b"kept" => kept(&words, &numbers(after)),
         b"write" => write(&words, &numbers(after)),
         b"parse" => parsed(words[0], after),
+        b"digits" => digits(&words),
         _ => panic!("no such call: {}", case.escape_ascii()),
     }
 }

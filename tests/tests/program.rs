@@ -2,6 +2,7 @@
 //! and with the exit status that `reduce/main.c` gives it.
 #![deny(warnings)]
 use gambrolt_tests::independent::filter::output;
+use gambrolt_tests::independent::text::read_text;
 use gambrolt_tests::make::programs::any_size;
 use gambrolt_tests::make::texts;
 use gambrolt_tests::random::Random;
@@ -93,6 +94,151 @@ fn success_lines() {
         let lines = format!("steps=300\n{}{last}", (0..facts).map(success).collect::<String>());
         assert!(compared(text.as_bytes()).ends_with(&lines));
     }
+}
+
+/// The lines of a program up to so many bytes: empty clauses, as many as fit, then atom 0 on as many of their lines as bytes
+/// are left. So many clauses more are announced than follow.
+fn filled(bytes: usize, more: usize) -> String {
+    let lines = |clauses: usize, zeros: usize| {
+        let value = |line: usize| if line < zeros { "0" } else { "" };
+        let line = |line: usize| format!("{}={}\n", ["head", "pos", "neg"][line % 3], value(line));
+        format!("atoms=1\nclauses={}\n{}", clauses + more, (0..3 * clauses).map(line).collect::<String>())
+    };
+    let clauses = (0..).take_while(|&clauses| lines(clauses, 0).len() <= bytes).last().expect("two lines fit");
+    let text = lines(clauses, bytes - lines(clauses, 0).len());
+    assert_eq!(text.len(), bytes);
+    text
+}
+
+/// The longest text that is taken. The keys of a clause give 16 bytes for three words and an atom at most 5 with its comma, so
+/// there are 2,048 clauses; the 2,046 words left are atoms of four digits, in as few lists as can be, as the first of a list
+/// has no comma: 85 lists of all 24 such atoms, and one of 6.
+fn longest() -> String {
+    let counts = [vec![24; 85], vec![6], vec![0; 3 * 2048 - 86]].concat();
+    let value = |count: usize| (1000..1000 + count).map(|atom| atom.to_string()).collect::<Vec<_>>().join(",");
+    let line = |(line, &count): (usize, &usize)| format!("{}={}\n", ["head", "pos", "neg"][line % 3], value(count));
+    format!("atoms=1024\nclauses=2048\n{}", counts.iter().enumerate().map(line).collect::<String>())
+}
+
+/// The text is taken, and with a byte behind it refused by 27 at its length.
+fn refused_behind(text: &str) {
+    assert!(read_text(text.as_bytes(), &[0; 8192]).0.is_ok() && run(PROGRAM, text.as_bytes()).0.starts_with("atoms="));
+    assert_eq!(compared(format!("{text}x").as_bytes()), format!("refused=27,{}\n", text.len()));
+}
+
+/// Places of one to five digits, at the ends of each number of digits. The first line's place is 0, the second's 8 to 11, and
+/// every other is at least 18. No text gives a place above 42,936, which is where the longest that is taken ends.
+#[test]
+fn places_of_every_length() {
+    let refused = |text: &str, number: u64, place: usize| {
+        assert_eq!(compared(text.as_bytes()), format!("refused={number},{place}\n"));
+    };
+    for (atoms, place) in [(9, 8), (10, 9), (99, 9), (100, 10), (999, 10), (1000, 11)] {
+        let first = format!("atoms={atoms}\n");
+        refused(&first, 24, place);
+        refused(&format!("{first}clauses=00\n"), 25, place);
+        refused(&format!("{first}clauses=2049\n"), 3, place);
+    }
+    for place in [99, 100, 101, 999, 1000, 1001, 9999, 10000, 10001, 20000] {
+        let lines = filled(place, 1);
+        refused(&lines, 24, place);
+        refused(&format!("{lines}head=00\n"), 25, place);
+        refused(&format!("{lines}head=1\n"), 6, place);
+        refused(&format!("{lines}head=0,0\n"), 7, place);
+        refused_behind(&filled(place, 0));
+    }
+    refused_behind(std::str::from_utf8(SHORT).unwrap());
+    assert_eq!(longest().len(), 42936);
+    assert_eq!(read_text(longest().as_bytes(), &[0; 8192]).0, Ok(8192));
+    refused_behind(&longest());
+}
+
+/// The numbers joined by commas.
+fn joined(numbers: impl Iterator<Item = usize>) -> String {
+    numbers.map(|number| number.to_string()).collect::<Vec<_>>().join(",")
+}
+
+/// Facts, each of the atoms that its value names.
+fn facts(values: impl Iterator<Item = String>) -> String {
+    values.map(|value| format!("head={value}\npos=\nneg=\n")).collect()
+}
+
+/// The step lines of these steps, below their number.
+fn steps(steps: impl Iterator<Item = [usize; 4]>) -> String {
+    let lines: Vec<String> = steps.map(|step| format!("step={}\n", joined(step.into_iter()))).collect();
+    format!("steps={}\n{}", lines.len(), lines.concat())
+}
+
+/// The program gives the text back, with no step.
+fn unchanged(text: &str) {
+    assert_eq!(compared(text.as_bytes()), format!("{text}steps=0\n"));
+}
+
+/// The program prints this. The literal implementation takes too long for such a text.
+fn prints(text: &str, printed: &str) {
+    assert!(run(PROGRAM, text.as_bytes()) == (printed.into(), Some(0)), "{}", &text[..40]);
+}
+
+/// Numbers of atoms, of clauses, and atoms of one to four digits, at the ends of each number of digits.
+#[test]
+fn numbers_of_every_length() {
+    for n in [1, 9, 10, 99, 100, 999, 1000, 1024] {
+        unchanged(&format!("atoms={n}\nclauses=0\n"));
+        unchanged(&format!("atoms={n}\nclauses=1\nhead={}\npos=\nneg=\n", n - 1));
+    }
+    for m in [9, 10, 99, 100, 999, 1000] {
+        unchanged(&format!("atoms=1024\nclauses={m}\n{}", facts((0..m).map(|atom| atom.to_string()))));
+    }
+    // all pairs of neighbours and of next but one, as many as a table holds
+    let pairs = (0..1023).map(|atom| [atom, atom + 1]).chain((0..615).map(|atom| [atom, atom + 2]));
+    unchanged(&format!("atoms=1024\nclauses=1638\n{}", facts(pairs.map(|pair| joined(pair.into_iter())))));
+    // in each part; atom 1 keeps the fact from blocking the last clause
+    let ends = "9,10,99,100,999,1000,1023";
+    let clauses = format!("head=1,{ends}\npos=\nneg=\nhead=0\npos={ends}\nneg=\nhead=0\npos=\nneg={ends}\n");
+    unchanged(&format!("atoms=1024\nclauses=3\n{clauses}"));
+}
+
+/// Numbers of steps, and their words, of one to four digits, at the ends of each number of digits.
+#[test]
+fn steps_of_every_length() {
+    let left = "atoms=1024\nclauses=1\nhead=0\npos=\nneg=\n";
+    // negative atoms that are in no head
+    for count in [0, 9, 10, 99, 100, 999, 1000] {
+        let text = format!("atoms=1024\nclauses=1\nhead=0\npos=\nneg={}\n", joined(1..count + 1));
+        let lines = steps((1..count + 1).map(|atom| [4, 0, 0, atom]));
+        assert_eq!(compared(text.as_bytes()), format!("{left}{lines}"));
+    }
+    // equal facts, of which the next one subsumes each
+    for m in [10, 11, 100, 101] {
+        let text = format!("atoms=1024\nclauses={m}\n{}", facts(vec!["0".into(); m].into_iter()));
+        let lines = steps((1..m).map(|partner| [8, partner - 1, partner, 0]));
+        assert_eq!(compared(text.as_bytes()), format!("{left}{lines}"));
+    }
+    // target, partner and atom
+    let (ends, given) = ([9, 10, 99, 100, 999, 1000], facts((0..1001).map(|atom| atom.to_string())));
+    let text = format!("atoms=1024\nclauses=1002\n{given}head=1001\npos={}\nneg=\n", joined(ends.into_iter()));
+    let lines = steps(ends.into_iter().map(|atom| [3, 1001, atom, atom]));
+    assert!(compared(text.as_bytes()).ends_with(&format!("head=1001\npos=\nneg=\n{lines}")));
+}
+
+/// The longest lists, worked out by hand.
+#[test]
+fn thousands_of_steps() {
+    // equal facts
+    let text = format!("atoms=1\nclauses=2047\n{}", facts(vec!["0".into(); 2047].into_iter()));
+    let lines = steps((1..2047).map(|partner| [8, partner - 1, partner, 0]));
+    prints(&text, &format!("atoms=1\nclauses=1\nhead=0\npos=\nneg=\n{lines}"));
+    // empty clauses, each of which blocks every other clause
+    let text = format!("atoms=0\nclauses=2048\n{}", facts(vec![String::new(); 2048].into_iter()));
+    let lines = steps((1..2048).map(|partner| [5, partner - 1, partner, 0]));
+    prints(&text, &format!("atoms=0\nclauses=1\nhead=\npos=\nneg=\n{lines}"));
+    // eight clauses that lose their negative atoms, in 8,192 words
+    let counts = [1024, 1024, 1024, 1024, 1024, 1024, 1024, 998];
+    let clauses: String = counts.iter().map(|&count| format!("head=\npos=\nneg={}\n", joined(0..count))).collect();
+    let dropped = (0..8).flat_map(|target| (0..counts[target]).map(move |atom| [4, target, 0, atom]));
+    let lines = steps(dropped.chain((1..8).map(|partner| [5, partner - 1, partner, 0])));
+    assert!(lines.starts_with("steps=8173\n"));
+    prints(&format!("atoms=1024\nclauses=8\n{clauses}"), &format!("atoms=1024\nclauses=1\nhead=\npos=\nneg=\n{lines}"));
 }
 
 /// "22 Are there at most 65,536 bytes?"

@@ -10,6 +10,8 @@
 //   kept WORDS : L MARKS     the reduced table, with room for L words, each 9
 //   write WORDS : L          the text of a table, with room for L bytes, each a dot
 //   parse L:TEXT             the table of a text, with room for L words, each 7
+//   digits V W               the digits of the numbers from V to V + W, as far as 65,536: how many numbers and bytes, a sum over
+//                            the bytes in their order, and the last number's bytes, written over dots
 //
 // In a text a slash stands for a line feed, a tilde for a carriage return, a caret for NUL and an underscore for a tab.
 // At most 128 numbers before and after the colon, and 128 bytes of a text, are read.
@@ -285,6 +287,67 @@ fn run_parse(text: &[u8], room: usize) {
     print_words(&words, shown(a));
 }
 
+// ---- digits
+
+// A sum over bytes, after a byte more: 31 times as much and the byte, modulo 65,521.
+fn mixed(sum: usize, b: u8) -> usize {
+    (sum % 65521 * 31 + b as usize) % 65521
+}
+
+// A sum, after the first n bytes of a number.
+fn mixed_number(sum: usize, text: &[u8; SIZE], n: usize) -> usize {
+    let mut mix = sum;
+    for i in 0..least(n, SIZE) {
+        mix = mixed(mix, text[i]);
+    }
+    mix
+}
+
+// A number of the case, or 0.
+fn given(words: &[u16], i: usize) -> usize
+    ensures { λ r. ⌜ r < 65536 ⌝ }
+{
+    if i < words.len() {
+        return table::wide(words[i]);
+    }
+    0
+}
+
+// The digits of a number, at the beginning; how many.
+fn put_digits(text: &mut [u8; SIZE], v: usize) -> usize
+    requires { ⌜ v ≤ 65536 ⌝ }
+    ensures { λ r. ⌜ r ≤ 5 ⌝ }
+{
+    text_writer::put_number(text, 0, v)
+}
+
+// How many numbers, how many bytes they have, and the sum over these.
+fn print_sums(count: usize, bytes: usize, sum: usize) {
+    print(b"numbers=");
+    print_number(count);
+    print(b" bytes=");
+    print_number(bytes);
+    print(b" sum=");
+    print_number(sum);
+}
+
+// Each number is written over the one before it, which has no more digits.
+fn run_digits(words: &[u16]) {
+    let first = given(words, 0);
+    let count = least(given(words, 1), 65536 - first) + 1;
+    let mut text = [b'.'; SIZE];
+    let mut n: usize = 0;
+    let mut bytes: usize = 0;
+    let mut sum: usize = 0;
+    for i in 0..count {
+        n = put_digits(&mut text, first + i);
+        bytes = bytes + n;
+        sum = mixed_number(sum, &text, n);
+    }
+    print_sums(count, bytes, sum);
+    print_text(&text, n + 2);
+}
+
 // ---- the lines
 
 fn run_more(name: u8, words: &[u16], rest: &[u16]) {
@@ -312,6 +375,9 @@ fn run(name: u8, words: &[u16], rest: &[u16]) {
     }
     if name == b's' {
         return print_answer(gambrolt::gambrolt_test(words, rest));
+    }
+    if name == b'd' {
+        return run_digits(words);
     }
     run_more(name, words, rest);
 }

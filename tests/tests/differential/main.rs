@@ -17,7 +17,7 @@ use std::time::Instant;
 /// A group of cases: its name, how many draws it makes, and what one draw compares.
 type Group = (&'static str, u64, fn(&mut Random, &mut Tally));
 
-const GROUPS: [Group; 18] = [
+const GROUPS: [Group; 19] = [
     ("tables", 120_000, tables::damaged),
     ("lists", 100_000, steps::checked),
     ("reducing", 60_000, steps::reduced),
@@ -36,6 +36,7 @@ const GROUPS: [Group; 18] = [
     ("models listed, more than 16 atoms", 10_000, listing::many_atoms),
     ("models listed and sets tested", 2_000, listing::tested),
     ("models listed before and after", 10_000, listing::same_list),
+    ("texts written, numbers of every length", 600, texts::of_every_length),
 ];
 
 fn main() {

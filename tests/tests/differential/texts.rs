@@ -1,6 +1,7 @@
 //! Texts, read and written.
 use gambrolt_tests::compare::Tally;
-use gambrolt_tests::independent::program::Clause;
+use gambrolt_tests::independent::program::{words, Clause, Program, Set};
+use gambrolt_tests::independent::Refused;
 use gambrolt_tests::make::programs::{any_size, MIDDLE, SMALL, TINY};
 use gambrolt_tests::make::{tables, texts};
 use gambrolt_tests::random::Random;
@@ -44,4 +45,38 @@ pub fn written(random: &mut Random, tally: &mut Tally) {
         let (read, back) = tally.read_text(&text[..written], &vec![0; 8192]);
         assert_eq!((read, &back[..table.len()]), (Ok(table.len() as u64), &table[..]), "reading what was written");
     }
+}
+
+/// Numbers on both sides of each end of a number of digits, and the greatest that are read.
+const ENDS: [u16; 14] = [0, 1, 8, 9, 10, 98, 99, 100, 998, 999, 1000, 1023, 1024, 2048];
+
+/// A program with so many atoms and clauses, and atoms near the ends, in as many words as a table holds.
+fn at_the_ends(random: &mut Random, atoms: u16, clauses: u16) -> Program {
+    let below: Vec<u16> = ENDS.into_iter().filter(|&atom| atom < atoms).collect();
+    let mut left = 8190 - 3 * usize::from(clauses);
+    let mut part = || -> Set {
+        let count = if below.is_empty() { 0 } else { random.upto(left.min(4)) };
+        let part: Set = (0..count).map(|_| random.pick(&below)).collect();
+        left -= part.len();
+        part
+    };
+    let clauses = (0..clauses).map(|_| Clause { head: part(), pos: part(), neg: part() }).collect();
+    Program { atoms, clauses }
+}
+
+/// Numbers of atoms and of clauses, and atoms, of one to four digits: slices as long as the text, a byte shorter and longer.
+pub fn of_every_length(random: &mut Random, tally: &mut Tally) {
+    let (atoms, clauses) = (random.pick(&ENDS[..13]), random.pick(&ENDS));
+    let table = words(&at_the_ends(random, atoms, clauses));
+    let long = random.bytes(43022);
+    let (answer, text) = tally.write_text(&table, &long);
+    let written = answer.expect("room for every text") as usize;
+    assert!(text.starts_with(format!("atoms={atoms}\nclauses={clauses}\n").as_bytes()), "{table:?}");
+    for room in [written, written + 1] {
+        assert_eq!(tally.write_text(&table, &long[..room]).0, answer);
+    }
+    let short = long[..written - 1].to_vec();
+    assert_eq!(tally.write_text(&table, &short), (Err(Refused { number: 28, place: 0 }), short));
+    let (read, back) = tally.read_text(&text[..written], &vec![0; 8192]);
+    assert_eq!((read, &back[..table.len()]), (Ok(table.len() as u64), &table[..]), "reading what was written");
 }
