@@ -59,7 +59,7 @@ fn lines_of(in_crate: &str, text: &str) -> Vec<Line> {
     lines
 }
 
-/// The sources of every crate. `cases`, which is no writer, reads its input and prints sums over digits in its own way.
+/// The sources of every crate.
 fn code() -> Vec<Line> {
     let mut lines = Vec::new();
     for entry in fs::read_dir(CRATES).unwrap() {
@@ -86,6 +86,7 @@ fn numbers(code: &str) -> Vec<String> {
     words.filter(|word| word.starts_with(|c: char| c.is_ascii_digit())).map(digits).collect()
 }
 
+/// It is declared once, and called once, by the function that writes a number's digits.
 #[test]
 fn one_function() {
     let lines = code();
@@ -96,6 +97,7 @@ fn one_function() {
     assert_eq!(places, [["text_writer", "put_number", "let w = number_width(v);"]], "it is called once");
 }
 
+/// `cases` is left out: it writes no text, reads its input and prints its sums in its own way.
 #[test]
 fn no_second_way() {
     let mut others = Vec::new();

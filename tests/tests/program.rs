@@ -96,6 +96,11 @@ fn success_lines() {
     }
 }
 
+/// The numbers joined by commas.
+fn joined(numbers: impl Iterator<Item = usize>) -> String {
+    numbers.map(|number| number.to_string()).collect::<Vec<_>>().join(",")
+}
+
 /// The lines of a program up to so many bytes: empty clauses, as many as fit, then atom 0 on as many of their lines as bytes
 /// are left. So many clauses more are announced than follow.
 fn filled(bytes: usize, more: usize) -> String {
@@ -115,7 +120,7 @@ fn filled(bytes: usize, more: usize) -> String {
 /// has no comma: 85 lists of all 24 such atoms, and one of 6.
 fn longest() -> String {
     let counts = [vec![24; 85], vec![6], vec![0; 3 * 2048 - 86]].concat();
-    let value = |count: usize| (1000..1000 + count).map(|atom| atom.to_string()).collect::<Vec<_>>().join(",");
+    let value = |count: usize| joined(1000..1000 + count);
     let line = |(line, &count): (usize, &usize)| format!("{}={}\n", ["head", "pos", "neg"][line % 3], value(count));
     format!("atoms=1024\nclauses=2048\n{}", counts.iter().enumerate().map(line).collect::<String>())
 }
@@ -153,11 +158,6 @@ fn places_of_every_length() {
     refused_behind(&longest());
 }
 
-/// The numbers joined by commas.
-fn joined(numbers: impl Iterator<Item = usize>) -> String {
-    numbers.map(|number| number.to_string()).collect::<Vec<_>>().join(",")
-}
-
 /// Facts, each of the atoms that its value names.
 fn facts(values: impl Iterator<Item = String>) -> String {
     values.map(|value| format!("head={value}\npos=\nneg=\n")).collect()
@@ -189,7 +189,7 @@ fn numbers_of_every_length() {
     for m in [9, 10, 99, 100, 999, 1000] {
         unchanged(&format!("atoms=1024\nclauses={m}\n{}", facts((0..m).map(|atom| atom.to_string()))));
     }
-    // all pairs of neighbours and of next but one, as many as a table holds
+    // pairs of neighbours and of next but one, as many as a table holds
     let pairs = (0..1023).map(|atom| [atom, atom + 1]).chain((0..615).map(|atom| [atom, atom + 2]));
     unchanged(&format!("atoms=1024\nclauses=1638\n{}", facts(pairs.map(|pair| joined(pair.into_iter())))));
     // in each part; atom 1 keeps the fact from blocking the last clause
