@@ -15,7 +15,7 @@ use Rattle.text_form.specs.Writer.{textOf}
 use Rattle.text_form.proofs.Widths as widths
 use Rattle.text_form.proofs.Numbers.{FourDigits, numbers-of, numbers-inv}
 use Rattle.text_form.proofs.Lines.{commas-one}
-use Rattle.text_form.proofs.Before.{renderBy, digitsBefore, digits-before, text-by}
+use Rattle.text_form.proofs.Before.{renderBy, digitsBefore, digits-before, numerals-agree, text-by}
 
 -- ---- "For every number from 0 to 65,536 the digits written are proved to be as many as its case says"
 
@@ -64,3 +64,7 @@ reader-exactly bs v = (
 -- The text of every table is what it was with the number of digits found as before; the program's output likewise: `output-before` (`reduce_filter/proofs/Before.antt`).
 pub text-before : (ws : List ℕ) → Passed ws → renderBy digitsBefore (programOf ws) ≡ textOf ws
 text-before = text-by digitsBefore digits-before
+
+-- Whatever way of writing numbers gives numerals, however it finds how many digits there are, gives the text of every table.
+pub text-numerals : (d : ℕ → List ℕ) → ((v : ℕ) → v ≤ 65536 → Numeral (d v) v) → (ws : List ℕ) → Passed ws → renderBy d (programOf ws) ≡ textOf ws
+text-numerals d h = text-by d (numerals-agree d h)

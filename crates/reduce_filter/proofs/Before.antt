@@ -26,12 +26,13 @@ use Rattle.reduced_sizes.specs.Leaves.{reduced}
 use Rattle.reduced_sizes.proofs.Limits.{reduced-passes}
 use Rattle.reducer_results.specs.Reductions.{stepsOf}
 use Rattle.reducer_results.proofs.Taken.{reducer-taken, steps-accepted}
+use Rattle.text_form.specs.Numerals.{Numeral}
 use Rattle.text_form.specs.Render.{lineText}
 use Rattle.text_form.specs.Reader.{readAnswer, tableAfter}
 use Rattle.text_form.specs.Writer.{textOf}
 use Rattle.answers.proofs.Slices.{take-written}
 use Rattle.text_form.proofs.Calls.{accepted-reads}
-use Rattle.text_form.proofs.Before.{Agrees, Writable, commasBy, renderBy, commas-by, text-by, digitsBefore, digits-before}
+use Rattle.text_form.proofs.Before.{Agrees, Writable, commasBy, renderBy, commas-by, text-by, digitsBefore, digits-before, numerals-agree}
 use Rattle.reduce_filter.specs.Output.{stepsKey, stepKey, refusedKey, stepLines, listLines, refusedText, refusalText, reductionOf, reducedText, printed, outputOf}
 use Rattle.reduce_filter.proofs.Bounds.{Small, applies-small, length-whole}
 use Rattle.reduce_filter.proofs.Output.{always-reduced, reduced-text, list-long}
@@ -145,3 +146,7 @@ module _ (d : ℕ → List ℕ) (same : Agrees d) where
 -- So it is as it was before.
 pub output-before : (ts : List ℕ) → outputBy digitsBefore ts ≡ outputOf ts
 output-before ts = output-by digitsBefore digits-before ts
+
+-- And so it is with any way of writing numbers that gives numerals.
+pub output-numerals : (d : ℕ → List ℕ) → ((v : ℕ) → v ≤ 65536 → Numeral (d v) v) → (ts : List ℕ) → outputBy d ts ≡ outputOf ts
+output-numerals d h = output-by d (numerals-agree d h)

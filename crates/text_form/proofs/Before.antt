@@ -15,9 +15,10 @@ use Rattle.table.specs.Programs.{programOf}
 use Rattle.table.specs.Encoding.{Ordered, OrderedClause, Within}
 use Rattle.table.proofs.Encoding.{passed-within}
 use Rattle.text_form.specs.Digits.{width, places, digits, others, commas}
+use Rattle.text_form.specs.Numerals.{Numeral}
 use Rattle.text_form.specs.Render.{atomsKey, clausesKey, headKey, posKey, negKey, lineText, clauseText, clausesText, render}
 use Rattle.text_form.specs.Writer.{textOf}
-use Rattle.text_form.proofs.Widths.{width-by}
+use Rattle.text_form.proofs.Widths.{width-by, numeral-digits}
 use Rattle.text_form.proofs.Numbers.{FourDigits}
 use Rattle.text_form.proofs.Lines.{ordered-small}
 
@@ -45,6 +46,10 @@ Agrees d = (v : ℕ) → v ≤ 65536 → d v ≡ digits v
 pub digits-before : Agrees digitsBefore
 unfolding digits
 digits-before v l = ap (places v) (width-before v l)
+
+-- Every way that writes numerals agrees.
+pub numerals-agree : (d : ℕ → List ℕ) → ((v : ℕ) → v ≤ 65536 → Numeral (d v) v) → Agrees d
+numerals-agree d h v l = numeral-digits (d v) v l (h v l)
 
 -- ---- texts by any way of writing numbers
 
