@@ -1,16 +1,11 @@
 -- "every output keeps its bytes", of the program: what it prints with a way `d` of writing numbers that agrees with `digits` up to 65,536, and so with the one of before
 -- slip 4, is what it prints.
 use Prim.Native.Nat.{ℕ, zero, suc, _+_, _≤_}
-use mathlib.Core.Path.{_≡_, refl, sym, ap, subst, _∙_}
-use mathlib.Core.Bool.{So}
+use mathlib.Core.Path.{_≡_, refl, sym, ap, _∙_}
 use mathlib.Core.List.{List, [], _∷_, _++_}
 use native.Mathlib.Omega.{arith}
 use lib.ListN.{length, take, drop, replicate, length-replicate}
-use Rattle.semantics.proofs.Tests.{and-iff}
-use Rattle.rewriting.specs.Marked.{Marked, whole}
-use Rattle.rewriting.specs.Steps.{Step, applies, effect}
-use Rattle.rewriting.specs.Runs.{accepted}
-use Rattle.rewriting.proofs.Effect.{length-effect}
+use Rattle.rewriting.specs.Steps.{Step}
 use Rattle.rewriting.proofs.Rows.{number-bounds}
 use Rattle.answers.specs.declared.Refusal.{Refusal}
 use Rattle.answers.specs.declared.Answer.{Answer}
@@ -20,23 +15,20 @@ use Rattle.table.specs.Questions.{Passed}
 use Rattle.table.specs.Places.{cut}
 use Rattle.table.specs.Programs.{programOf}
 use Rattle.table.specs.StepWords.{wordsOf}
-use Rattle.table.specs.Encoding.{encode}
-use Rattle.table.proofs.Encoding.{passed-limits, passed-within, encode-passes}
+use Rattle.table.proofs.Encoding.{passed-limits, passed-within}
 use Rattle.reduced_sizes.specs.Leaves.{reduced}
 use Rattle.reduced_sizes.proofs.Limits.{reduced-passes}
 use Rattle.reducer_results.specs.Reductions.{stepsOf}
-use Rattle.reducer_results.proofs.Taken.{reducer-taken, steps-accepted}
+use Rattle.reducer_results.proofs.Taken.{reducer-taken}
 use Rattle.text_form.specs.Numerals.{Numeral}
 use Rattle.text_form.specs.Render.{lineText}
 use Rattle.text_form.specs.Reader.{readAnswer, tableAfter}
 use Rattle.text_form.specs.Writer.{textOf}
-use Rattle.answers.proofs.Slices.{take-written}
-use Rattle.text_form.proofs.Calls.{accepted-reads}
 use Rattle.text_form.proofs.Before.{Agrees, Writable, commasBy, renderBy, commas-by, text-by, digitsBefore, digits-before, numerals-agree}
 use Rattle.reduce_filter.specs.Output.{stepsKey, stepKey, refusedKey, stepLines, listLines, refusedText, refusalText, reductionOf, reducedText, printed, outputOf}
-use Rattle.reduce_filter.proofs.Bounds.{Small, applies-small, length-whole}
+use Rattle.reduce_filter.proofs.Bounds.{AllSmall, list-small}
 use Rattle.reduce_filter.proofs.Output.{always-reduced, reduced-text, list-long}
-use Rattle.reduce_filter.proofs.Prints.{refused-small}
+use Rattle.reduce_filter.proofs.Prints.{read-passed, refused-small}
 
 -- ---- the output by any way of writing numbers
 
@@ -85,30 +77,21 @@ writable-zeros : (k : ℕ) → Writable (replicate k 0)
 writable-zeros zero = tt
 writable-zeros (suc k) = (omega arith, writable-zeros k)
 
-writable-steps : (n m : ℕ) (P : Marked) (l : List Step) → n ≤ 1024 → m ≤ 2048 → length P ≡ m → So (accepted n P l) → Writable (wordsOf l)
-unfolding accepted wordsOf
-writable-steps n m P [] a b e h = tt
-writable-steps n m P (s ∷ l) a b e h =
-    let w = and-iff (applies n P s) (accepted n (effect P s) l) .0 h in
-    let q = subst (λ x. Small n x s) e (applies-small n P s (w .0)) in
+writable-steps : (n m : ℕ) (l : List Step) → n ≤ 1024 → m ≤ 2048 → AllSmall n m l → Writable (wordsOf l)
+unfolding wordsOf
+writable-steps n m [] a b q = tt
+writable-steps n m (s ∷ l) a b q =
     let k = number-bounds (s .kind) in
-    (omega arith, (omega (arith, q .target), (omega (arith, q .partner), (omega (arith, q .atom), writable-steps n m (effect P s) l a b (length-effect P s ∙ e) (w .1)))))
+    (omega arith, (omega (arith, q .0 .target), (omega (arith, q .0 .partner), (omega (arith, q .0 .atom), writable-steps n m l a b (q .1)))))
 
 -- the list that the reducer leaves
 writable-list : (ws : List ℕ) → Passed ws → Writable (reductionOf ws .list)
 writable-list ws p =
     let t = reducer-taken ws (replicate 8192 0) (replicate 32768 0) (length (stepsOf ws)) (always-reduced ws p) in
-    let w = writable-steps _ _ (whole (programOf ws .clauses)) (stepsOf ws) (passed-limits ws p .fewAtoms) (passed-within ws p .fewClauses) (length-whole (programOf ws .clauses)) (steps-accepted ws p) in
+    let w = writable-steps _ _ (stepsOf ws) (passed-limits ws p .fewAtoms) (passed-within ws p .fewClauses) (list-small ws p) in
     rw (t .list) (writable-append (wordsOf (stepsOf ws)) _ w (writable-drop (length (wordsOf (stepsOf ws))) (replicate 32768 0) (writable-zeros 32768)))
 
 -- ---- the same bytes
-
--- the words that a text is read as
-read-passed : (ts : List ℕ) (k : ℕ) → readAnswer ts 8192 ≡ Accepted k → Passed (take k (tableAfter ts (replicate 8192 0)))
-read-passed ts k h =
-    let blank : List ℕ = replicate 8192 0 in
-    let a = accepted-reads ts blank k (subst (λ n. readAnswer ts n ≡ Accepted k) (sym (length-replicate {A = ℕ} 8192 0)) h) in
-    rw (a .after, take-written (encode (a .program)) blank k (a .count)) (encode-passes (a .program) (a .within))
 
 module _ (d : ℕ → List ℕ) (same : Agrees d) where
   steps-by : (ls : List ℕ) (at k : ℕ) → Writable ls → stepLinesBy d ls at k ≡ stepLines ls at k

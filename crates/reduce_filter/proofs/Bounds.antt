@@ -34,7 +34,7 @@ pub record Small (n m : ℕ) (s : Step) : Type 0 where
   pub partner : s .partner ≤ m
   pub atom : s .atom ≤ n
 
-pub applies-small : (n : ℕ) (P : Marked) (s : Step) → So (applies n P s) → Small n (length P) s
+applies-small : (n : ℕ) (P : Marked) (s : Step) → So (applies n P s) → Small n (length P) s
 unfolding applies
 applies-small n P s h =
     let w = simp and-iff at h in
@@ -51,6 +51,25 @@ applies-small n P s h =
     below : (b : Bool) (n x : ℕ) → x < cond b n 1 → x ≤ n
     below true n x h = omega arith
     below false n x h = omega arith
+
+abbrev pub AllSmall : ℕ → ℕ → List Step → Type 0
+AllSmall n m [] = Unit {0}
+AllSmall n m (s ∷ l) = Small n m s × AllSmall n m l
+
+accepted-small : (n m : ℕ) (P : Marked) (l : List Step) → length P ≡ m → So (accepted n P l) → AllSmall n m l
+unfolding accepted
+accepted-small n m P [] e h = tt
+accepted-small n m P (s ∷ l) e h =
+    let w = and-iff (applies n P s) (accepted n (effect P s) l) .0 h in
+    (subst (λ x. Small n x s) e (applies-small n P s (w .0)), accepted-small n m (effect P s) l (length-effect P s ∙ e) (w .1))
+
+length-whole : (cs : List Clause) → length (whole cs) ≡ length cs
+length-whole [] = refl
+length-whole (c ∷ cs) = ap suc (length-whole cs)
+
+-- those of the reducer's list
+pub list-small : (ws : List ℕ) → Passed ws → AllSmall (getD ws 0 0) (length (programOf ws .clauses)) (stepsOf ws)
+list-small ws p = accepted-small (getD ws 0 0) (length (programOf ws .clauses)) (whole (programOf ws .clauses)) (stepsOf ws) (length-whole (programOf ws .clauses)) (steps-accepted ws p)
 
 -- ---- a step's line
 
@@ -86,28 +105,17 @@ step-short n m s a b q =
       width-four (s .atom) (omega (arith, q .atom)),
     )
 
-steps-lines : (n m : ℕ) (P : Marked) (l : List Step) → n ≤ 1024 → m ≤ 2048 → length P ≡ m → So (accepted n P l) → length (stepsText l) ≤ 22 * length l
-unfolding accepted stepsText
-steps-lines n m P [] a b e h = omega arith
-steps-lines n m P (s ∷ l) a b e h =
-    let w = and-iff (applies n P s) (accepted n (effect P s) l) .0 h in
-    omega (
-      arith,
-      length-append (stepText s) (stepsText l),
-      step-short n m s a b (subst (λ x. Small n x s) e (applies-small n P s (w .0))),
-      steps-lines n m (effect P s) l a b (length-effect P s ∙ e) (w .1),
-    )
+steps-lines : (n m : ℕ) (l : List Step) → n ≤ 1024 → m ≤ 2048 → AllSmall n m l → length (stepsText l) ≤ 22 * length l
+unfolding stepsText
+steps-lines n m [] a b q = omega arith
+steps-lines n m (s ∷ l) a b q = omega (arith, length-append (stepText s) (stepsText l), step-short n m s a b (q .0), steps-lines n m l a b (q .1))
 
 -- ---- the reducer's list
-
-pub length-whole : (cs : List Clause) → length (whole cs) ≡ length cs
-length-whole [] = refl
-length-whole (c ∷ cs) = ap suc (length-whole cs)
 
 -- Its lines take at most 180,136 bytes.
 pub steps-short : (ws : List ℕ) → Passed ws → length (stepsText (stepsOf ws)) ≤ 180136
 steps-short ws p = omega (
   arith,
   steps-few ws p,
-  steps-lines (getD ws 0 0) (length (programOf ws .clauses)) (whole (programOf ws .clauses)) (stepsOf ws) (passed-limits ws p .fewAtoms) (passed-within ws p .fewClauses) (length-whole (programOf ws .clauses)) (steps-accepted ws p),
+  steps-lines (getD ws 0 0) (length (programOf ws .clauses)) (stepsOf ws) (passed-limits ws p .fewAtoms) (passed-within ws p .fewClauses) (list-small ws p),
 )

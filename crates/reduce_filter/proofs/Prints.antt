@@ -36,6 +36,12 @@ said-of ts a h = subst (λ n. readAnswer ts n ≡ a) blank-long h
 
 -- ---- a text that is read
 
+-- its words pass questions 1 to 8
+pub read-passed : (ts : List ℕ) (k : ℕ) → readAnswer ts 8192 ≡ Accepted k → Passed (take k (tableAfter ts blank))
+read-passed ts k h =
+    let a = accepted-reads ts blank k (subst (λ n. readAnswer ts n ≡ Accepted k) (sym blank-long) h) in
+    rw (a .after, take-written (encode (a .program)) blank k (a .count)) (encode-passes (a .program) (a .within))
+
 module _ (ts new : List ℕ) (k : ℕ) (h : readAnswer ts (length blank) ≡ Accepted k) (e : new ≡ tableAfter ts blank) where
   abbrev theProgram : Program
   theProgram = accepted-reads ts blank k h .program
@@ -43,16 +49,13 @@ module _ (ts new : List ℕ) (k : ℕ) (h : readAnswer ts (length blank) ≡ Acc
   words-are : new ≡ written (encode theProgram) blank
   words-are = e ∙ accepted-reads ts blank k h .after
 
-  front : take (k - 0) new ≡ encode theProgram
-  front = ap (λ i. take i new) (sub-zero k) ∙ ap (take k) words-are ∙ take-written (encode theProgram) blank k (accepted-reads ts blank k h .count)
-
   pub words-inside : k ≤ length new
   words-inside =
       let a = accepted-reads ts blank k h in
       rw words-are (omega (arith, length-append (encode theProgram) (drop (length (encode theProgram)) blank), a .count))
 
   pub words-passed : Passed (take (k - 0) new)
-  words-passed = subst Passed (sym front) (encode-passes theProgram (accepted-reads ts blank k h .within))
+  words-passed = rw (sub-zero k, e) (read-passed ts k (said-of ts (Accepted k) h))
 
   pub words-output : reducedText (take (k - 0) new) ≡ outputOf ts
   unfolding outputOf

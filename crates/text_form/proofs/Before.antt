@@ -19,7 +19,7 @@ use Rattle.text_form.specs.Numerals.{Numeral}
 use Rattle.text_form.specs.Render.{atomsKey, clausesKey, headKey, posKey, negKey, lineText, clauseText, clausesText, render}
 use Rattle.text_form.specs.Writer.{textOf}
 use Rattle.text_form.proofs.Widths.{width-by, numeral-digits}
-use Rattle.text_form.proofs.Numbers.{FourDigits}
+use Rattle.text_form.proofs.Numbers.{UpTo, FourDigits}
 use Rattle.text_form.proofs.Lines.{ordered-small}
 
 -- ---- how numbers were written
@@ -74,8 +74,7 @@ module _ (d : ℕ → List ℕ) where
 
 -- numbers that are written
 abbrev pub Writable : List ℕ → Type 0
-Writable [] = Unit {0}
-Writable (x ∷ xs) = (x ≤ 65536) × Writable xs
+Writable xs = UpTo 65536 xs
 
 four-writable : (xs : List ℕ) → FourDigits xs → Writable xs
 four-writable [] s = tt

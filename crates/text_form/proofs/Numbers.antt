@@ -82,10 +82,14 @@ scan-digits (suc n) x a b r = by-cases (decLt x 10)
     let i : scan false 0 (digits (x / 10) ++ ((48 + x % 10) ∷ r)) ≡ scan true (x / 10) ((48 + x % 10) ∷ r) = scan-digits n (x / 10) (omega arith) (omega arith) ((48 + x % 10) ∷ r) in
     rw (digits-last x (omega arith) (omega arith), append-assoc) (i ∙ scan-on true (x / 10) x (48 + x % 10) r (next-on (x / 10) (x % 10) (omega arith) (omega arith) (omega arith) ∙ ap Digit e)))
 
+-- numbers of at most b
+abbrev pub UpTo : ℕ → List ℕ → Type 0
+UpTo b [] = Unit {0}
+UpTo b (x ∷ xs) = (x ≤ b) × UpTo b xs
+
 -- numbers of at most four digits
 abbrev pub FourDigits : List ℕ → Type 0
-FourDigits [] = Unit {0}
-FourDigits (x ∷ xs) = (x ≤ 9999) × FourDigits xs
+FourDigits xs = UpTo 9999 xs
 
 scan-others : (x : ℕ) (xs : List ℕ) → FourDigits (x ∷ xs) → scan false 0 (digits x ++ others xs) ≡ record { ok = true; xs = x ∷ xs }
 unfolding others scan
