@@ -10,7 +10,7 @@ use Rattle.answers.specs.declared.StepQuestion.the-variants.{KindKnown, 
 use Rattle.answers.specs.declared.EntryQuestion.{EntryQuestion}
 use Rattle.answers.specs.declared.EntryQuestion.the-variants.{EntryBelow, EntryAscending}
 use Rattle.answers.specs.declared.ByteQuestion.{ByteQuestion}
-use Rattle.answers.specs.declared.ByteQuestion.the-variants.{TextAtomLimit, TextClauseLimit, TextAtomBelow, TextAscending, LineThere, ValueInForm, WordLimit, TextAllUsed}
+use Rattle.answers.specs.declared.ByteQuestion.the-variants.{TextAtomLimit, TextClauseLimit, TextAtomBelow, LineThere, ValueInForm, WordLimit, TextAllUsed}
 use Rattle.answers.specs.declared.Refusal.{Refusal}
 use Rattle.answers.specs.declared.Refusal.the-variants.{Call, Word, Step, Entry, Byte}
 use Rattle.answers.specs.Refusals.{callNumber, wordNumber, stepNumber, entryNumber, byteNumber, refusalNumber}
@@ -54,7 +54,6 @@ byte-range : (q : ByteQuestion) → (1 ≤ byteNumber q) × (byteNumber q ≤ 31
 byte-range TextAtomLimit = (omega arith, omega arith)
 byte-range TextClauseLimit = (omega arith, omega arith)
 byte-range TextAtomBelow = (omega arith, omega arith)
-byte-range TextAscending = (omega arith, omega arith)
 byte-range LineThere = (omega arith, omega arith)
 byte-range ValueInForm = (omega arith, omega arith)
 byte-range WordLimit = (omega arith, omega arith)

@@ -9,7 +9,7 @@ use Rattle.answers.specs.declared.StepQuestion.the-variants.{KindKnown, 
 use Rattle.answers.specs.declared.EntryQuestion.{EntryQuestion}
 use Rattle.answers.specs.declared.EntryQuestion.the-variants.{EntryBelow, EntryAscending}
 use Rattle.answers.specs.declared.ByteQuestion.{ByteQuestion}
-use Rattle.answers.specs.declared.ByteQuestion.the-variants.{TextAtomLimit, TextClauseLimit, TextAtomBelow, TextAscending, LineThere, ValueInForm, WordLimit, TextAllUsed}
+use Rattle.answers.specs.declared.ByteQuestion.the-variants.{TextAtomLimit, TextClauseLimit, TextAtomBelow, LineThere, ValueInForm, WordLimit, TextAllUsed}
 use Rattle.answers.specs.declared.Refusal.{Refusal}
 use Rattle.answers.specs.declared.Refusal.the-variants.{Call, Word, Step, Entry, Byte}
 
@@ -52,7 +52,6 @@ abbrev pub byteNumber : ByteQuestion → ℕ
 byteNumber TextAtomLimit = 2
 byteNumber TextClauseLimit = 3
 byteNumber TextAtomBelow = 6
-byteNumber TextAscending = 7
 byteNumber LineThere = 24
 byteNumber ValueInForm = 25
 byteNumber WordLimit = 26

@@ -86,8 +86,6 @@ pub enum ByteQuestion {
     TextClauseLimit,
     // 6: atoms below n.
     TextAtomBelow,
-    // 7: atoms that ascend.
-    TextAscending,
     // 24: the line is there, with its key, "=" and a line feed.
     LineThere,
     // 25: the value is in form.
@@ -177,7 +175,6 @@ fn byte_number(q: ByteQuestion) -> u64
         ByteQuestion::TextAtomLimit => 2,
         ByteQuestion::TextClauseLimit => 3,
         ByteQuestion::TextAtomBelow => 6,
-        ByteQuestion::TextAscending => 7,
         ByteQuestion::LineThere => 24,
         ByteQuestion::ValueInForm => 25,
         ByteQuestion::WordLimit => 26,

@@ -17,9 +17,8 @@ use Rattle.answers.proofs.Asked.{refused-taken}
 use Rattle.table.specs.declared.Checked.{Checked}
 use Rattle.table.specs.declared.Checked.the-variants as checked
 use Rattle.table.specs.Questions.{Passed, tableOf, onTable}
-use Rattle.table.specs.Encoding.{Within}
 use Rattle.table.proofs.Encoding.{valid-passed}
-use Rattle.text_form.specs.Render.{render}
+use Rattle.text_form.specs.Lists.{InForm}
 use Rattle.text_form.specs.Reader.{Read, done, stop, readText, answerOf, readAnswer}
 use Rattle.text_form.specs.Writer.{textOf, writeAnswer}
 use Rattle.text_form.proofs.Lines.{ask-inv}
@@ -31,12 +30,12 @@ read-roomy : (ts : List ℕ) (room : ℕ) (P : Program) (e : ℕ) → readText t
 unfolding readText
 read-roomy ts room P e h = leb-true _ _ (ask-inv _ _ _ P e (ask-inv _ _ _ P e h .1) .0)
 
-pub read-accepted : (ts : List ℕ) (room k : ℕ) → readAnswer ts room ≡ Accepted k → (8192 ≤ room) × ((P : Program) × Within P × (render P ≡ ts))
+pub read-accepted : (ts : List ℕ) (room k : ℕ) → readAnswer ts room ≡ Accepted k → (8192 ≤ room) × ((P : Program) × InForm ts P)
 unfolding readAnswer
 read-accepted ts room k = go (readText ts room) refl
   where
-    go : (x : Read Program) → readText ts room ≡ x → answerOf x ≡ Accepted k → (8192 ≤ room) × ((P : Program) × Within P × (render P ≡ ts))
-    go (done P e) q h = let (w, t) = read-inv ts room P e q in (read-roomy ts room P e q, (P, w, t))
+    go : (x : Read Program) → readText ts room ≡ x → answerOf x ≡ Accepted k → (8192 ≤ room) × ((P : Program) × InForm ts P)
+    go (done P e) q h = let r = read-inv ts room P e q in (read-roomy ts room P e q, (r .lists, r .form))
     go (stop r) q h = absurd (refused-taken r k h)
 
 -- ---- writing text

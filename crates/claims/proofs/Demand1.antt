@@ -35,11 +35,11 @@ use Rattle.models_test.proofs.Answered as stability
 use Rattle.models_list.specs.Answer.{modelWords, modelsAnswer}
 use Rattle.dependency.specs.Decide.{cyclic}
 use Rattle.cycle.proofs.Answered as cycles
-use Rattle.text_form.specs.Render.{render}
+use Rattle.text_form.specs.Lists.{sortedProgram, InForm}
 use Rattle.answers.specs.declared.Answer.the-variants.{Accepted, Refused}
 use Rattle.text_form.specs.Reader.{answerOf, readAnswer, tableAfter}
 use Rattle.text_form.specs.Writer.{textOf, writeAnswer, outAfter}
-use Rattle.text_form.proofs.Texts.{read-render}
+use Rattle.text_form.proofs.Texts.{read-form}
 use Rattle.text_form.proofs.Calls.{read-refused, write-refused}
 use Rattle.claims.proofs.Said.{value, refusal, saidBy, tableCall, checkCall, reduceCall, reducedCall, testCall, modelsCall, cycleCall, readCall, writeCall, says, IsTaken, firstNo}
 use Rattle.claims.proofs.Calls as calls
@@ -137,12 +137,12 @@ cycle-taken ws = (
   λ p. (bit (cyclic (programOf ws .clauses)), cycles.accepted-iff ws _ .1 (p, refl)),
 )
 
--- 22 to 27, with 2, 3, 6 and 7: a slice of 8,192 words, and the text of a program within the limits
-pub read-taken : (ts : List ℕ) (room : ℕ) → IsTaken (readCall ts room) ↔ ((8192 ≤ room) × ((P : Program) × Within P × (render P ≡ ts)))
+-- 22 to 27, with 2, 3 and 6: a slice of 8,192 words, and a text of the form
+pub read-taken : (ts : List ℕ) (room : ℕ) → IsTaken (readCall ts room) ↔ ((8192 ≤ room) × ((P : Program) × InForm ts P))
 unfolding readAnswer
 read-taken ts room = (
   λ h. calls.read-accepted ts room (h .0) (h .1),
-  λ (b, (P, w, e)). (length (encode P), subst (λ t. readAnswer t room ≡ Accepted (length (encode P))) e (ap answerOf (read-render P room w b .1))),
+  λ (b, (P, f)). (length (encode (sortedProgram P)), ap answerOf (read-form ts P room f b .1)),
 )
 
 -- 28

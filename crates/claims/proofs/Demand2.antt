@@ -1,6 +1,6 @@
--- Demand 2: a set is called stable exactly when it is a stable model, and the cycle answer; which texts are read, and that reading and writing undo each other.
+-- Demand 2: a set is called stable exactly when it is a stable model, and the cycle answer; which texts are read, and what reading and writing give back.
 use Prim.Native.Nat.{ℕ, _≤_}
-use mathlib.Core.Path.{_≡_, subst, _∙_}
+use mathlib.Core.Path.{_≡_}
 use mathlib.Core.Logic.{_↔_}
 use mathlib.Core.Bool.{true, false}
 use mathlib.Core.List.{List}
@@ -10,7 +10,7 @@ use Rattle.semantics.specs.Programs.{among}
 use Rattle.semantics.proofs.Tests.{so-false, not-so}
 use Rattle.semantics.proofs.Decide.{test-iff}
 use Rattle.table.specs.Questions.{Passed}
-use Rattle.table.specs.Encoding.{Ordered, encode, Within}
+use Rattle.table.specs.Encoding.{Ordered, encode}
 use Rattle.table.specs.Programs.{programOf}
 use Rattle.models_test.specs.Answer.{testOf}
 use Rattle.models_test.specs.Kept.{Testable}
@@ -21,13 +21,13 @@ use Rattle.dependency.proofs.Reached.{cyclic-iff}
 use Rattle.cycle.specs.Answer.{cycleOf}
 use Rattle.cycle.proofs.Answered as cycles
 use native.Mathlib.Omega.{arith}
-use Rattle.table.proofs.Encoding.{encode-passes}
-use Rattle.text_form.specs.Render.{render}
+use Rattle.text_form.specs.Lists.{sortedProgram, InForm, Canonical}
 use Rattle.answers.specs.Answers.{written}
 use Rattle.text_form.specs.Reader.{readAnswer, tableAfter}
 use Rattle.text_form.specs.Writer.{textOf, writeAnswer, outAfter}
 use Rattle.answers.proofs.Slices.{take-written}
-use Rattle.text_form.proofs.Calls.{accepted-reads, render-reads, text-encode, text-short, accepted-writes, passed-writes, text-reads}
+use Rattle.text_form.proofs.Calls.{accepted-reads, form-reads, text-short, accepted-writes, passed-writes, text-reads}
+use Rattle.claims.proofs.TextLists.{read-passes, same-bytes-exactly}
 
 -- ---- the test and the cycle answer
 
@@ -74,11 +74,12 @@ cycle-no ws = (
 
 -- ---- text
 
--- A text is read, given a table slice of 8,192 words, exactly when it is the rendering of a program within the limits.
-pub text-accepted-exactly : (ts table : List ℕ) → 8192 ≤ length table → ((k : ℕ) × (readAnswer ts (length table) ≡ Accepted k)) ↔ ((P : Program) × Within P × (render P ≡ ts))
+-- A text is read, given a table slice of 8,192 words, exactly when it has the form: lists of numbers in any order, with repeats, of a program that is within the
+-- limits once they are sorted, in at most 65,536 bytes.
+pub text-accepted-exactly : (ts table : List ℕ) → 8192 ≤ length table → ((k : ℕ) × (readAnswer ts (length table) ≡ Accepted k)) ↔ ((P : Program) × InForm ts P)
 text-accepted-exactly ts table big = (
-  λ h. let a = accepted-reads ts table (h .0) (h .1) in (a .program, a .within, a .text),
-  λ h. (length (encode (h .0)), subst (λ t. readAnswer t (length table) ≡ Accepted (length (encode (h .0)))) (h .2) (render-reads (h .0) table (h .1) big .0)),
+  λ h. let a = accepted-reads ts table (h .0) (h .1) in (a .lists, a .form),
+  λ h. (length (encode (sortedProgram (h .0))), form-reads ts table (h .0) (h .1) big .0),
 )
 
 -- The text of any table that passes fits in 65,536 bytes, so it is never too long to read.
@@ -96,12 +97,9 @@ read-written ws out table n h big =
 pub passed-written : (ws out : List ℕ) → Passed ws → 43022 ≤ length out → writeAnswer ws (length out) ≡ Accepted (length (textOf ws))
 passed-written ws out p big = passed-writes ws out p (omega (arith, text-short ws p)) .0
 
--- Writing what was read gives the bytes of the text; what lies past them stays as it was.
-pub written-read : (ts table out : List ℕ) (k : ℕ) → readAnswer ts (length table) ≡ Accepted k → length ts ≤ length out
+-- "Demand 2's byte for byte now holds for canonical texts": writing what was read from one gives its bytes; what lies past them stays as it was.
+pub written-read : (ts table out : List ℕ) (k : ℕ) → Canonical ts → readAnswer ts (length table) ≡ Accepted k → length ts ≤ length out
     → (writeAnswer (take k (tableAfter ts table)) (length out) ≡ Accepted (length ts)) × (outAfter (take k (tableAfter ts table)) out ≡ written ts out)
-written-read ts table out k h fits =
-    let a = accepted-reads ts table k h in
-    let P = a .program in
-    let t = text-encode P ∙ a .text in
-    let w = passed-writes (encode P) out (encode-passes P (a .within)) (rw t fits) in
-    rw (a .after, take-written (encode P) table k (a .count)) (rw t at w)
+written-read ts table out k c h fits =
+    let t = same-bytes-exactly ts table k h .1 c in
+    rw t at (passed-writes (take k (tableAfter ts table)) out (read-passes ts table k h) (rw t fits))

@@ -7,6 +7,7 @@ pub mod Successes
 pub mod Cycles
 pub mod Models
 pub mod Digits
+pub mod TextLists
 pub mod OpenSteps
 pub mod Refusals
 pub mod Said

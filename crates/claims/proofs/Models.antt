@@ -27,8 +27,10 @@ use Rattle.table.specs.Encoding.{Within, encode}
 use Rattle.table.specs.Programs.{programOf}
 use Rattle.table.proofs.Encoding.{valid-passed}
 use Rattle.models_test.specs.Answer.{testOf}
-use Rattle.models_words.specs.Words.{word, setOfWord, below, entriesOf, modelsOf}
-use Rattle.models_words.proofs.Sets.{length-below, keep-shorter, entries-ordered, word-entries, among-entries}
+use Rattle.sorting.specs.Sorting.{below}
+use Rattle.models_words.specs.Words.{word, setOfWord, entriesOf, modelsOf}
+use Rattle.sorting.proofs.Ascending.{length-below, keep-shorter}
+use Rattle.models_words.proofs.Sets.{entries-ordered, word-entries, among-entries}
 use Rattle.models_words.proofs.Listed.{listed-iff, listed-ascends, listed-every, listed-once, listed-same}
 use Rattle.models_words.proofs.Antichains.{few-models}
 use Rattle.models_list.specs.Answer.{modelWords, modelsAnswer, modelsOut}

@@ -26,6 +26,7 @@ use Rattle.step_lists.specs.Lists as lists
 use Rattle.step_questions.specs.Questions as steps
 use Rattle.reducer_results.specs.Reductions as reductions
 use Rattle.reduced_table.specs.Reduced as compaction
+use Rattle.sorting.specs.Sorting.{insert, sorted}
 use Rattle.text_form.specs.Digits.{between, width, places, digits, others, commas}
 use Rattle.text_form.specs.Render.{atomsKey, clausesKey, headKey, posKey, negKey, lineText, clauseText, clausesText, render}
 use Rattle.text_form.specs.Reader as reader
@@ -54,7 +55,7 @@ abbrev start : List ℕ
 start = lineText atomsKey (50 ∷ []) ++ lineText clausesKey (49 ∷ [])
 
 -- the atoms from 0 on: of 0 to 1,023, the digits are 10 + 180 + 2,700 + 96, the commas 1,023
-abbrev from : ℕ → ℕ → List ℕ
+abbrev pub from : ℕ → ℕ → List ℕ
 from a zero = []
 from a (suc k) = a ∷ from (a + 1) k
 
@@ -157,9 +158,9 @@ rows =
     ∷ reads (lineText atomsKey (48 ∷ []) ++ lineText clausesKey (50 ∷ 48 ∷ 52 ∷ 57 ∷ [])) (refusal 3 8)
     -- 26 "Do the words so far stay within 8,192 (a clause's counts are counted at its head line)?": 8,190 words, and three counts
     ∷ reads nearly (refusal 26 32076)
-    -- "6 and 7 for each number, also with the line's place": head=2; pos=1,0; neg=9, after the lines of 6 and 5 bytes
+    -- "6 .. for each number, also with the line's place": head=2; neg=9, after the lines of 6 and 5 bytes; pos=2,0, where 7 is not met
     ∷ reads (start ++ lineText headKey (50 ∷ [])) (refusal 6 18)
-    ∷ reads (start ++ lineText headKey [] ++ lineText posKey (49 ∷ 44 ∷ 48 ∷ [])) (refusal 7 24)
+    ∷ reads (start ++ lineText headKey [] ++ lineText posKey (50 ∷ 44 ∷ 48 ∷ [])) (refusal 6 24)
     ∷ reads (start ++ lineText headKey [] ++ lineText posKey [] ++ lineText negKey (57 ∷ [])) (refusal 6 29)
     -- 27 "Is no byte left (place of the first)?": a second line feed, after 18 and 16 bytes; without it, 5 words
     ∷ reads (start ++ lineText headKey [] ++ lineText posKey [] ++ lineText negKey [] ++ 10 ∷ []) (refusal 27 34)
@@ -170,5 +171,5 @@ rows =
     ∷ []
 
 pub refusals : AllSay rows
-unfolding satisfies reduct models sublists stableTest left fire reachFrom reach inNoHead condition conditionHolds applies effect least firstAtom firstPartner firstTarget firstStep search.reduce ask questions.atomsFrom questions.partsFrom questions.clauseFrom questions.clausesFrom questions.allUsed questions.tableOf startFrom clausesOf clausesWords encode programOf part entryAt entriesFrom view find clears marksAfter marksAfterAll clearableFrom marksFrom sets.setOf sets.testOf steps.shapeQuestions steps.stepQuestions lists.stepsFrom lists.checkList wordsOf reductions.bodyLiterals reductions.room reductions.stepsOf reductions.reduction compaction.markedAnswer compaction.reducedAnswer between width places digits others commas lineText clauseText clausesText render reader.then reader.starts reader.run reader.ended reader.spanAt reader.nextOf reader.scan reader.numbers reader.onSpan reader.valueOf reader.valueAt reader.numberAt reader.countAt reader.order reader.onOrder reader.listOf reader.listAt reader.clauseAt reader.clausesAt reader.restAt reader.programAt reader.readText reader.readAnswer writer.textOf writer.writeAnswer questions.onWalk questions.onTable
+unfolding satisfies reduct models sublists stableTest left fire reachFrom reach inNoHead condition conditionHolds applies effect least firstAtom firstPartner firstTarget firstStep search.reduce ask questions.atomsFrom questions.partsFrom questions.clauseFrom questions.clausesFrom questions.allUsed questions.tableOf startFrom clausesOf clausesWords encode programOf part entryAt entriesFrom view find clears marksAfter marksAfterAll clearableFrom marksFrom sets.setOf sets.testOf steps.shapeQuestions steps.stepQuestions lists.stepsFrom lists.checkList wordsOf reductions.bodyLiterals reductions.room reductions.stepsOf reductions.reduction compaction.markedAnswer compaction.reducedAnswer between width places digits others commas lineText clauseText clausesText render reader.then reader.starts reader.run reader.ended reader.spanAt reader.nextOf reader.scan reader.numbers reader.onSpan reader.valueOf reader.valueAt reader.numberAt reader.countAt insert sorted reader.listOf reader.listAt reader.clauseAt reader.clausesAt reader.restAt reader.programAt reader.readText reader.readAnswer writer.textOf writer.writeAnswer questions.onWalk questions.onTable
 refusals = (refl, (refl, (refl, (refl, (refl, (refl, (refl, (refl, (refl, (refl, (refl, (refl, (refl, (refl, (refl, (refl, (refl, (refl, (refl, (refl, (refl, (refl, (refl, (refl, (refl, (refl, (refl, (refl, (refl, (refl, (refl, (refl, (refl, (refl, (refl, (refl, (refl, (refl, (refl, (refl, (refl, (refl, (refl, (refl, (refl, (refl, (refl, (refl, (refl, (refl, (refl, (refl, (refl, (refl, (refl, (refl, (refl, (refl, (refl, (refl, (refl, (refl, (refl, (refl, (refl, (refl, (refl, (refl, (refl, tt)))))))))))))))))))))))))))))))))))))))))))))))))))))))))))))))))))))

@@ -1,8 +1,9 @@
 -- Examples of document 02, slip by slip, as one table, computed from the definitions that the calls' contracts cite. Each value is worked out by hand.
 use mathlib.Core.Path.{refl}
-use mathlib.Core.List.{List, [], _∷_}
+use mathlib.Core.List.{List, [], _∷_, _++_}
 use Prim.Native.Nat.{ℕ}
 use lib.ListN.{length, replicate}
+use Rattle.semantics.specs.Programs.{program}
 use Rattle.semantics.specs.Programs as programs
 use Rattle.semantics.specs.Decide.{sublists, stableTest}
 use Rattle.rewriting.specs.Marked.{left}
@@ -13,20 +14,24 @@ use Rattle.answers.specs.Answers.{ask, writtenIf}
 use Rattle.table.specs.StepWords.{wordsOf}
 use Rattle.table.specs.Questions as questions
 use Rattle.table.specs.Places.{startFrom}
+use Rattle.table.specs.Encoding.{clausesWords, encode}
 use Rattle.table.specs.Programs.{clausesOf, programOf}
 use Rattle.table.specs.View.{part, entryAt, entriesFrom, view}
 use Rattle.table.specs.Effects.{find, clears, marksAfter, marksAfterAll}
 use Rattle.dependency.specs.Decide.{turned, leads, cyclic}
 use Rattle.cycle.specs.Answer.{cycleOf}
-use Rattle.models_words.specs.Words.{below, entriesOf, stableWord, modelsOf}
+use Rattle.sorting.specs.Sorting.{below, insert, sorted}
+use Rattle.models_words.specs.Words.{entriesOf, stableWord, modelsOf}
 use Rattle.models_list.specs.Answer.{modelsAnswer, modelsOut}
 use Rattle.step_lists.specs.Lists as checking
 use Rattle.step_questions.specs.Questions as steps
 use Rattle.reducer_results.specs.Reductions as reductions
 use Rattle.text_form.specs.Digits.{between, width, places, digits, others, commas}
-use Rattle.text_form.specs.Render.{lineText, clauseText, clausesText, render}
+use Rattle.text_form.specs.Render.{atomsKey, clausesKey, headKey, lineText, clauseText, clausesText, render}
+use Rattle.text_form.specs.Reader as reader
 use Rattle.text_form.specs.Writer.{textOf, writeAnswer, outAfter}
-use Rattle.claims.proofs.Said.{Example, Said, row, writes, lists, texts, digitsAre, value, refusal, checkCall, modelsCall, cycleCall, writeCall, AllSay}
+use Rattle.claims.proofs.Said.{Example, Said, row, writes, lists, texts, digitsAre, readsAs, value, refusal, checkCall, modelsCall, cycleCall, readCall, writeCall, AllSay}
+use Rattle.claims.proofs.Refusals.{from}
 
 -- a list checked on a table
 abbrev checks : List ℕ → List ℕ → Said → Example
@@ -51,6 +56,14 @@ rules = 3 ∷ 2 ∷ 1 ∷ 1 ∷ 0 ∷ 0 ∷ 1 ∷ 1 ∷ 1 ∷ 0 ∷ 2 ∷ 0 ∷ 
 -- 0|1. 2 <- 0.
 abbrev disjunctive : List ℕ
 disjunctive = 3 ∷ 2 ∷ 2 ∷ 0 ∷ 0 ∷ 0 ∷ 1 ∷ 1 ∷ 1 ∷ 0 ∷ 2 ∷ 0 ∷ []
+
+-- the text of one clause over n atoms, its lists as they stand; "atoms=" with one digit and "clauses=1" have 18 bytes with their line feeds
+abbrev clauseOver : ℕ → List ℕ → List ℕ → List ℕ → List ℕ
+clauseOver n h p q = render (program n (record { head = h; pos = p; neg = q } ∷ []))
+
+-- reading such a text, lent 8,192 words
+abbrev reads : List ℕ → Said → Example
+reads ts s = row (readCall ts 8192) s
 
 abbrev pub rows : List Example
 rows =
@@ -144,8 +157,26 @@ rows =
     ∷ row (writeCall (0 ∷ 10 ∷ replicate 30 0) 178) (refusal 28 0)
     ∷ row (writeCall (0 ∷ 99 ∷ replicate 297 0) 1603) (value 1603)
     ∷ row (writeCall (0 ∷ 100 ∷ replicate 300 0) 1620) (value 1620)
+    -- Slip 5. "A list in text may now be in any order and repeat an atom. Reading a list sorts it and keeps each atom once": head=1,0,1 beside head=0,1; lists that descend; that are all equal
+    ∷ readsAs (clauseOver 3 (1 ∷ 0 ∷ 1 ∷ []) [] []) (3 ∷ 1 ∷ 2 ∷ 0 ∷ 0 ∷ 0 ∷ 1 ∷ [])
+    ∷ readsAs (clauseOver 3 (0 ∷ 1 ∷ []) [] []) (3 ∷ 1 ∷ 2 ∷ 0 ∷ 0 ∷ 0 ∷ 1 ∷ [])
+    ∷ readsAs (clauseOver 4 (3 ∷ 2 ∷ 1 ∷ 0 ∷ []) (2 ∷ 1 ∷ []) (3 ∷ 0 ∷ [])) (4 ∷ 1 ∷ 4 ∷ 2 ∷ 2 ∷ 0 ∷ 1 ∷ 2 ∷ 3 ∷ 1 ∷ 2 ∷ 0 ∷ 3 ∷ [])
+    ∷ readsAs (clauseOver 3 (2 ∷ 2 ∷ 2 ∷ []) (0 ∷ 0 ∷ []) (1 ∷ 1 ∷ 1 ∷ [])) (3 ∷ 1 ∷ 1 ∷ 1 ∷ 1 ∷ 2 ∷ 0 ∷ 1 ∷ [])
+    ∷ readsAs (clauseOver 1 (replicate 1000 0) [] []) (1 ∷ 1 ∷ 1 ∷ 0 ∷ 0 ∷ 0 ∷ [])
+    -- more numbers on a line than a table has words
+    ∷ readsAs (clauseOver 2 [] (replicate 8193 1) []) (2 ∷ 1 ∷ 0 ∷ 1 ∷ 0 ∷ 1 ∷ [])
+    -- the first two values stay one number: atoms=1,1, and clauses=1,1 after it
+    ∷ reads (lineText atomsKey (49 ∷ 44 ∷ 49 ∷ [])) (refusal 25 0)
+    ∷ reads (lineText atomsKey (49 ∷ []) ++ lineText clausesKey (49 ∷ 44 ∷ 49 ∷ [])) (refusal 25 8)
+    -- "question 7 is never met from text": 6 with the line's place, wherever the number stands; 25 before it: pos=9999,01
+    ∷ reads (clauseOver 2 (2 ∷ 0 ∷ []) [] []) (refusal 6 18)
+    ∷ reads (clauseOver 3 (0 ∷ []) (9999 ∷ 9999 ∷ 9999 ∷ []) []) (refusal 6 25)
+    ∷ reads (lineText atomsKey (51 ∷ []) ++ lineText clausesKey (49 ∷ []) ++ lineText headKey (57 ∷ 57 ∷ 57 ∷ 57 ∷ 44 ∷ 48 ∷ 49 ∷ [])) (refusal 25 18)
+    -- "question 26 counts what is kept", with the clause's three counts: of 8,187 different numbers, one of them twice, 8,192 words; of 8,188 one too many, though not below n
+    ∷ reads (clauseOver 3 (8186 ∷ from 0 8187) [] []) (refusal 6 18)
+    ∷ reads (clauseOver 3 (8187 ∷ from 0 8187) [] []) (refusal 26 18)
     ∷ []
 
 pub requests : AllSay rows
-unfolding left fire reachFrom reach inNoHead condition conditionHolds applies effect least firstAtom firstPartner firstTarget firstStep reduce ask questions.atomsFrom questions.partsFrom questions.clauseFrom questions.clausesFrom questions.allUsed questions.tableOf startFrom clausesOf programOf part entryAt entriesFrom view find clears marksAfter marksAfterAll steps.shapeQuestions steps.stepQuestions checking.stepsFrom checking.checkList wordsOf reductions.bodyLiterals reductions.room reductions.stepsOf reductions.reduction questions.onWalk questions.onTable turned leads cyclic cycleOf programs.satisfies programs.reduct programs.models sublists stableTest below entriesOf stableWord modelsOf modelsAnswer modelsOut writtenIf between width places digits others commas lineText clauseText clausesText render textOf writeAnswer outAfter
-requests = (refl, (refl, (refl, ((refl, refl), (refl, (refl, (refl, (refl, (refl, (refl, (refl, (refl, (refl, (refl, (refl, (refl, ((refl, refl), (refl, (refl, (refl, (refl, (refl, (refl, (refl, (refl, (refl, (refl, ((refl, refl), ((refl, refl), ((refl, refl), ((refl, refl), ((refl, refl), ((refl, refl), ((refl, refl), ((refl, refl), ((refl, refl), ((refl, refl), ((refl, refl), (refl, (refl, (refl, (refl, (refl, (refl, (refl, (refl, (refl, (refl, (refl, (refl, (refl, (refl, (refl, (refl, (refl, ((refl, refl), ((refl, refl), ((refl, refl), ((refl, refl), ((refl, refl), ((refl, refl), ((refl, refl), (refl, (refl, (refl, (refl, (refl, (refl, tt))))))))))))))))))))))))))))))))))))))))))))))))))))))))))))))))))))
+unfolding left fire reachFrom reach inNoHead condition conditionHolds applies effect least firstAtom firstPartner firstTarget firstStep reduce ask questions.atomsFrom questions.partsFrom questions.clauseFrom questions.clausesFrom questions.allUsed questions.tableOf startFrom clausesOf programOf part entryAt entriesFrom view find clears marksAfter marksAfterAll steps.shapeQuestions steps.stepQuestions checking.stepsFrom checking.checkList wordsOf reductions.bodyLiterals reductions.room reductions.stepsOf reductions.reduction questions.onWalk questions.onTable turned leads cyclic cycleOf programs.satisfies programs.reduct programs.models sublists stableTest below entriesOf stableWord modelsOf modelsAnswer modelsOut writtenIf between width places digits others commas lineText clauseText clausesText render textOf writeAnswer outAfter clausesWords encode insert sorted reader.then reader.starts reader.run reader.ended reader.spanAt reader.nextOf reader.scan reader.numbers reader.onSpan reader.valueOf reader.valueAt reader.numberAt reader.countAt reader.listOf reader.listAt reader.clauseAt reader.clausesAt reader.restAt reader.programAt reader.readText reader.readAnswer reader.tableAfter
+requests = (refl, (refl, (refl, ((refl, refl), (refl, (refl, (refl, (refl, (refl, (refl, (refl, (refl, (refl, (refl, (refl, (refl, ((refl, refl), (refl, (refl, (refl, (refl, (refl, (refl, (refl, (refl, (refl, (refl, ((refl, refl), ((refl, refl), ((refl, refl), ((refl, refl), ((refl, refl), ((refl, refl), ((refl, refl), ((refl, refl), ((refl, refl), ((refl, refl), ((refl, refl), (refl, (refl, (refl, (refl, (refl, (refl, (refl, (refl, (refl, (refl, (refl, (refl, (refl, (refl, (refl, (refl, (refl, ((refl, refl), ((refl, refl), ((refl, refl), ((refl, refl), ((refl, refl), ((refl, refl), ((refl, refl), (refl, (refl, (refl, (refl, (refl, (refl, ((refl, refl), ((refl, refl), ((refl, refl), ((refl, refl), ((refl, refl), ((refl, refl), (refl, (refl, (refl, (refl, (refl, (refl, (refl, tt)))))))))))))))))))))))))))))))))))))))))))))))))))))))))))))))))))))))))))))))))

@@ -3,7 +3,7 @@ use mathlib.Core.Path.{_≡_}
 use mathlib.Core.List.{List, [], _∷_}
 use mathlib.Core.Option.{Option, none, some}
 use Prim.Native.Nat.{ℕ, _/_}
-use lib.ListN.{length, getD, replicate}
+use lib.ListN.{length, getD, take, replicate}
 use Rattle.answers.specs.declared.StepQuestion.{StepQuestion}
 use Rattle.answers.specs.declared.Answer.{Answer}
 use Rattle.answers.specs.declared.Answer.the-variants.{Accepted, Refused}
@@ -19,7 +19,7 @@ use Rattle.reduced_table.specs.Reduced.{reducedAnswer}
 use Rattle.models_test.specs.Answer.{testOf}
 use Rattle.models_list.specs.Answer.{modelsAnswer, modelsOut}
 use Rattle.cycle.specs.Answer.{cycleOf}
-use Rattle.text_form.specs.Reader.{readAnswer}
+use Rattle.text_form.specs.Reader.{readAnswer, tableAfter}
 use Rattle.text_form.specs.Digits.{digits}
 use Rattle.text_form.specs.Writer.{writeAnswer, outAfter}
 
@@ -70,13 +70,15 @@ firstNo ws ms ls k = stepQuestions some (getD ws 0 0) (view ws ms) (kindAt ls k)
 
 -- ---- rows of tables that are computed
 
--- a call says this; or the reducer writes this list for a table; or these are the words of its stable models; or these are the bytes of its text; or of a number
+-- a call says this; or the reducer writes this list for a table; or these are the words of its stable models; or these are the bytes of its text; or of a number; or a
+-- text is read as this table
 pub data Example : Type 0 where
   row : Call → Said → Example
   writes : List ℕ → List ℕ → Example
   lists : List ℕ → List ℕ → Example
   texts : List ℕ → List ℕ → Example
   digitsAre : ℕ → List ℕ → Example
+  readsAs : List ℕ → List ℕ → Example
 
 -- the reducer's call, lent a mark for each word and 64 words for the list, at first all 0
 abbrev pub reduced64 : List ℕ → Reduction
@@ -90,6 +92,8 @@ Says (lists ws l) = (modelsAnswer ws 6 ≡ Accepted (length l)) × (modelsOut ws
 -- into a slice of 64 bytes, at first all dots
 Says (texts ws bs) = (writeAnswer ws 64 ≡ Accepted (length bs)) × (outAfter ws (replicate 64 46) ≡ written bs (replicate 64 46))
 Says (digitsAre v bs) = digits v ≡ bs
+-- into a slice of 8,192 words, at first all 7
+Says (readsAs ts ws) = (readAnswer ts 8192 ≡ Accepted (length ws)) × (take (length ws) (tableAfter ts (replicate 8192 7)) ≡ ws)
 
 abbrev pub AllSay : List Example → Type 0
 AllSay [] = Unit {0}

@@ -9,8 +9,9 @@ use lib.ListN.{length, getD, take, set, length-append}
 use lib.Seq.{take-suc-set}
 use Rattle.semantics.specs.Lists.{keep}
 use Rattle.table.specs.Programs.{programOf}
-use Rattle.models_words.specs.Words.{below, stableWord, modelsOf}
-use Rattle.models_words.proofs.Sets.{keep-more}
+use Rattle.sorting.specs.Sorting.{below}
+use Rattle.models_words.specs.Words.{stableWord, modelsOf}
+use Rattle.sorting.proofs.Ascending.{keep-more}
 use Rattle.models_words.proofs.Antichains.{few-next}
 use Rattle.models_list.specs.Masks.{stableMask}
 use Rattle.models_list.specs.Listed.{Searchable, Found}

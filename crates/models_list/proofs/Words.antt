@@ -19,8 +19,10 @@ use Rattle.table.proofs.Encoding.{passed-within}
 use Rattle.models_masks.specs.Masks.{maskOf, allBelow, inside}
 use Rattle.models_masks.proofs.Bits.{apart-iff}
 use Rattle.models_masks.proofs.Models.{masks-iff, stable-masks}
-use Rattle.models_words.specs.Words.{setOfWord, below, stableWord}
-use Rattle.models_words.proofs.Sets.{below-in, below-ascends, mask-word, entries-ordered, among-entries}
+use Rattle.sorting.specs.Sorting.{below}
+use Rattle.models_words.specs.Words.{setOfWord, stableWord}
+use Rattle.sorting.proofs.Ascending.{below-in, below-ascends}
+use Rattle.models_words.proofs.Sets.{mask-word, entries-ordered, among-entries}
 use Rattle.models_words.proofs.Listed.{stable-word}
 use Rattle.models_list.specs.Masks.{partMask, reductHolds, reductModelled, clauseAsks, stableMask, Masked}
 

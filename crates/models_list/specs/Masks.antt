@@ -9,7 +9,7 @@ use lib.ListN.{length, getD}
 use Rattle.semantics.specs.Lists.{all}
 use Rattle.semantics.specs.Programs.{Clause, among}
 use Rattle.models_masks.specs.Masks.{maskOf, allBelow, inside, holds}
-use Rattle.models_words.specs.Words.{below}
+use Rattle.sorting.specs.Sorting.{below}
 
 -- the mask of a clause's part
 abbrev pub partMask : List ℕ → ℕ

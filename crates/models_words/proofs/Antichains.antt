@@ -14,8 +14,10 @@ use Rattle.semantics.proofs.Tests.{and-iff, so-ext, bit-le, bit-true}
 use Rattle.semantics.proofs.Models.{stable-iff}
 use Rattle.models_masks.specs.Masks.{maskOf}
 use Rattle.models_masks.proofs.Bits.{inside-iff}
-use Rattle.models_words.specs.Words.{setOfWord, below, stableWord, modelsOf}
-use Rattle.models_words.proofs.Sets.{below-in, mask-word, set-inj}
+use Rattle.sorting.specs.Sorting.{below}
+use Rattle.models_words.specs.Words.{setOfWord, stableWord, modelsOf}
+use Rattle.sorting.proofs.Ascending.{below-in}
+use Rattle.models_words.proofs.Sets.{mask-word, set-inj}
 use Rattle.models_words.proofs.Sperner.{total, total-le, length-kept, sperner, middle}
 use Rattle.models_words.proofs.Listed.{stable-word}
 

@@ -4,7 +4,8 @@ use mathlib.Core.List.{List, [], _∷_}
 use Prim.Native.Nat.{ℕ}
 use Rattle.semantics.specs.Programs.{Clause, program, satisfies, reduct, models}
 use Rattle.semantics.specs.Decide.{sublists, stableTest}
-use Rattle.models_words.specs.Words.{below, entriesOf, stableWord, modelsOf}
+use Rattle.sorting.specs.Sorting.{below}
+use Rattle.models_words.specs.Words.{entriesOf, stableWord, modelsOf}
 
 -- head, positive body, negative body
 abbrev rule : List ℕ → List ℕ → List ℕ → Clause

@@ -10,8 +10,10 @@ use Rattle.semantics.specs.Decide.{stableTest}
 use Rattle.semantics.proofs.Tests.{keep-iff}
 use Rattle.semantics.proofs.Decide.{test-iff}
 use Rattle.table.specs.Encoding.{Ordered}
-use Rattle.models_words.specs.Words.{word, setOfWord, below, entriesOf, stableWord, modelsOf}
-use Rattle.models_words.proofs.Sets.{keep-ascends, ascending-same, below-in, below-lt, below-ascends, entries-word, among-entries, set-inj, word-of-set}
+use Rattle.sorting.specs.Sorting.{below}
+use Rattle.models_words.specs.Words.{word, setOfWord, entriesOf, stableWord, modelsOf}
+use Rattle.sorting.proofs.Ascending.{keep-ascends, ascending-same, below-in, below-lt, below-ascends}
+use Rattle.models_words.proofs.Sets.{entries-word, among-entries, set-inj, word-of-set}
 
 module _ (P : Program) where
   -- The test of a word says whether its set is a stable model.

@@ -13,8 +13,8 @@ use lib.ListN.{length, length-append}
 use Rattle.semantics.specs.Lists.{bit, _∈_, keep}
 use Rattle.semantics.proofs.Tests.{so-dec, bit-false, bit-bound}
 use Rattle.models_masks.proofs.Bits.{and-digits}
-use Rattle.models_words.specs.Words.{below}
-use Rattle.models_words.proofs.Sets.{keep-more}
+use Rattle.sorting.specs.Sorting.{below}
+use Rattle.sorting.proofs.Ascending.{keep-more}
 
 -- ---- sums
 

@@ -1,11 +1,12 @@
 -- The words of all stable models, after document 02, slip 3: "List all packs of a small order".
 use mathlib.Core.Bool.{Bool}
-use mathlib.Core.List.{List, [], _∷_, _++_}
-use Prim.Native.Nat.{ℕ, zero, suc, _+_, _/_, _%_, _^_}
+use mathlib.Core.List.{List, [], _∷_}
+use Prim.Native.Nat.{ℕ, _+_, _/_, _%_, _^_}
 use lib.Dec.{eqb}
 use Rattle.semantics.specs.Lists.{keep}
 use Rattle.semantics.specs.Programs.{Program, Atoms}
 use Rattle.semantics.specs.Decide.{stableTest}
+use Rattle.sorting.specs.Sorting.{below}
 
 -- "one word, the sum of 2 to the power of each atom in it"
 unfoldable pub word : List ℕ → ℕ
@@ -15,11 +16,6 @@ word (a ∷ l) = 2 ^ a + word l
 -- the set of a word: its digit of 2 to the power of a is 1
 abbrev pub setOfWord : ℕ → Atoms
 setOfWord x a = eqb (x / 2 ^ a % 2) 1
-
--- the numbers below n, ascending
-unfoldable pub below : ℕ → List ℕ
-below zero = []
-below (suc n) = below n ++ n ∷ []
 
 -- the atoms below n of a word's set, ascending
 unfoldable pub entriesOf : ℕ → ℕ → List ℕ

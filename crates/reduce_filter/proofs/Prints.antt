@@ -15,6 +15,7 @@ use Rattle.answers.specs.declared.Answer.the-variants.{Accepted, Refused}
 use Rattle.answers.specs.Refusals.{refusalNumber, refusalPlace}
 use Rattle.answers.specs.Answers.{written, Small}
 use Rattle.answers.proofs.Numbers.{number-range}
+use Rattle.text_form.specs.Lists.{sortedProgram}
 use Rattle.text_form.specs.Reader.{readAnswer, tableAfter}
 use Rattle.text_form.specs.Stored.{Puts}
 use Rattle.answers.proofs.Slices.{sets-written, take-written}
@@ -40,11 +41,12 @@ said-of ts a h = subst (λ n. readAnswer ts n ≡ a) blank-long h
 pub read-passed : (ts : List ℕ) (k : ℕ) → readAnswer ts 8192 ≡ Accepted k → Passed (take k (tableAfter ts blank))
 read-passed ts k h =
     let a = accepted-reads ts blank k (subst (λ n. readAnswer ts n ≡ Accepted k) (sym blank-long) h) in
-    rw (a .after, take-written (encode (a .program)) blank k (a .count)) (encode-passes (a .program) (a .within))
+    let P = sortedProgram (a .lists) in
+    rw (a .after, take-written (encode P) blank k (a .count)) (encode-passes P (a .form .within))
 
 module _ (ts new : List ℕ) (k : ℕ) (h : readAnswer ts (length blank) ≡ Accepted k) (e : new ≡ tableAfter ts blank) where
   abbrev theProgram : Program
-  theProgram = accepted-reads ts blank k h .program
+  theProgram = sortedProgram (accepted-reads ts blank k h .lists)
 
   words-are : new ≡ written (encode theProgram) blank
   words-are = e ∙ accepted-reads ts blank k h .after

@@ -11,7 +11,7 @@ use Rattle.rewriting.proofs.Rows.{each-kind, kinds-partner}
 use Rattle.rewriting.proofs.Quiet.{Quiet, key, quiet-all}
 use Rattle.table.specs.View.{view}
 use Rattle.step_parts.specs.Parts.{Ready}
-use Rattle.step_reach.proofs.Laws.{zero-at}
+use Rattle.table.proofs.Slices.{zero-at}
 use Rattle.step_conditions.specs.Known.{Heads}
 use Rattle.search_flags.specs.Flags.{flagAt, Rows, NoFlagLost, Raising, AllFlagged, allFlags, highests, nexts}
 use Rattle.search_keys.specs.State.{State}

@@ -25,7 +25,7 @@ use Rattle.table.proofs.View.{length-view}
 use Rattle.table.proofs.Parts.{scan-end, view-straight}
 use Rattle.step_parts.specs.Parts.{Ascends}
 use Rattle.step_parts.proofs.Laws.{kept-on, kept-some, kept-place, place-kept}
-use Rattle.step_reach.proofs.Laws.{zero-at}
+use Rattle.table.proofs.Slices.{zero-at}
 use Rattle.step_conditions.specs.Known.{headCount, Heads, Tallied, Positive}
 
 -- "in the head of no kept clause" by the count

@@ -2,9 +2,9 @@
 use mathlib.Core.Path.{_≡_, refl, subst, _∙_}
 use mathlib.Core.Bool.{false, So, false≢true}
 use mathlib.Core.List.{List, _++_, append-nil}
-use Prim.Native.Nat.{ℕ, zero, suc, _+_, _≤_, _<_}
+use Prim.Native.Nat.{ℕ, _+_, _≤_, _<_}
 use lib.Dec.{eqb}
-use lib.ListN.{length, getD, set, drop, replicate, List·getD-eq-default}
+use lib.ListN.{length, set, drop, replicate, List·getD-eq-default}
 use lib.Seq.{drop-length}
 use borrow.Author.Fill.{fill-more}
 use Rattle.semantics.specs.Programs.{Atoms, Subset}
@@ -14,6 +14,7 @@ use Rattle.rewriting.specs.Reach.{closed}
 use Rattle.rewriting.specs.Reaches.{reach}
 use Rattle.rewriting.proofs.Reach.{reach-is}
 use Rattle.table.specs.View.{view}
+use Rattle.table.proofs.Slices.{zero-at}
 use Rattle.step_reach.specs.Bytes.{inBytes, Grown, Reached}
 
 pub grown-none : (P : Marked) (s : List ℕ) → Grown P s s
@@ -21,11 +22,6 @@ grown-none P s = record { within = λ T k h. h; same = refl }
 
 pub grown-trans : {P : Marked} {s t u : List ℕ} → Grown P s t → Grown P t u → Grown P s u
 grown-trans f g = record { within = λ T k h. g .within T k (f .within T k h); same = g .same ∙ f .same }
-
-pub zero-at : (k a : ℕ) → _≡_ {A = ℕ} (getD (replicate k 0) a 0) 0
-zero-at zero a = refl
-zero-at (suc k) zero = refl
-zero-at (suc k) (suc a) = zero-at k a
 
 -- bytes that are all 0 hold no atom
 pub none-in : (k a : ℕ) → ¬ So (inBytes (replicate k 0) a)

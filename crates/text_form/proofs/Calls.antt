@@ -1,9 +1,9 @@
 -- What reading and writing a text answer, and what they leave in the slice lent, by what the text or the table is.
 use Prim.Native.Nat.{ℕ, _-_, _≤_}
-use mathlib.Core.Path.{_≡_, refl, ap}
+use mathlib.Core.Path.{_≡_, refl, sym, ap, _∙_}
 use mathlib.Core.List.{List}
 use native.Mathlib.Omega.{arith}
-use lib.ListN.{length}
+use lib.ListN.{length, take, replicate, length-replicate}
 use lib.Dec.{leb}
 use borrow.Author.Tests.{le-leb}
 use Rattle.semantics.specs.Programs.{Program}
@@ -17,35 +17,41 @@ use Rattle.table.proofs.Encoding.{passed-encode, passed-within, program-encode,
 use Rattle.answers.specs.declared.Answer.the-variants.{Accepted, Refused}
 use Rattle.answers.proofs.Asked.{ask-taken}
 use Rattle.table.proofs.Laws.{on-taken}
+use Rattle.answers.proofs.Slices.{take-written}
 use Rattle.text_form.specs.Render.{render}
+use Rattle.text_form.specs.Lists.{sortedProgram, InForm, Canonical}
 use Rattle.answers.specs.Answers.{ask, written, writtenIf}
 use Rattle.text_form.specs.Reader.{Read, done, stop, readText, answerOf, readAnswer, sliceOf, tableAfter}
 use Rattle.text_form.specs.Writer.{textOf, writeAnswer, outAfter}
-use Rattle.text_form.proofs.Texts.{read-render, read-inv, render-short}
+use Rattle.text_form.proofs.Texts.{read-form, read-inv, render-short, render-form, render-canonical, program-same, within-ascends}
 
 -- ---- reading
 
--- a text that is read is that of a program within the limits, whose words the table slice then has
+-- a text that is read has the form, and the table slice then has the words of its lists, sorted
 pub record Reads (ts table : List ℕ) (k : ℕ) : Type 0 where
-  pub program : Program
-  pub within : Within program
-  pub text : render program ≡ ts
-  pub count : k ≡ length (encode program)
-  pub after : tableAfter ts table ≡ written (encode program) table
+  pub lists : Program
+  pub form : InForm ts lists
+  pub count : k ≡ length (encode (sortedProgram lists))
+  pub after : tableAfter ts table ≡ written (encode (sortedProgram lists)) table
 
 pub accepted-reads : (ts table : List ℕ) (k : ℕ) → readAnswer ts (length table) ≡ Accepted k → Reads ts table k
 unfolding readAnswer tableAfter
 accepted-reads ts table k h = go (readText ts (length table)) refl h
   where
     go : (x : Read Program) → readText ts (length table) ≡ x → answerOf x ≡ Accepted k → Reads ts table k
-    go (done P e) q h = let (g, t) = read-inv ts (length table) P e q in record { program = P; within = g; text = t; count = cc; after = rw q }
+    go (done P e) q h = let r = read-inv ts (length table) P e q in record { lists = r .lists; form = r .form; count = rw (r .kept) (cc); after = rw (q, r .kept) }
     go (stop r) q h = let z : _≡_ {A = ℕ} 0 1 = cc in absurd (omega arith)
 
--- the text of a program within the limits is read
+-- a text of the form is read
+pub form-reads : (ts table : List ℕ) (P : Program) → InForm ts P → 8192 ≤ length table
+    → (readAnswer ts (length table) ≡ Accepted (length (encode (sortedProgram P)))) × (tableAfter ts table ≡ written (encode (sortedProgram P)) table)
+unfolding readAnswer tableAfter
+form-reads ts table P f big = let (e, q) = read-form ts P (length table) f big in (ap answerOf q, ap (λ x. sliceOf x table) q)
+
+-- the text of a program within the limits is read as that program
 pub render-reads : (P : Program) (table : List ℕ) → Within P → 8192 ≤ length table
     → (readAnswer (render P) (length table) ≡ Accepted (length (encode P))) × (tableAfter (render P) table ≡ written (encode P) table)
-unfolding readAnswer tableAfter
-render-reads P table g big = let (e, q) = read-render P (length table) g big in (ap answerOf q, ap (λ x. sliceOf x table) q)
+render-reads P table g big = rw (program-same P (within-ascends P g)) at (form-reads (render P) table P (render-form P g) big)
 
 pub read-refused : (ts table : List ℕ) (r : Refusal) → readAnswer ts (length table) ≡ Refused r → tableAfter ts table ≡ table
 unfolding readAnswer tableAfter
@@ -94,3 +100,22 @@ pub text-reads : (ws table : List ℕ) → Passed ws → 8192 ≤ length table
     → (readAnswer (textOf ws) (length table) ≡ Accepted (length ws)) × (tableAfter (textOf ws) table ≡ written ws table)
 unfolding textOf
 text-reads ws table p big = rw (passed-encode ws p) at (render-reads (programOf ws) table (passed-within ws p) big)
+
+-- "The writer gives the canonical text."
+pub text-canonical : (ws : List ℕ) → Passed ws → Canonical (textOf ws)
+unfolding textOf
+text-canonical ws p = render-canonical (programOf ws) (passed-within ws p)
+
+-- a canonical text is the text of the table that is read from it
+pub canonical-text : (ts : List ℕ) (c : Canonical ts) → textOf (encode (sortedProgram (c .lists))) ≡ ts
+canonical-text ts c = text-encode (sortedProgram (c .lists)) ∙ ap render (program-same (c .lists) (c .ascends)) ∙ c .form .text
+
+-- tables that pass and have one text are the same
+pub text-same : (vs ws : List ℕ) → Passed vs → Passed ws → textOf vs ≡ textOf ws → vs ≡ ws
+text-same vs ws p q e =
+    let table = replicate {A = ℕ} 8192 0 in
+    let big : 8192 ≤ length table = omega (arith, length-replicate {A = ℕ} 8192 0) in
+    let (a, b) = text-reads vs table p big in
+    let (c, d) = rw (← e) at (text-reads ws table q big) in
+    let l : length vs ≡ length ws = cc in
+    sym (take-written vs table (length vs) refl) ∙ ap (take (length vs)) (sym b ∙ d) ∙ take-written ws table (length vs) l

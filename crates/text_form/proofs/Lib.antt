@@ -1,8 +1,9 @@
-pub mod Orders
 pub mod Widths
 pub mod Numbers
 pub mod Lines
+pub mod Orders
 pub mod Texts
+pub mod Unique
 pub mod Near
 pub mod Calls
 pub mod Before

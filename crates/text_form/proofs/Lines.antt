@@ -1,28 +1,31 @@
--- A line that is written is read, and a line that is read is what is written of it.
+-- A line that is written is read, and a line that is read is what is written of the numbers that stand there, of which a list keeps each once, sorted.
 use Prim.Native.Nat.{ℕ, zero, suc, _+_, _-_, _≤_, _<_}
 use mathlib.Core.Path.{_≡_, refl, sym, ap, subst, _∙_}
-use mathlib.Core.List.{List, [], _∷_, _++_, append-assoc, append-nil}
-use mathlib.Core.Bool.{Bool, true, false, _&&_, cond}
+use mathlib.Core.Logic.{_↔_}
+use mathlib.Core.List.{List, [], _∷_, _++_, append-assoc, append-nil, List·Memᴰ·head, List·Memᴰ·tail}
+use mathlib.Core.Bool.{Bool, true, false, _&&_, cond, So}
 use native.Mathlib.Omega.{arith}
 use lib.ListN.{length, length-append, length-drop, getD, take, drop}
 use lib.Seq.{drop-drop, take-append-seam}
 use lib.Dec.{ltb, eqb}
-use borrow.Author.Tests.{lt-ltb, le-leb, eq-eqb, ne-eqb, leb-true, ltb-true, eqb-true}
+use borrow.Author.Tests.{lt-ltb, lt-leb, le-leb, eq-eqb, ne-eqb, leb-true, ltb-true, eqb-true}
+use Rattle.semantics.specs.Lists.{_∈_}
+use Rattle.semantics.proofs.Tests.{all-iff, so-false}
+use Rattle.sorting.specs.Sorting.{sorted}
+use Rattle.sorting.proofs.Sorted.{sorted-iff, sorted-ascends}
 use Rattle.answers.specs.declared.ByteQuestion.{ByteQuestion}
+use Rattle.answers.specs.declared.ByteQuestion.the-variants.{WordLimit, TextAtomBelow}
 use Rattle.answers.specs.declared.Refusal.{Refusal}
+use Rattle.answers.specs.declared.Refusal.the-variants.{Byte}
 use Rattle.table.specs.Encoding.{Ordered}
 use Rattle.table.specs.Places.{cut}
 use Rattle.table.proofs.Stands.{past}
-use Rattle.table.proofs.Rising.{Rising, rising-iff}
 use Rattle.text_form.specs.declared.Span.{Span}
 use Rattle.text_form.specs.declared.Span.the-variants.{Value, Missing}
-use Rattle.text_form.specs.declared.Order.{Order}
-use Rattle.text_form.specs.declared.Order.the-variants.{Ascends, NotBelow, NotAbove}
 use Rattle.text_form.specs.Digits.{width, places, digits, others, commas}
 use Rattle.text_form.specs.Render.{lineText}
-use Rattle.text_form.specs.Reader.{Read, done, stop, then, starts, run, ended, spanAt, numbers, order, onSpan, onOrder, valueOf, valueAt, numberAt, countAt, listOf, listAt}
+use Rattle.text_form.specs.Reader.{Read, done, stop, then, starts, run, ended, spanAt, numbers, onSpan, valueOf, valueAt, numberAt, countAt, allBelow, listOf, listAt}
 use Rattle.answers.specs.Answers.{ask}
-use Rattle.text_form.proofs.Orders.{order-of, order-inv}
 use Rattle.text_form.proofs.Numbers.{FourDigits, numbers-of, numbers-inv}
 
 -- no line feed
@@ -143,14 +146,21 @@ line-inv ts key at from end h = go (starts key (drop at ts)) refl (ltb (f + run 
     go true s false l h = let z : _≡_ {A = ℕ} 0 1 = cc in absurd (omega arith)
     go false s l k h = let z : _≡_ {A = ℕ} 0 1 = cc in absurd (omega arith)
 
--- ---- numbers in order
+-- ---- numbers below n
 
-rising-small : (n low : ℕ) (xs : List ℕ) → n ≤ 1024 → Rising n low xs → FourDigits xs
-rising-small n low [] l r = tt
-rising-small n low (x ∷ xs) l r = (omega (arith, r .0), rising-small n (x + 1) xs l (r .2))
+pub below-iff : (n : ℕ) (xs : List ℕ) → So (allBelow n xs) ↔ ((a : ℕ) → a ∈ xs → a < n)
+below-iff n xs = (λ h a m. ltb-true a n (all-iff (λ x. ltb x n) xs .0 h a m), λ f. all-iff (λ x. ltb x n) xs .1 (λ a m. lt-ltb a n (f a m)))
+
+below-small : (n : ℕ) (xs : List ℕ) → n ≤ 1024 → ((a : ℕ) → a ∈ xs → a < n) → FourDigits xs
+below-small n [] l f = tt
+below-small n (x ∷ xs) l f = (omega (arith, f x (List·Memᴰ·head refl)), below-small n xs l (λ a m. f a (List·Memᴰ·tail m)))
 
 pub ordered-small : (n : ℕ) (xs : List ℕ) → n ≤ 1024 → Ordered n xs → FourDigits xs
-ordered-small n xs l o = rising-small n 0 xs l (rising-iff n xs .1 o)
+ordered-small n xs l o = below-small n xs l (o .below)
+
+-- a list whose sorted numbers are below n
+pub sorted-small : (n : ℕ) (xs : List ℕ) → n ≤ 1024 → Ordered n (sorted xs) → FourDigits xs
+sorted-small n xs l o = below-small n xs l (λ a m. o .below a (sorted-iff a xs .1 m))
 
 -- ---- what an answer that is not a refusal says
 
@@ -165,12 +175,6 @@ module _ {A : Type 0} where
   span-inv (Value from end) at f a e h = (from, end, refl, h)
   span-inv Missing at f a e h = let z : _≡_ {A = ℕ} 0 1 = cc in absurd (omega arith)
 
-  pub onOrder-inv : (o : Order) (at : ℕ) (r : Read A) (a : A) (e : ℕ) → onOrder o at r ≡ done a e → (o ≡ Ascends) × (r ≡ done a e)
-  unfolding onOrder
-  onOrder-inv Ascends at r a e h = (refl, h)
-  onOrder-inv NotBelow at r a e h = let z : _≡_ {A = ℕ} 0 1 = cc in absurd (omega arith)
-  onOrder-inv NotAbove at r a e h = let z : _≡_ {A = ℕ} 0 1 = cc in absurd (omega arith)
-
 module _ {A B : Type 0} where
   pub then-inv : (r : Read A) (f : A → ℕ → Read B) (b : B) (e : ℕ) → then r f ≡ done b e → (a : A) × (d : ℕ) × (r ≡ done a d) × (f a d ≡ done b e)
   unfolding then
@@ -179,7 +183,7 @@ module _ {A B : Type 0} where
 
 -- ---- the numbers of a line
 
-value-of : (ts key xs r : List ℕ) (at : ℕ) → drop at ts ≡ lineText key (commas xs) ++ r → FourDigits xs → (e : ℕ) × (valueAt ts key at ≡ done xs e) × (drop e ts ≡ r)
+pub value-of : (ts key xs r : List ℕ) (at : ℕ) → drop at ts ≡ lineText key (commas xs) ++ r → FourDigits xs → (e : ℕ) × (valueAt ts key at ≡ done xs e) × (drop e ts ≡ r)
 unfolding valueAt valueOf onSpan ask
 value-of ts key xs r at h s =
     let k = line-of ts key (commas xs) r at h (free-commas xs) in
@@ -197,16 +201,36 @@ value-inv ts key xs at e h =
 
 -- ---- a list line
 
-pub list-of : (ts key xs r : List ℕ) (n used at : ℕ) → drop at ts ≡ lineText key (commas xs) ++ r → n ≤ 1024 → Ordered n xs → used + length xs ≤ 8192
-    → (e : ℕ) × (listAt ts key n used at ≡ done xs e) × (drop e ts ≡ r)
-unfolding listAt listOf then ask onOrder
-list-of ts key xs r n used at h l o u =
-    let (e, a, d) = value-of ts key xs r at h (ordered-small n xs l o) in
-    (e, rw (a, le-leb (used + length xs) 8192 u, order-of n 0 xs (rising-iff n xs .1 o)), d)
+-- a line that passes 24 and 25, with the numbers xs
+module _ (ts key xs : List ℕ) (n used at e : ℕ) (h : valueAt ts key at ≡ done xs e) where
+  -- "question 26 counts what is kept", whatever the numbers are
+  pub list-limit : 8192 < used + length (sorted xs) → listAt ts key n used at ≡ stop (Byte WordLimit at)
+  unfolding listAt listOf then ask
+  list-limit l = rw (h, lt-leb (used + length (sorted xs)) 8192 l)
 
--- what a list line that is read says
+  module _ (fits : used + length (sorted xs) ≤ 8192) where
+    -- "then 6": a number that is not below n, wherever it stands and however often
+    pub list-large : (a : ℕ) → a ∈ xs → n ≤ a → listAt ts key n used at ≡ stop (Byte TextAtomBelow at)
+    unfolding listAt listOf then ask
+    list-large a m l = rw (h, le-leb (used + length (sorted xs)) 8192 fits, so-false (allBelow n (sorted xs)) (λ t. omega (arith, below-iff n (sorted xs) .0 t a (sorted-iff a xs .1 m))))
+
+    -- and else what is kept
+    pub list-kept : ((a : ℕ) → a ∈ xs → a < n) → listAt ts key n used at ≡ done (sorted xs) e
+    unfolding listAt listOf then ask
+    list-kept f = rw (h, le-leb (used + length (sorted xs)) 8192 fits, below-iff n (sorted xs) .1 (λ a m. f a (sorted-iff a xs .0 m)))
+
+-- the numbers xs, in any order, are read as the sorted ones
+pub list-of : (ts key xs r : List ℕ) (n used at : ℕ) → drop at ts ≡ lineText key (commas xs) ++ r → n ≤ 1024 → Ordered n (sorted xs) → used + length (sorted xs) ≤ 8192
+    → (e : ℕ) × (listAt ts key n used at ≡ done (sorted xs) e) × (drop e ts ≡ r)
+list-of ts key xs r n used at h l o u =
+    let (e, a, d) = value-of ts key xs r at h (sorted-small n xs l o) in
+    (e, list-kept ts key xs n used at e a u (λ b m. o .below b (sorted-iff b xs .1 m)), d)
+
+-- what a list line that is read says: the numbers that stand there, which sorted are xs
 pub record ListLine (ts key xs : List ℕ) (n used at e : ℕ) : Type 0 where
-  pub text : drop at ts ≡ lineText key (commas xs) ++ drop e ts
+  pub list : List ℕ
+  pub kept : sorted list ≡ xs
+  pub text : drop at ts ≡ lineText key (commas list) ++ drop e ts
   pub next : e ≤ length ts
   pub ordered : Ordered n xs
   pub fits : used + length xs ≤ 8192
@@ -216,14 +240,17 @@ unfolding listAt listOf
 list-inv ts key xs n used at e h =
     let (ys, d, a, h1) = then-inv _ _ xs e h in
     let (f, h2) = ask-inv _ _ _ xs e h1 in
-    let (o, h3) = onOrder-inv _ _ _ xs e h2 in
-    let (t, l) = value-inv ts key xs at e (a ∙ h3) in
-    let q : ys ≡ xs = cc in
+    let (o, h3) = ask-inv _ _ _ xs e h2 in
+    let q : sorted ys ≡ xs = cc in
+    let w : d ≡ e = cc in
+    let (t, l) = value-inv ts key ys at e (a ∙ ap (done ys) w) in
     record {
+      list = ys;
+      kept = q;
       text = t;
       next = l;
-      ordered = subst (λ l. Ordered n l) q (rising-iff n ys .0 (order-inv n 0 ys o));
-      fits = subst (λ l. used + length l ≤ 8192) q (leb-true (used + length ys) 8192 f);
+      ordered = subst (λ l. Ordered n l) q (record { below = below-iff n (sorted ys) .0 o; ascends = sorted-ascends ys });
+      fits = subst (λ l. used + length l ≤ 8192) q (leb-true (used + length (sorted ys)) 8192 f);
     }
 
 -- ---- a line with one number, up to a limit

@@ -31,15 +31,16 @@ record Goes (g : Bool) (v b w : ℕ) : Type 0 where
   pub small : x < 10
   pub byte : b ≡ 48 + x
   pub value : w ≡ v * 10 + x
-  pub more : g ≡ true → (0 < v) × (v ≤ 999)
+  pub short : v ≤ 999
+  pub more : g ≡ true → 0 < v
 
 next-digit : (g : Bool) (v b w : ℕ) → nextOf g v b ≡ Digit w → Goes g v b w
 unfolding nextOf
 next-digit g v b w h = go (leb 48 b && leb b 57) refl (leb v 999 && (not g || leb 1 v)) refl (g && eqb b 44) h
   where
-    most : (g : Bool) → (leb v 999 && (not g || leb 1 v)) ≡ true → g ≡ true → (0 < v) × (v ≤ 999)
-    most true q e = let (a, b) = and-iff (leb v 999) (leb 1 v) .0 q in (leb-true 1 v b, leb-true v 999 a)
-    most false q e = let z : _≡_ {A = ℕ} 0 1 = cc in absurd (omega arith)
+    least : (g : Bool) → (not g || leb 1 v) ≡ true → g ≡ true → 0 < v
+    least true q e = leb-true 1 v q
+    least false q e = let z : _≡_ {A = ℕ} 0 1 = cc in absurd (omega arith)
 
     go : (t : Bool) → (leb 48 b && leb b 57) ≡ t → (u : Bool) → (leb v 999 && (not g || leb 1 v)) ≡ u → (c : Bool)
         → cond t (cond u (Digit (v * 10 + (b - 48))) Bad) (cond c Comma Bad) ≡ Digit w → Goes g v b w
@@ -47,11 +48,16 @@ next-digit g v b w h = go (leb 48 b && leb b 57) refl (leb v 999 && (not g || le
         let (l, m) = and-iff (leb 48 b) (leb b 57) .0 p in
         let lo = leb-true 48 b l in
         let hi = leb-true b 57 m in
+        let (s, t) = and-iff (leb v 999) (not g || leb 1 v) .0 q in
         let f : v * 10 + (b - 48) ≡ w = cc in
-        record { x = b - 48; small = omega arith; byte = omega arith; value = sym f; more = most g q }
+        record { x = b - 48; small = omega arith; byte = omega arith; value = sym f; short = leb-true v 999 s; more = least g t }
     go true p false q c e = let z : _≡_ {A = ℕ} 0 1 = cc in absurd (omega arith)
     go false p u q true e = let z : _≡_ {A = ℕ} 0 1 = cc in absurd (omega arith)
     go false p u q false e = let z : _≡_ {A = ℕ} 0 1 = cc in absurd (omega arith)
+
+-- so a number so far has four digits at most
+pub digit-most : (g : Bool) (v b w : ℕ) → nextOf g v b ≡ Digit w → w ≤ 9999
+digit-most g v b w h = let d = next-digit g v b w h in omega (arith, d .value, d .small, d .short)
 
 next-comma : (g : Bool) (v b : ℕ) → nextOf g v b ≡ Comma → (g ≡ true) × (b ≡ 44)
 unfolding nextOf
@@ -119,8 +125,8 @@ scan-inv g v (b ∷ l) a z h =
   where
     grown : (g : Bool) (w : ℕ) → (g ≡ false → v ≡ 0) → Goes g v b w → (w ≤ 9999) × (pre g v ++ (b ∷ l) ≡ digits w ++ l)
     grown true w z d =
-        let m = d .more refl in
-        (omega (arith, d .value, d .small), rw (d .byte, d .value, digits-more v (d .x) (m .0) (d .small) (omega (arith, d .small, m .1)), append-assoc))
+        let m = d .short in
+        (omega (arith, d .value, d .small), rw (d .byte, d .value, digits-more v (d .x) (d .more refl) (d .small) (omega (arith, d .small)), append-assoc))
     grown false w z d =
         let e : w ≡ d .x = omega (arith, d .value, z refl) in
         (omega (arith, d .small), rw (d .byte, e, digits-one (d .x) (d .small)))

@@ -1,13 +1,16 @@
--- Reading a text: questions 22 to 27 of document 01, with 2, 3, 6 and 7, asked in its order. The first no, or the program.
+-- Reading a text: questions 22 to 27 of document 01, with 2, 3 and 6, asked in its order. The first no, or the program.
+-- A list may be in any order and repeat an atom (document 02, slip 5): what is kept of it ascends, so that question 7 is never met.
 use Prim.Native.Nat.{ℕ, zero, suc, _+_, _-_, _*_}
 use mathlib.Core.List.{List, [], _∷_}
 use mathlib.Core.Bool.{Bool, true, false, _&&_, _||_, not, cond}
 use lib.ListN.{length, getD, drop}
 use lib.Dec.{ltb, leb, eqb}
+use Rattle.semantics.specs.Lists.{all}
 use Rattle.semantics.specs.Programs.{Clause, Program, program}
+use Rattle.sorting.specs.Sorting.{sorted}
 use Rattle.answers.specs.declared.CallQuestion.the-variants.{TextLength, TableSlice}
 use Rattle.answers.specs.declared.ByteQuestion.{ByteQuestion}
-use Rattle.answers.specs.declared.ByteQuestion.the-variants.{TextAtomLimit, TextClauseLimit, TextAtomBelow, TextAscending, LineThere, ValueInForm, WordLimit, TextAllUsed}
+use Rattle.answers.specs.declared.ByteQuestion.the-variants.{TextAtomLimit, TextClauseLimit, TextAtomBelow, LineThere, ValueInForm, WordLimit, TextAllUsed}
 use Rattle.answers.specs.declared.Refusal.{Refusal}
 use Rattle.answers.specs.declared.Refusal.the-variants.{Call, Byte}
 use Rattle.table.specs.Encoding.{clauseWords, encode}
@@ -16,8 +19,6 @@ use Rattle.text_form.specs.declared.Span.{Span}
 use Rattle.text_form.specs.declared.Span.the-variants.{Value, Missing}
 use Rattle.text_form.specs.declared.Next.{Next}
 use Rattle.text_form.specs.declared.Next.the-variants.{Digit, Comma, Bad}
-use Rattle.text_form.specs.declared.Order.{Order}
-use Rattle.text_form.specs.declared.Order.the-variants.{Ascends, NotBelow, NotAbove}
 use Rattle.answers.specs.declared.Answer.{Answer}
 use Rattle.answers.specs.declared.Answer.the-variants.{Accepted, Refused}
 use Rattle.text_form.specs.Render.{atomsKey, clausesKey, headKey, posKey, negKey}
@@ -111,23 +112,19 @@ numberAt ts key at = then (valueAt ts key at) (λ xs e. ask stop (eqb (length xs
 unfoldable pub countAt : List ℕ → List ℕ → ℕ → ByteQuestion → ℕ → Read ℕ
 countAt ts key limit q at = then (numberAt ts key at) (λ n e. ask stop (leb n limit) (Byte q at) (done n e))
 
--- "6 and 7 for each number": `low` is one above the number before, 0 at the line's first
-unfoldable pub order : ℕ → ℕ → List ℕ → Order
-order n low [] = Ascends
-order n low (x ∷ xs) = cond (ltb x n) (cond (leb low x) (order n (x + 1) xs) NotAbove) NotBelow
+-- "6 .. for each number"
+abbrev pub allBelow : ℕ → List ℕ → Bool
+allBelow n xs = all (λ x. ltb x n) xs
 
-module _ {A : Type 0} where
-  unfoldable pub onOrder : Order → ℕ → Read A → Read A
-  onOrder Ascends at r = r
-  onOrder NotBelow at r = stop (Byte TextAtomBelow at)
-  onOrder NotAbove at r = stop (Byte TextAscending at)
-
--- "for the others 26 Do the words so far stay within 8,192", where `used` are in use before this line's numbers, "then 6 and 7 for each number"
+-- "for the others 26 Do the words so far stay within 8,192", where `used` are in use before this line's numbers; "question 26 counts what is
+-- kept". "Then 6 .. for each number."
 unfoldable pub listOf : ℕ → ℕ → ℕ → List ℕ → ℕ → Read (List ℕ)
-listOf n used at xs e = ask stop (leb (used + length xs) 8192) (Byte WordLimit at) (onOrder (order n 0 xs) at (done xs e))
+listOf n used at kept e = ask stop (leb (used + length kept) 8192) (Byte WordLimit at) (ask stop (allBelow n kept) (Byte TextAtomBelow at) (done kept e))
 
+-- "Reading a list sorts it and keeps each atom once"
 unfoldable pub listAt : List ℕ → List ℕ → ℕ → ℕ → ℕ → Read (List ℕ)
-listAt ts key n used at = then (valueAt ts key at) (λ xs e. listOf n used at xs e)
+unfolding sorted
+listAt ts key n used at = then (valueAt ts key at) (λ xs e. listOf n used at (sorted xs) e)
 
 -- ---- the text
 

@@ -1,19 +1,73 @@
 -- What the functions below the reader's and the writer's call answer and store.
-use Prim.Native.Nat.{ℕ, _+_}
+use Prim.Native.Nat.{ℕ, _+_, _≤_, _<_}
 use mathlib.Core.Path.{_≡_}
-use mathlib.Core.List.{List}
-use mathlib.Core.Bool.{cond}
-use lib.ListN.{length}
+use mathlib.Core.Logic.{_↔_}
+use mathlib.Core.List.{List, []}
+use mathlib.Core.Bool.{true, false, cond}
+use lib.ListN.{length, getD, drop}
 use lib.Seq.{sets}
+use lib.Dec.{leb, eqb}
+use Rattle.semantics.specs.Lists.{_∈_, keep}
+use Rattle.sorting.specs.Sorting.{below, sorted}
+use Rattle.text_form.specs.declared.Item.{Item}
+use Rattle.text_form.specs.declared.Item.the-variants.{Number, Nothing}
+use Rattle.text_form.specs.declared.Order.{Order}
+use Rattle.text_form.specs.declared.Order.the-variants.{Ascends, Unordered, Malformed}
 use Rattle.text_form.specs.declared.Form.{Form}
-use Rattle.text_form.specs.declared.Form.the-variants.{Numbers, Malformed}
+use Rattle.text_form.specs.declared.Form.the-variants.{Numbers, NotInForm}
 use Rattle.text_form.specs.declared.Line.{Line}
 use Rattle.text_form.specs.declared.Line.the-variants.{Got, Stop}
-use Rattle.text_form.specs.Reader.{Read, done, stop, Scanned}
+use Rattle.text_form.specs.Reader.{Read, done, stop, Scanned, failed, emit, scan}
 
--- what a value is: so many numbers, or not in form
-unfoldable pub formOf : Scanned → Form
-formOf s = cond (s .ok) (Numbers (length (s .xs))) Malformed
+-- ---- a value
+
+-- what is scanned from a place of a value on; behind its last number, whose place ends past the value, nothing
+abbrev pub scanFrom : List ℕ → ℕ → Scanned
+scanFrom l i = cond (leb i (length l)) (scan false 0 (drop i l)) (record { ok = true; xs = [] })
+
+-- a number of the value, which is followed from the place j on, or none in form
+abbrev pub Finds : List ℕ → ℕ → Item → Type 0
+Finds l i (Number v j) = (i < j) × (j ≤ length l + 1) × (v ≤ 9999) × (scanFrom l i ≡ emit v (scanFrom l j))
+Finds l i Nothing = scanFrom l i ≡ failed
+
+-- the numbers of a value in form, sorted and each once: there are k, and they stand from `at` on
+pub record Keeps (s : Scanned) (k at : ℕ) (w w′ : List ℕ) : Type 0 where
+  pub ok : s .ok ≡ true
+  pub count : length (sorted (s .xs)) ≡ k
+  pub stored : w′ ≡ sets w at (sorted (s .xs))
+
+abbrev pub Sorts : Scanned → Form → ℕ → List ℕ → List ℕ → Type 0
+Sorts s (Numbers k) at w w′ = Keeps s k at w w′
+Sorts s NotInForm at w w′ = s .ok ≡ false
+
+-- those stored before a number that is not above the one before it: no more than will be kept
+pub record Breaks (s : Scanned) (at : ℕ) (w w′ : List ℕ) : Type 0 where
+  pub first : List ℕ
+  pub fewer : length first ≤ length (sorted (s .xs))
+  pub stored : w′ ≡ sets w at first
+
+abbrev pub Scans : Scanned → Order → ℕ → List ℕ → List ℕ → Type 0
+Scans s (Ascends k) at w w′ = Keeps s k at w w′
+Scans s Unordered at w w′ = Breaks s at w w′
+Scans s Malformed at w w′ = s .ok ≡ false
+
+-- the numbers of a value are marked by 1, and all of them are below `top`
+pub record Marked (s : Scanned) (top : ℕ) (marks : List ℕ) : Type 0 where
+  pub ok : s .ok ≡ true
+  pub one : (a : ℕ) → (getD marks a 0 ≡ 1) ↔ (a ∈ s .xs)
+  pub under : (a : ℕ) → a ∈ s .xs → a < top
+  pub room : top ≤ length marks
+
+abbrev pub Marks : Scanned → Form → List ℕ → Type 0
+Marks s (Numbers top) marks = Marked s top marks
+Marks s NotInForm marks = s .ok ≡ false
+
+-- the numbers marked by 1, ascending
+unfoldable pub markedOf : List ℕ → List ℕ
+unfolding below
+markedOf marks = keep (λ a. eqb (getD marks a 0) 1) (below (length marks))
+
+-- ---- a line
 
 abbrev pub numberAnswer : Read ℕ → Line
 numberAnswer (done x e) = Got x (record { at = e })

@@ -15,17 +15,23 @@ pub enum Next {
     Bad,
 }
 
-// What a value is: so many numbers, or not in form.
-pub enum Form {
-    Numbers(usize),
+// What stands at a place of a value: a number, with the place past it and its comma, or nothing in form.
+pub enum Item {
+    Number(u16, usize),
+    Nothing,
+}
+
+// What the numbers of a value are: so many that ascend, some not above the one before, or not in form.
+pub enum Order {
+    Ascends(usize),
+    Unordered,
     Malformed,
 }
 
-// What the numbers of a part are: ascending atoms, or the first fault.
-pub enum Order {
-    Ascends,
-    NotBelow,
-    NotAbove,
+// What a value's numbers come to: so many, or a bound of them all; or the value is not in form.
+pub enum Form {
+    Numbers(usize),
+    NotInForm,
 }
 
 // A place in the text.

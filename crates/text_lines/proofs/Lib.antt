@@ -1,3 +1,5 @@
 pub mod Laws
+pub mod Values
+pub mod Marks
 pub mod Answers
 pub mod Lines

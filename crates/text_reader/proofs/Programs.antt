@@ -100,7 +100,9 @@ module _ (ts table : List ℕ) where
   -- the text is read, and its n words stand at the start of a local array w
   module _ (w₀ w : List ℕ) (n : ℕ) (cur : Cursor) (a : length ts ≤ 65536) (b : 8192 ≤ length table) (h : Held encode (programAt ts) n cur 0 w₀ w) where
     pub call-short : n ≤ 8192
-    call-short = omega (arith, read-inv ts (length table) (h .thing) (cur .at) (on-text a b ∙ h .read) .0 .fewWords, h .count)
+    call-short =
+        let r = read-inv ts (length table) (h .thing) (cur .at) (on-text a b ∙ h .read) in
+        omega (arith, ap (λ P. length (encode P)) (r .kept), r .form .within .fewWords, h .count)
 
     -- the words are copied
     pub call-done : (x : List ℕ) → n ≤ length w → x ≡ sets table 0 (take n w) → (Accepted n ≡ readAnswer ts (length table)) × (x ≡ tableAfter ts table)

@@ -29,22 +29,14 @@ pub fn read_count(text: &[u8], key: &[u8], limit: u16, q: ByteQuestion, c: Curso
     line
 }
 
-// A count of words as a word.
-fn narrow(n: usize) -> u16
-    requires { ⌜ n ≤ 8192 ⌝ }
-    ensures { λ r. ⌜ r ≡ n ⌝ }
-{
-    n as u16
-}
-
 // The three counts of a clause.
 fn put_counts(words: &mut [u16], at: usize, h: usize, p: usize, q: usize)
     requires { ⌜ (at ≤ 8192) × ((h ≤ 8192) × ((p ≤ 8192) × (q ≤ 8192))) ⌝ }
     ensures { λ _. ⌜ now (words .exit) ≡ set (set (set (now (words .entry)) at h) (at + 1) p) (at + 2) q ⌝ }
 {
-    text_lines::put_word(words, at, narrow(h));
-    text_lines::put_word(words, at + 1, narrow(p));
-    text_lines::put_word(words, at + 2, narrow(q));
+    text_lines::put_word(words, at, text_lines::narrow(h));
+    text_lines::put_word(words, at + 1, text_lines::narrow(p));
+    text_lines::put_word(words, at + 2, text_lines::narrow(q));
 }
 
 // A clause: its three lines. Its words are stored from the place `used` on.
@@ -137,7 +129,13 @@ fn read_program(text: &[u8], words: &mut [u16]) -> Line
     let Line::Got(clauses, c2) = second else {
         return second;
     };
-    read_rest(text, narrow(atoms), narrow(clauses), words, c2)
+    read_rest(
+        text,
+        text_lines::narrow(atoms),
+        text_lines::narrow(clauses),
+        words,
+        c2,
+    )
 }
 
 // A text is read into the table slice: questions 22 and 23, then the lines. A refusal changes nothing.

@@ -1,6 +1,6 @@
 -- `models_list::masks::part_mask` meets its contract.
 use borrow.Author.Needs.{needs}
-use Rattle.models_words.specs.Words.{below}
+use Rattle.sorting.specs.Sorting.{below}
 use Rattle.models_list.proofs.masks.part_mask.Statement.{statement}
 use Rattle.models_list.proofs.masks.part_mask.Tie as tie
 
