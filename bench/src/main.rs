@@ -4,6 +4,7 @@
 mod calls;
 mod incremental;
 mod models;
+mod reading;
 mod timing;
 
 use gambrolt_tests::independent::program::{words, Clause, Program};
@@ -34,6 +35,8 @@ fn main() {
     println!("|---|---|");
     largest_test();
     texts();
+    println!();
+    reading::texts();
     println!();
     println!("| shape | words | ms | ns a word | cycle answer / questions 1 to 8 |");
     println!("|---|---|---|---|---|");

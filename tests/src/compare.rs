@@ -4,13 +4,25 @@ use crate::library;
 use std::fmt::Debug;
 
 /// How many calls were compared, how often each question refused one, how many steps of each kind were made, how many
-/// programs had which circles, and what the lists of stable models were.
+/// programs had which circles, what the lists of stable models were, and what the texts were that were read.
 pub struct Tally {
     pub cases: u64,
     pub met: [u64; 32],
     pub made: [u64; 9],
     pub circles: Circles,
     pub listed: Listed,
+    pub texts: Texts,
+}
+
+/// Texts that were read: how often the library refused one by each question; how many of those taken were canonical, and how
+/// many not; and how many pairs of them gave one table, and how many two.
+#[derive(Debug, Default)]
+pub struct Texts {
+    pub met: [u64; 32],
+    pub canonical: u64,
+    pub unordered: u64,
+    pub one_table: u64,
+    pub two_tables: u64,
 }
 
 /// Programs with a circle over positive bodies, with circles through negative literals alone, and without any.
@@ -59,8 +71,8 @@ fn code(answer: Answer) -> u64 {
 
 impl Tally {
     pub fn new() -> Tally {
-        let (circles, listed) = (Circles::default(), Listed::default());
-        Tally { cases: 0, met: [0; 32], made: [0; 9], circles, listed }
+        let (circles, listed, texts) = (Circles::default(), Listed::default(), Texts::default());
+        Tally { cases: 0, met: [0; 32], made: [0; 9], circles, listed, texts }
     }
 
     /// Compares what a call gave with what document 01 says, both with all memory that was lent for writing.
@@ -145,6 +157,7 @@ impl Tally {
     pub fn read_text(&mut self, text: &[u8], table: &[u16]) -> (Answer, Vec<u16>) {
         let (answer, after) = independent::text::read_text(text, table);
         let (given, words) = library::read_text(text, table);
+        self.texts.met[(given >> 48) as usize] += 1;
         let shown = String::from_utf8_lossy(text);
         (self.same(&("read_text", shown, table.len()), answer, &after, given, &words), after)
     }

@@ -183,6 +183,8 @@ fn a_stack_of_192_kilobytes() {
         assert_eq!(library::models(&pairs, &vec![0; 12870]).0, 256);
         let (bytes, text) = library::write_text(&table, &vec![0; 65536]);
         assert_eq!(library::read_text(&text[..bytes as usize], &vec![0; 8192]).0, table.len() as u64);
+        let unordered = b"atoms=2\nclauses=1\nhead=1,0,1\npos=\nneg=\n";
+        assert_eq!(library::read_text(unordered, &vec![0; 8192]).0, 7);
     };
     std::thread::Builder::new().stack_size(192 << 10).spawn(calls).unwrap().join().unwrap();
 }

@@ -72,7 +72,8 @@ fn of_steps_and_sets() -> Vec<(&'static str, u64)> {
 
 fn of_texts() -> Vec<(&'static str, u64)> {
     let read = |text: &str, room: usize| number(Tally::new().read_text(text.as_bytes(), &vec![0; room]).0);
-    let long = format!("atoms=1\nclauses=1\nhead={}\n", vec!["0"; 8188].join(","));
+    let numbers: Vec<String> = (0..8188).map(|number| number.to_string()).collect();
+    let long = format!("atoms=1\nclauses=1\nhead={}\n", numbers.join(","));
     vec![
         ("TEXT_LENGTH", read(&"x".repeat(65537), 8192)),
         ("TABLE_SLICE", read("", 8191)),

@@ -224,10 +224,29 @@ fn questions_of_a_text() {
     assert_eq!(read("atoms=2\nclauses=2049\n"), refused(3, 8));
     assert_eq!(read("atoms=2\nclauses=1\nhead=1,\n"), refused(25, 18));
     assert_eq!(read("atoms=2\nclauses=1\nhead=2\n"), refused(6, 18));
-    assert_eq!(read("atoms=2\nclauses=1\nhead=1,0\n"), refused(7, 18));
     assert_eq!(read("atoms=2\nclauses=1\nhead=0,1\npos=\nneg=\n"), Ok(7));
     assert_eq!(read("atoms=2\nclauses=0\n\n"), refused(27, 18));
-    let long = format!("atoms=2\nclauses=1\nhead={}\n", vec!["5"; 8188].join(","));
-    assert_eq!(read(&long), refused(26, 18));
-    assert_eq!(read(&long.replacen("5,", "", 1)), refused(6, 18));
+    let long = |count: u16| (0..count).map(|number| number.to_string()).collect::<Vec<_>>().join(",");
+    assert_eq!(read(&format!("atoms=2\nclauses=1\nhead={}\n", long(8188))), refused(26, 18));
+    assert_eq!(read(&format!("atoms=2\nclauses=1\nhead={}\n", long(8187))), refused(6, 18));
+}
+
+/// Slip 5 of document 02.
+#[test]
+fn lists_in_any_order() {
+    let read = |lines: &str| {
+        let (answer, table) = text::read_text(format!("atoms=3\nclauses=1\n{lines}").as_bytes(), &[7; 8192]);
+        answer.map(|words| table[..words as usize].to_vec())
+    };
+    let no = |number: u64, place: u64| Err(Refused { number, place });
+    assert_eq!(read("head=1,0,1\npos=2,2\nneg=2,1,0\n"), Ok(vec![3, 1, 2, 1, 3, 0, 1, 2, 0, 1, 2]));
+    assert_eq!(read("head=0,1\npos=2\nneg=0,1,2\n"), Ok(vec![3, 1, 2, 1, 3, 0, 1, 2, 0, 1, 2]));
+    assert_eq!(read("head=1,0,3\npos=\nneg=\n"), no(6, 18));
+    assert_eq!(read("head=1,0,01\npos=\nneg=\n"), no(25, 18), "25 on the whole value");
+    let long = |again: u16| (0..8187).rev().chain(0..again).map(|x: u16| x.to_string()).collect::<Vec<_>>().join(",");
+    assert_eq!(read(&format!("head={}\n", long(1000))), no(6, 18), "26 counts what is kept");
+    assert_eq!(read(&format!("head={},8187\n", long(0))), no(26, 18));
+    let first = |text: &str| text::read_text(text.as_bytes(), &[7; 8192]).0;
+    assert_eq!(first("atoms=1,1\n"), refused(25, 0));
+    assert_eq!(first("atoms=1\nclauses=1,1\n"), refused(25, 8));
 }

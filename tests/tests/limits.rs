@@ -224,7 +224,11 @@ fn words_of_a_text() {
     assert_eq!(answer(998, "pos=0\nneg=\n"), refused(26, 32083));
     assert_eq!(answer(998, "pos=\nneg=0\n"), refused(26, 32088));
     assert_eq!(answer(998, "pos=1024\nneg=\n"), refused(26, 32083), "26 before 6");
-    assert_eq!(answer(997, "pos=1,1\nneg=\n"), refused(26, 32079), "26 before 7");
+    assert_eq!(answer(997, "pos=1,0\nneg=\n"), refused(26, 32079), "two are kept");
+    assert_eq!(answer(997, "pos=1,1\nneg=\n"), Ok(8192), "one is kept");
+    assert_eq!(answer(998, "pos=1,1\nneg=\n"), refused(26, 32083));
+    assert_eq!(answer(997, "pos=1024,1024\nneg=\n"), refused(6, 32079));
+    assert_eq!(answer(997, "pos=1\nneg=0,0\n"), refused(26, 32085));
     assert_eq!(answer(998, "pos=01\nneg=\n"), refused(25, 32083), "26 after 25");
 }
 
@@ -257,7 +261,7 @@ fn bytes_of_a_text() {
     assert_eq!(read(&filled("", "\n", 65536), 8192), refused(24, 0));
     let zeros = ",0".repeat(32754);
     let list = format!("atoms=1024\nclauses=1\nhead=0{zeros}\n");
-    assert_eq!((list.len(), read(&list, 8192)), (65536, refused(26, 21)), "26 before 7");
+    assert_eq!((list.len(), read(&list, 8192)), (65536, refused(24, 65536)), "32,755 times the same atom");
     assert_eq!(read(&filled("", "a", 65537), 0), refused(22, 0), "22 before 23");
     assert_eq!(read(&filled("", "a", 65536), 8191), refused(23, 0), "23 before any byte");
     assert_eq!(Tally::new().write_text(&[0; 8193], &[]).0, refused(1, 0), "1 before 28");

@@ -51,7 +51,9 @@ fn refused_texts() {
     assert_eq!(compared(b"atoms=1025\nclauses=0\n"), "refused=2,0\n");
     assert_eq!(compared(b"atoms=4\nclauses=2049\n"), "refused=3,8\n");
     assert_eq!(compared(b"atoms=2\nclauses=1\nhead=2\npos=\nneg=\n"), "refused=6,18\n");
-    assert_eq!(compared(b"atoms=2\nclauses=1\nhead=\npos=1,0\nneg=\n"), "refused=7,24\n");
+    assert_eq!(compared(b"atoms=2\nclauses=1\nhead=\npos=1,0,2\nneg=\n"), "refused=6,24\n");
+    assert_eq!(compared(b"atoms=2\nclauses=1\nhead=\npos=1,0\nneg=0,0,\n"), "refused=25,32\n");
+    assert_eq!(compared(b"atoms=1,1\nclauses=0\n"), "refused=25,0\n");
     assert_eq!(compared(b"atoms=0\nclauses=0\n\n"), "refused=27,18\n");
 }
 
@@ -79,6 +81,20 @@ fn taken_texts() {
         *(if printed.starts_with("refused=") { &mut refused } else { &mut taken }) += 1;
     }
     assert!(taken > 50 && refused > 50, "{taken} taken, {refused} refused");
+}
+
+/// Slip 5: the output is canonical, and the same as for the canonical text.
+#[test]
+fn lists_in_any_order() {
+    let clauses = "head=1,0,1\npos=\nneg=\nhead=2\npos=1,0\nneg=3,3\nhead=3,3\npos=2,2,0\nneg=\n";
+    let printed = compared(format!("atoms=4\nclauses=3\n{clauses}").as_bytes());
+    let sorted = "head=0,1\npos=\nneg=\nhead=2\npos=0,1\nneg=3\nhead=3\npos=0,2\nneg=\n";
+    assert_eq!(printed, format!("atoms=4\nclauses=3\n{sorted}steps=0\n"));
+    assert_eq!(compared(format!("atoms=4\nclauses=3\n{sorted}").as_bytes()), printed);
+    // a disjunction of one atom is a fact
+    let fact = b"atoms=2\nclauses=2\nhead=0,0\npos=\nneg=\nhead=1\npos=0,0\nneg=\n";
+    let left = "atoms=2\nclauses=2\nhead=0\npos=\nneg=\nhead=1\npos=\nneg=\nsteps=1\nstep=3,1,0,0\n";
+    assert_eq!(compared(fact), left);
 }
 
 /// Slip 1: facts 0 to 298 and 300 <- 0 .. 299, with 301 atoms, then with 299 a fact too; the line of each success names its atom.
@@ -115,7 +131,7 @@ fn filled(bytes: usize, more: usize) -> String {
     text
 }
 
-/// The longest text that is taken. The keys of a clause give 16 bytes for three words and an atom at most 5 with its comma, so
+/// The longest canonical text that is taken. The keys of a clause give 16 bytes for three words and an atom at most 5 with its comma, so
 /// there are 2,048 clauses; the 2,046 words left are atoms of four digits, in as few lists as can be, as the first of a list
 /// has no comma: 85 lists of all 24 such atoms, and one of 6.
 fn longest() -> String {
@@ -131,13 +147,15 @@ fn refused_behind(text: &str) {
     assert_eq!(compared(format!("{text}x").as_bytes()), format!("refused=27,{}\n", text.len()));
 }
 
+/// The program refuses the text by this question, at this place.
+fn refused(text: &str, number: u64, place: usize) {
+    assert_eq!(compared(text.as_bytes()), format!("refused={number},{place}\n"));
+}
+
 /// Places of one to five digits, at the ends of each number of digits. The first line's place is 0, the second's 8 to 11, and
-/// every other is at least 18. No text gives a place above 42,936, which is where the longest that is taken ends.
+/// every other is at least 18.
 #[test]
 fn places_of_every_length() {
-    let refused = |text: &str, number: u64, place: usize| {
-        assert_eq!(compared(text.as_bytes()), format!("refused={number},{place}\n"));
-    };
     for (atoms, place) in [(9, 8), (10, 9), (99, 9), (100, 10), (999, 10), (1000, 11)] {
         let first = format!("atoms={atoms}\n");
         refused(&first, 24, place);
@@ -149,13 +167,37 @@ fn places_of_every_length() {
         refused(&lines, 24, place);
         refused(&format!("{lines}head=00\n"), 25, place);
         refused(&format!("{lines}head=1\n"), 6, place);
-        refused(&format!("{lines}head=0,0\n"), 7, place);
+        refused(&format!("{lines}head=0,0\n"), 24, place + "head=0,0\n".len());
         refused_behind(&filled(place, 0));
     }
     refused_behind(std::str::from_utf8(SHORT).unwrap());
     assert_eq!(longest().len(), 42936);
     assert_eq!(read_text(longest().as_bytes(), &[0; 8192]).0, Ok(8192));
     refused_behind(&longest());
+}
+
+/// Places past the longest canonical text, in texts whose first list has an atom thousands of times: up to 65,536, where the
+/// longest text ends. A line of 8 bytes begins at 65,528 at the latest, and a byte behind all lines stands at 65,535.
+#[test]
+fn places_behind_repeats() {
+    for place in [9999, 10000, 10001, 42935, 42936, 42937, 65527, 65528] {
+        let lines = texts::repeats(place, 2, "pos=\nneg=\n");
+        refused(&lines, 24, place);
+        refused(&format!("{lines}head=0,\n"), 25, place);
+        refused(&format!("{lines}head=10\n"), 6, place);
+    }
+    for place in [9999, 10000, 10001, 42935, 42936, 42937, 65527, 65534, 65535] {
+        refused_behind(&texts::repeats(place, 1, "pos=\nneg=\n"));
+        refused(&texts::repeats(place + 1, 1, "p"), 24, place);
+    }
+    for place in [65534, 65535, 65536] {
+        refused(&texts::repeats(place, 1, ""), 24, place);
+        refused(&texts::repeats(place, 1, "pos=0,0\n"), 24, place);
+        refused(&texts::repeats(place, 2, "pos=\nneg=\n"), 24, place);
+    }
+    let taken = texts::repeats(65536, 1, "pos=\nneg=\n");
+    assert_eq!(compared(taken.as_bytes()), "atoms=10\nclauses=1\nhead=0\npos=\nneg=\nsteps=0\n");
+    refused(&format!("{taken}x"), 22, 0);
 }
 
 /// Facts, each of the atoms that its value names.

@@ -105,7 +105,7 @@ fn texts() {
     let nearly = format!("atoms=1024\nclauses=4\n{full}{full}{}head=\n", clause(1024, 1011, 0));
     assert_eq!(reads(&nearly), no(26, 32076));
     assert_eq!(reads("atoms=2\nclauses=1\nhead=2\n"), no(6, 18));
-    assert_eq!(reads("atoms=2\nclauses=1\nhead=\npos=1,0\n"), no(7, 24));
+    assert_eq!(reads("atoms=2\nclauses=1\nhead=\npos=2,0\n"), no(6, 24));
     assert_eq!(reads("atoms=2\nclauses=1\nhead=\npos=\nneg=9\n"), no(6, 29));
     assert_eq!(reads("atoms=2\nclauses=1\nhead=\npos=\nneg=\n\n"), no(27, 34));
     assert_eq!(reads("atoms=2\nclauses=1\nhead=\npos=\nneg=\n"), Ok(5));
@@ -223,6 +223,33 @@ fn numbers() {
     assert_eq!(clauses(10, 178), no(28, 0));
     assert_eq!(clauses(99, 1603), Ok(1603));
     assert_eq!(clauses(100, 1620), Ok(1620));
+}
+
+/// The text is read as this table.
+fn reads_as(text: &str, words: &[u16]) {
+    let (answer, table) = Tally::new().read_text(text.as_bytes(), &[7; 8192]);
+    assert_eq!((answer, &table[..words.len()]), (Ok(words.len() as u64), words));
+}
+
+/// Slip 5: lists in any order, with repeats.
+#[test]
+fn text_lists() {
+    let clause = |n: u16, h: &str, p: &str, q: &str| format!("atoms={n}\nclauses=1\nhead={h}\npos={p}\nneg={q}\n");
+    reads_as(&clause(3, "1,0,1", "", ""), &[3, 1, 2, 0, 0, 0, 1]);
+    reads_as(&clause(3, "0,1", "", ""), &[3, 1, 2, 0, 0, 0, 1]);
+    reads_as(&clause(4, "3,2,1,0", "2,1", "3,0"), &[4, 1, 4, 2, 2, 0, 1, 2, 3, 1, 2, 0, 3]);
+    reads_as(&clause(3, "2,2,2", "0,0", "1,1,1"), &[3, 1, 1, 1, 1, 2, 0, 1]);
+    reads_as(&clause(1, &vec!["0"; 1000].join(","), "", ""), &[1, 1, 1, 0, 0, 0]);
+    reads_as(&clause(2, "", &vec!["1"; 8193].join(","), ""), &[2, 1, 0, 1, 0, 1]);
+    let reads = |text: &str| Tally::new().read_text(text.as_bytes(), &[7; 8192]).0;
+    assert_eq!(reads("atoms=1,1\n"), no(25, 0));
+    assert_eq!(reads("atoms=1\nclauses=1,1\n"), no(25, 8));
+    assert_eq!(reads(&clause(2, "2,0", "", "")), no(6, 18));
+    assert_eq!(reads(&clause(3, "0", "9999,9999,9999", "")), no(6, 25));
+    assert_eq!(reads("atoms=3\nclauses=1\nhead=9999,01\n"), no(25, 18));
+    let after = |first: u16| [first].into_iter().chain(0..8187).map(|x| x.to_string()).collect::<Vec<_>>().join(",");
+    assert_eq!(reads(&clause(3, &after(8186), "", "")), no(6, 18));
+    assert_eq!(reads(&clause(3, &after(8187), "", "")), no(26, 18));
 }
 
 /// `OpenSteps.antt`: the lists that the reducer has to write.

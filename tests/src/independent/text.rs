@@ -1,4 +1,5 @@
 //! The text form: reading with 22 to 27, writing with 28.
+use super::program::Set;
 use super::table::Table;
 use super::{ask, Answer, Refused};
 
@@ -25,14 +26,11 @@ fn read(text: &[u8], room: usize) -> Result<Vec<u16>, Refused> {
         let mut parts = Vec::new();
         for key in ["head=", "pos=", "neg="] {
             let place = at;
-            let part = numbers(line(text, &mut at, key)?).ok_or(Refused { number: 25, place: place as u64 })?;
-            ask(words.len() + 3 + parts.len() + part.len() <= 8192, 26, place)?;
-            for (i, &atom) in part.iter().enumerate() {
-                ask(atom < atoms, 6, place)?;
-                ask(i == 0 || atom > part[i - 1], 7, place)?;
-            }
-            counts.push(part.len() as u16);
-            parts.extend(part);
+            let kept = list(line(text, &mut at, key)?).ok_or(Refused { number: 25, place: place as u64 })?;
+            ask(words.len() + 3 + parts.len() + kept.len() <= 8192, 26, place)?;
+            ask(kept.iter().all(|&atom| atom < atoms), 6, place)?;
+            counts.push(kept.len() as u16);
+            parts.extend(kept);
         }
         words.extend(counts);
         words.extend(parts);
@@ -65,10 +63,11 @@ fn number(value: &[u8]) -> Option<u16> {
     in_form.then(|| value.iter().fold(0, |sum, digit| 10 * sum + u16::from(digit - b'0')))
 }
 
-/// "numbers joined by commas, or nothing"
-fn numbers(value: &[u8]) -> Option<Vec<u16>> {
+/// "numbers joined by commas, or nothing"; slip 5: "in any order and repeat an atom. Reading a list sorts it and keeps each
+/// atom once".
+fn list(value: &[u8]) -> Option<Set> {
     if value.is_empty() {
-        return Some(Vec::new());
+        return Some(Set::new());
     }
     value.split(|&byte| byte == b',').map(number).collect()
 }

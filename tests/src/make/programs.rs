@@ -32,6 +32,21 @@ pub fn program(random: &mut Random, size: Size) -> Program {
     program
 }
 
+/// The program with one clause varied, two exchanged, or an atom more.
+pub fn near(random: &mut Random, program: &Program) -> Program {
+    let (mut near, clauses) = (program.clone(), program.clauses.len());
+    match random.upto(3) {
+        0 => near.atoms += 1,
+        1 if clauses > 0 => near.clauses.swap(0, random.upto(clauses - 1)),
+        _ if clauses > 0 => {
+            let number = random.upto(clauses - 1);
+            near.clauses[number] = varied(random, program.atoms, program.clauses[number].clone());
+        }
+        _ => {}
+    }
+    near
+}
+
 /// A program that often has several stable models: atoms of which one or the other holds, by negation or by disjunction,
 /// and few facts.
 pub fn choices(random: &mut Random, size: Size) -> Program {

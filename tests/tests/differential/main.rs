@@ -9,7 +9,7 @@ mod steps;
 mod tables;
 mod texts;
 
-use gambrolt_tests::compare::{Circles, Listed, Tally};
+use gambrolt_tests::compare::{Circles, Listed, Tally, Texts};
 use gambrolt_tests::make::shapes::SHAPES;
 use gambrolt_tests::random::Random;
 use std::time::Instant;
@@ -17,7 +17,7 @@ use std::time::Instant;
 /// A group of cases: its name, how many draws it makes, and what one draw compares.
 type Group = (&'static str, u64, fn(&mut Random, &mut Tally));
 
-const GROUPS: [Group; 19] = [
+const GROUPS: [Group; 23] = [
     ("tables", 120_000, tables::damaged),
     ("lists", 100_000, steps::checked),
     ("reducing", 60_000, steps::reduced),
@@ -26,7 +26,7 @@ const GROUPS: [Group; 19] = [
     ("sets", 40_000, models::tested),
     ("sets of 16", 20, models::largest_sets),
     ("models before and after", 10_000, models::same_models),
-    ("texts read", 80_000, texts::read),
+    ("texts read", 160_000, texts::read),
     ("texts at the limits", 20, texts::at_the_limits),
     ("texts written", 20_000, texts::written),
     ("circles", 40_000, tables::circles),
@@ -37,6 +37,10 @@ const GROUPS: [Group; 19] = [
     ("models listed and sets tested", 2_000, listing::tested),
     ("models listed before and after", 10_000, listing::same_list),
     ("texts written, numbers of every length", 600, texts::of_every_length),
+    ("texts read, one long list", 2_000, texts::long),
+    ("texts read, lists in any order", 10_000, texts::in_any_order),
+    ("texts read, two of one program or of two", 20_000, texts::two),
+    ("texts read, refused late", 4_000, texts::late),
 ];
 
 fn main() {
@@ -76,6 +80,7 @@ fn report(tally: &Tally) {
     let Circles { positive, negative, none } = tally.circles;
     assert!(positive.min(negative).min(none) > 1_000, "too few circles, or programs without");
     lists(&tally.listed);
+    texts_read(&tally.texts);
     let never: Vec<usize> = (1..=31).filter(|&number| tally.met[number] == 0).collect();
     assert!(never.is_empty(), "questions never met: {never:?}");
     assert!(tally.cases >= 200_000, "too few cases");
@@ -93,4 +98,17 @@ fn lists(listed: &Listed) {
     let Listed { none, one, several, reduced, .. } = listed;
     println!("lists of no model, one and several: {none}, {one}, {several}; after some step: {reduced}");
     assert!(none.min(one).min(several).min(reduced) > &1_000, "too few lists of a kind");
+}
+
+/// Fails where a text was refused by 7, or the texts were refused too seldom by some other question, or were too much alike.
+fn texts_read(texts: &Texts) {
+    let refused = [&texts.met[2..=3], &texts.met[6..=6], &texts.met[22..=27]].concat();
+    println!("texts refused by 2, 3, 6 and 22 to 27: {refused:?}");
+    assert!(refused.iter().all(|&times| times > 100), "a question was met too seldom");
+    assert_eq!(texts.met.iter().sum::<u64>(), texts.met[0] + refused.iter().sum::<u64>(), "another question was met");
+    let Texts { canonical, unordered, one_table, two_tables, .. } = texts;
+    println!(
+        "canonical and other texts: {canonical}, {unordered}; pairs of one table and of two: {one_table}, {two_tables}"
+    );
+    assert!(canonical.min(unordered).min(one_table).min(two_tables) > &1_000, "too few texts of a kind");
 }
