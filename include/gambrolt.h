@@ -26,8 +26,9 @@
  * atom. 4 times the table's length always suffices for the list of a reduction.
  *
  * The text. Lines in fixed order, each ended by a line feed: atoms= and clauses= with the two numbers, then for each clause
- * head=, pos= and neg= with its atoms, joined by commas, or with nothing. A number has one to four digits and no leading
- * zero, save 0 itself; there are no blanks. The program above is
+ * head=, pos= and neg= with its atoms, joined by commas, or with nothing. A list may be in any order and repeat an atom; of
+ * each atom one is kept. A number has one to four digits and no leading zero, save 0 itself; there are no blanks. A text is
+ * canonical when every list ascends and repeats no atom: that is what is written. The program above is
  *
  *     atoms=3
  *     clauses=2
@@ -53,7 +54,7 @@ extern "C" {
 
 /* ---- Version --------------------------------------------------------------------------------------------------------- */
 
-#define GAMBROLT_VERSION "3.1.1"
+#define GAMBROLT_VERSION "4.0.0"
 
 static inline const char *gambrolt_version(void)
 {
@@ -127,7 +128,7 @@ enum gambrolt_question {
     GAMBROLT_COUNTS_LEFT     = 4,  /* are three count words left? place of the clause's first word */
     GAMBROLT_LITERALS_LEFT   = 5,  /* are h+p+q more words left? place of the clause's first word */
     GAMBROLT_ATOM_BELOW      = 6,  /* is the atom below n? place of the word; in a text: of the line */
-    GAMBROLT_ASCENDING       = 7,  /* is it above the one before it in its part? place of the word; in a text: of the line */
+    GAMBROLT_ASCENDING       = 7,  /* is it above the one before it in its part? place of the word; never asked of a text */
     GAMBROLT_ALL_USED        = 8,  /* is no word left over? place of the first */
     GAMBROLT_MARKS_LENGTH    = 9,  /* are there at least as many marks as words? */
     GAMBROLT_MARK_ALLOWED    = 10, /* is each mark 0 or 1, and 0 only where a step can clear it? place of the first not */
@@ -146,7 +147,7 @@ enum gambrolt_question {
     GAMBROLT_TABLE_SLICE     = 23, /* has the table slice at least 8192 words? */
     GAMBROLT_LINE_THERE      = 24, /* is the line there with its key, "=" and a line feed? 24 to 26: place of its first byte */
     GAMBROLT_VALUE_IN_FORM   = 25, /* is the value in form? */
-    GAMBROLT_WORD_LIMIT      = 26, /* do the words so far stay within 8192? */
+    GAMBROLT_WORD_LIMIT      = 26, /* do the words so far stay within 8192? of a list each number counts once */
     GAMBROLT_TEXT_ALL_USED   = 27, /* is no byte left? place of the first */
     GAMBROLT_TEXT_ROOM       = 28, /* does the text fit? */
     GAMBROLT_ATOM_MATCHES    = 29, /* kind 3, after 15: where the partner has exactly one head atom, is it the atom? */
@@ -254,14 +255,18 @@ uint64_t gambrolt_models(const uint16_t *table, size_t table_len, uint16_t *out,
 uint64_t gambrolt_cycle(const uint16_t *table, size_t table_len);
 
 /*
- * Reads a program from text: 22 to 27, with 2, 3, 6 and 7 for the line that fails them.
+ * Reads a program from text: 22 to 27, with 2, 3 and 6 for the line that fails them. Each list is sorted and keeps each
+ * atom once, so two texts give the same table exactly when gambrolt_write_text gives one text for both; of a canonical
+ * text it gives the bytes back.
  * Value: the number of words written.
  * table (at least GAMBROLT_MAX_WORDS): the table, in its first words.
+ * The time is in proportion to the text's length; for a list that does not ascend 10,000 bytes more are cleared, and read up
+ * to its greatest number.
  */
 uint64_t gambrolt_read_text(const uint8_t *text, size_t text_len, uint16_t *table, size_t table_len);
 
 /*
- * Writes a table as text: 28.
+ * Writes a table as text, which is canonical: 28.
  * Value: the number of bytes written.
  * out: the text, in its first bytes, with no 0 behind it; GAMBROLT_MAX_TEXT bytes always suffice.
  */

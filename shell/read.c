@@ -9,7 +9,7 @@
 #include <string.h>
 
 #define AS_WRITTEN "give aspif as gringo writes it"
-#define IN_FORM "write ascending atoms below atoms=, joined by commas, without blanks or leading zeros"
+#define IN_FORM "write atoms below atoms=, joined by commas, without blanks or leading zeros"
 #define STEPS "programs in several steps are not reduced; ground the order as a whole"
 
 /* The numbers of a statement, by the letters of its form. */
@@ -249,23 +249,34 @@ int read_aspif(struct order *o)
 static const char *const text_advice[] = {
     [GAMBROLT_TEXT_ALL_USED] = "give as many clauses as clauses= says",
     [GAMBROLT_LINE_THERE] = "lines are atoms=, clauses=, then head=, pos=, neg= for each clause",
-    [GAMBROLT_ATOM_BELOW] = IN_FORM, [GAMBROLT_ASCENDING] = IN_FORM, [GAMBROLT_VALUE_IN_FORM] = IN_FORM};
+    [GAMBROLT_ATOM_BELOW] = IN_FORM, [GAMBROLT_VALUE_IN_FORM] = IN_FORM};
+
+/* The words of a text: atoms, clauses, and every part's count and atoms, each once. */
+static size_t text_words(const char *c)
+{
+    uint32_t numbers = 0, lines = 0, last[10000] = {0}; /* by number: the last line that has it, from 1 */
+    for (size_t digits; *c; c += digits ? digits : 1) {
+        digits = strspn(c, "0123456789");
+        lines += *c == '\n';
+        if (digits > 0 && digits <= 4) {
+            uint32_t *line = &last[strtoul(c, NULL, 10)];
+            numbers += *line != lines + 1;
+            *line = lines + 1;
+        }
+    }
+    return numbers + lines - 2;
+}
 
 /* By how much the text is over the limit that refused it. */
 static size_t text_over(const struct buffer *text, unsigned number, const char *line)
 {
-    size_t numbers = 0, lines = 0;
     if (number == GAMBROLT_TEXT_LENGTH)
         return text->len - GAMBROLT_MAX_TEXT;
     if (number != GAMBROLT_WORD_LIMIT)
         return strtoul(line + strcspn(line, "=") + 1, NULL, 10) -
                (number == GAMBROLT_ATOM_LIMIT ? GAMBROLT_MAX_ATOMS : GAMBROLT_MAX_CLAUSES);
-    for (const char *c = text->at; *c; c++) {
-        numbers += is_digit(*c) && !is_digit(c[1]);
-        lines += *c == '\n';
-    }
-    numbers += lines - 2; /* a word each: atoms, clauses, and every part's count and atoms */
-    return numbers > GAMBROLT_MAX_WORDS ? numbers - GAMBROLT_MAX_WORDS : 1;
+    size_t words = text_words(text->at);
+    return words > GAMBROLT_MAX_WORDS ? words - GAMBROLT_MAX_WORDS : 1;
 }
 
 static int refuse_text(struct order *o, const struct buffer *text, uint64_t answer)

@@ -172,6 +172,36 @@ a(1) | a(3).
 END
 writes "text to readable rules" "--from-text --to-lp"
 
+# the same text with its lists in any order and atoms repeated gives the same; text is written canonical
+cp "$tmp/in" "$tmp/canonical"
+cat >"$tmp/in" <<'END'
+atoms=5
+clauses=5
+head=0,0
+pos=
+neg=
+head=2
+pos=3,0,3
+neg=1,1
+head=2,2,2
+pos=2
+neg=
+head=3,1
+pos=
+neg=
+head=
+pos=4,3,4
+neg=
+END
+writes "a text in any order to readable rules" "--from-text --to-lp"
+cp "$tmp/canonical" "$tmp/want"
+writes "a text in any order as it is" "--text --no-reduce"
+build/gambrolt --text --steps "$tmp/canonical" >"$tmp/want"
+expect "its text has steps" grep -q "^steps=[1-9]" "$tmp/want"
+writes "a text in any order, reduced" "--text --steps"
+build/gambrolt --from-text "$tmp/canonical" >"$tmp/want"
+writes "a text in any order to aspif" --from-text
+
 # names: shown twice, for a condition, in no atom's form, and taken from the nameless
 cat >"$tmp/in" <<'END'
 asp 1 0 0
