@@ -26,8 +26,8 @@ use Rattle.answers.specs.Answers.{written}
 use Rattle.text_form.specs.Reader.{readAnswer, tableAfter}
 use Rattle.text_form.specs.Writer.{textOf, writeAnswer, outAfter}
 use Rattle.answers.proofs.Slices.{take-written}
-use Rattle.text_form.proofs.Calls.{accepted-reads, form-reads, text-short, accepted-writes, passed-writes, text-reads}
-use Rattle.claims.proofs.TextLists.{read-passes, same-bytes-exactly}
+use Rattle.text_form.proofs.Calls.{accepted-reads, read-passes, form-reads, text-short, accepted-writes, passed-writes, text-reads}
+use Rattle.claims.proofs.TextLists.{same-bytes-exactly}
 
 -- ---- the test and the cycle answer
 

@@ -158,7 +158,7 @@ rows =
     ∷ reads (lineText atomsKey (48 ∷ []) ++ lineText clausesKey (50 ∷ 48 ∷ 52 ∷ 57 ∷ [])) (refusal 3 8)
     -- 26 "Do the words so far stay within 8,192 (a clause's counts are counted at its head line)?": 8,190 words, and three counts
     ∷ reads nearly (refusal 26 32076)
-    -- "6 .. for each number, also with the line's place": head=2; neg=9, after the lines of 6 and 5 bytes; pos=2,0, where 7 is not met
+    -- "6 .. for each number, also with the line's place": head=2; pos=2,0, where 7 is not met; neg=9, after the lines of 6 and 5 bytes
     ∷ reads (start ++ lineText headKey (50 ∷ [])) (refusal 6 18)
     ∷ reads (start ++ lineText headKey [] ++ lineText posKey (50 ∷ 44 ∷ 48 ∷ [])) (refusal 6 24)
     ∷ reads (start ++ lineText headKey [] ++ lineText posKey [] ++ lineText negKey (57 ∷ [])) (refusal 6 29)

@@ -168,7 +168,7 @@ rows =
     -- the first two values stay one number: atoms=1,1, and clauses=1,1 after it
     ∷ reads (lineText atomsKey (49 ∷ 44 ∷ 49 ∷ [])) (refusal 25 0)
     ∷ reads (lineText atomsKey (49 ∷ []) ++ lineText clausesKey (49 ∷ 44 ∷ 49 ∷ [])) (refusal 25 8)
-    -- "question 7 is never met from text": 6 with the line's place, wherever the number stands; 25 before it: pos=9999,01
+    -- "question 7 is never met from text": 6 with the line's place, wherever the number stands; 25 before it: head=9999,01
     ∷ reads (clauseOver 2 (2 ∷ 0 ∷ []) [] []) (refusal 6 18)
     ∷ reads (clauseOver 3 (0 ∷ []) (9999 ∷ 9999 ∷ 9999 ∷ []) []) (refusal 6 25)
     ∷ reads (lineText atomsKey (51 ∷ []) ++ lineText clausesKey (49 ∷ []) ++ lineText headKey (57 ∷ 57 ∷ 57 ∷ 57 ∷ 44 ∷ 48 ∷ 49 ∷ [])) (refusal 25 18)

@@ -21,7 +21,7 @@ use Rattle.table.proofs.Encoding.{encode-passes, program-encode}
 use Rattle.text_form.specs.Lists.{sortedProgram, InForm, Canonical}
 use Rattle.text_form.specs.Reader.{readAnswer, tableAfter}
 use Rattle.text_form.specs.Writer.{textOf, writeAnswer, outAfter}
-use Rattle.text_form.proofs.Calls.{Reads, accepted-reads, form-reads, accepted-writes, text-same}
+use Rattle.text_form.proofs.Calls.{accepted-reads, form-reads, accepted-writes, text-same}
 use Rattle.text_form.proofs.Calls as calls
 use Rattle.text_form.proofs.Near as near
 use Rattle.text_form.proofs.Unique as unique
@@ -47,16 +47,6 @@ lists-given = unique.lists-unique
 pub never-seven : (ts : List ℕ) (room : ℕ) (r : Refusal) → readAnswer ts room ≡ Refused r → refusalNumber r ≢ 7
 never-seven = near.never-seven
 
--- ---- the table that was read
-
--- the words that reading a text leaves, and their program's text
-table-read : (ts table : List ℕ) (k : ℕ) (a : Reads ts table k) → take k (tableAfter ts table) ≡ encode (sortedProgram (a .lists))
-table-read ts table k a = ap (take k) (a .after) ∙ take-written (encode (sortedProgram (a .lists))) table k (a .count)
-
--- They pass questions 1 to 8.
-pub read-passes : (ts table : List ℕ) (k : ℕ) → readAnswer ts (length table) ≡ Accepted k → Passed (take k (tableAfter ts table))
-read-passes ts table k h = let a = accepted-reads ts table k h in rw (table-read ts table k a) (encode-passes (sortedProgram (a .lists)) (a .form .within))
-
 -- ---- canonical texts
 
 -- "The writer gives the canonical text", of every table,
@@ -73,11 +63,11 @@ canonical-exactly ts = (
 -- The text of what was read is the text that was read exactly where that is canonical.
 pub same-bytes-exactly : (ts table : List ℕ) (k : ℕ) → readAnswer ts (length table) ≡ Accepted k → (textOf (take k (tableAfter ts table)) ≡ ts) ↔ Canonical ts
 same-bytes-exactly ts table k h = (
-  λ e. subst Canonical e (written-canonical (take k (tableAfter ts table)) (read-passes ts table k h)),
+  λ e. subst Canonical e (written-canonical (take k (tableAfter ts table)) (calls.read-passes ts table k h)),
   λ c.
       let a = accepted-reads ts table k h in
       let e = lists-given ts (a .lists) (c .lists) (a .form) (c .form) in
-      ap textOf (table-read ts table k a ∙ ap (λ P. encode (sortedProgram P)) e) ∙ calls.canonical-text ts c,
+      ap textOf (calls.table-read ts table k a ∙ ap (λ P. encode (sortedProgram P)) e) ∙ calls.canonical-text ts c,
 )
 
 -- ---- "Two accepted texts give the same table exactly when the writer gives one text for both."
@@ -92,7 +82,7 @@ pub one-text-exactly : (ts us table table′ out out′ : List ℕ) (k l m n : �
 one-text-exactly ts us table table′ out out′ k l m n g h v w =
     let s = bytes-written (take k (tableAfter ts table)) out m v in
     let t = bytes-written (take l (tableAfter us table′)) out′ n w in
-    (λ e. s ∙ ap textOf e ∙ sym t, λ e. text-same _ _ (read-passes ts table k g) (read-passes us table′ l h) (sym s ∙ e ∙ t))
+    (λ e. s ∙ ap textOf e ∙ sym t, λ e. text-same _ _ (calls.read-passes ts table k g) (calls.read-passes us table′ l h) (sym s ∙ e ∙ t))
 
 -- They give the same table exactly when their lists are the same once sorted.
 pub one-table-exactly : (ts us table table′ : List ℕ) (k l : ℕ) (P Q : Program) → InForm ts P → InForm us Q → readAnswer ts (length table) ≡ Accepted k → readAnswer us (length table′) ≡ Accepted l
@@ -100,6 +90,6 @@ pub one-table-exactly : (ts us table table′ : List ℕ) (k l : ℕ) (P Q : Pro
 one-table-exactly ts us table table′ k l P Q f g h i =
     let a = accepted-reads ts table k h in
     let b = accepted-reads us table′ l i in
-    let s = table-read ts table k a ∙ ap (λ P. encode (sortedProgram P)) (lists-given ts (a .lists) P (a .form) f) in
-    let t = table-read us table′ l b ∙ ap (λ P. encode (sortedProgram P)) (lists-given us (b .lists) Q (b .form) g) in
+    let s = calls.table-read ts table k a ∙ ap (λ P. encode (sortedProgram P)) (lists-given ts (a .lists) P (a .form) f) in
+    let t = calls.table-read us table′ l b ∙ ap (λ P. encode (sortedProgram P)) (lists-given us (b .lists) Q (b .form) g) in
     (λ e. sym (program-encode (sortedProgram P)) ∙ ap programOf (sym s ∙ e ∙ t) ∙ program-encode (sortedProgram Q), λ e. s ∙ ap encode e ∙ sym t)

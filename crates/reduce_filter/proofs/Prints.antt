@@ -9,7 +9,6 @@ use Rattle.semantics.specs.Programs.{Program}
 use Rattle.answers.specs.declared.Refusal.{Refusal}
 use Rattle.table.specs.Questions.{Passed}
 use Rattle.table.specs.Encoding.{encode}
-use Rattle.table.proofs.Encoding.{encode-passes}
 use Rattle.answers.specs.declared.Answer.{Answer}
 use Rattle.answers.specs.declared.Answer.the-variants.{Accepted, Refused}
 use Rattle.answers.specs.Refusals.{refusalNumber, refusalPlace}
@@ -18,8 +17,8 @@ use Rattle.answers.proofs.Numbers.{number-range}
 use Rattle.text_form.specs.Lists.{sortedProgram}
 use Rattle.text_form.specs.Reader.{readAnswer, tableAfter}
 use Rattle.text_form.specs.Stored.{Puts}
-use Rattle.answers.proofs.Slices.{sets-written, take-written}
-use Rattle.text_form.proofs.Calls.{accepted-reads}
+use Rattle.answers.proofs.Slices.{sets-written}
+use Rattle.text_form.proofs.Calls.{accepted-reads, read-passes}
 use Rattle.text_form.proofs.Near.{read-small}
 use Rattle.reduce_filter.specs.declared.Printed.{Printed}
 use Rattle.reduce_filter.specs.Output.{reducedText, refusalText, printed, outputOf, isRefused, outputBytes, Prints}
@@ -39,10 +38,7 @@ said-of ts a h = subst (λ n. readAnswer ts n ≡ a) blank-long h
 
 -- its words pass questions 1 to 8
 pub read-passed : (ts : List ℕ) (k : ℕ) → readAnswer ts 8192 ≡ Accepted k → Passed (take k (tableAfter ts blank))
-read-passed ts k h =
-    let a = accepted-reads ts blank k (subst (λ n. readAnswer ts n ≡ Accepted k) (sym blank-long) h) in
-    let P = sortedProgram (a .lists) in
-    rw (a .after, take-written (encode P) blank k (a .count)) (encode-passes P (a .form .within))
+read-passed ts k h = read-passes ts blank k (subst (λ n. readAnswer ts n ≡ Accepted k) (sym blank-long) h)
 
 module _ (ts new : List ℕ) (k : ℕ) (h : readAnswer ts (length blank) ≡ Accepted k) (e : new ≡ tableAfter ts blank) where
   abbrev theProgram : Program

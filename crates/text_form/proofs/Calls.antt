@@ -13,7 +13,7 @@ use Rattle.answers.specs.declared.Refusal.the-variants.{Call}
 use Rattle.table.specs.Questions.{tableOf, onTable, Passed}
 use Rattle.table.specs.Encoding.{encode, Within}
 use Rattle.table.specs.Programs.{programOf}
-use Rattle.table.proofs.Encoding.{passed-encode, passed-within, program-encode, valid-passed}
+use Rattle.table.proofs.Encoding.{encode-passes, passed-encode, passed-within, program-encode, valid-passed}
 use Rattle.answers.specs.declared.Answer.the-variants.{Accepted, Refused}
 use Rattle.answers.proofs.Asked.{ask-taken}
 use Rattle.table.proofs.Laws.{on-taken}
@@ -41,6 +41,14 @@ accepted-reads ts table k h = go (readText ts (length table)) refl h
     go : (x : Read Program) → readText ts (length table) ≡ x → answerOf x ≡ Accepted k → Reads ts table k
     go (done P e) q h = let r = read-inv ts (length table) P e q in record { lists = r .lists; form = r .form; count = rw (r .kept) (cc); after = rw (q, r .kept) }
     go (stop r) q h = let z : _≡_ {A = ℕ} 0 1 = cc in absurd (omega arith)
+
+-- the words that it leaves are those of its lists, sorted,
+pub table-read : (ts table : List ℕ) (k : ℕ) (a : Reads ts table k) → take k (tableAfter ts table) ≡ encode (sortedProgram (a .lists))
+table-read ts table k a = ap (take k) (a .after) ∙ take-written (encode (sortedProgram (a .lists))) table k (a .count)
+
+-- and pass questions 1 to 8
+pub read-passes : (ts table : List ℕ) (k : ℕ) → readAnswer ts (length table) ≡ Accepted k → Passed (take k (tableAfter ts table))
+read-passes ts table k h = let a = accepted-reads ts table k h in rw (table-read ts table k a) (encode-passes (sortedProgram (a .lists)) (a .form .within))
 
 -- a text of the form is read
 pub form-reads : (ts table : List ℕ) (P : Program) → InForm ts P → 8192 ≤ length table
