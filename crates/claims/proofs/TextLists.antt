@@ -1,7 +1,7 @@
 -- Slip 5 of document 02, "Lists as they come from the grounder": of every text and every table, whatever the slices lent.
 use Prim.Native.Nat.{ℕ, _≤_}
 use mathlib.Core.Path.{_≡_, sym, ap, subst, _∙_}
-use mathlib.Core.Logic.{_↔_, _≢_}
+use mathlib.Core.Logic.{_↔_, _≢_, _⊎_, inl, inr}
 use mathlib.Core.Bool.{So}
 use mathlib.Core.List.{List}
 use lib.ListN.{length, take}
@@ -19,10 +19,11 @@ use Rattle.table.specs.Encoding.{encode}
 use Rattle.table.specs.Programs.{programOf}
 use Rattle.table.proofs.Encoding.{encode-passes, program-encode}
 use Rattle.text_form.specs.Lists.{sortedProgram, InForm, Canonical}
-use Rattle.text_form.specs.Reader.{readAnswer, tableAfter}
+use Rattle.text_form.specs.Reader.{stop, readText, answerOf, sliceOf, readAnswer, tableAfter}
 use Rattle.text_form.specs.Writer.{textOf, writeAnswer, outAfter}
 use Rattle.text_form.proofs.Calls.{accepted-reads, form-reads, accepted-writes, text-same}
 use Rattle.text_form.proofs.Calls as calls
+use Rattle.text_form.proofs.Earlier.{readBefore, Changes, AsBefore, same, changed, read-before}
 use Rattle.text_form.proofs.Near as near
 use Rattle.text_form.proofs.Unique as unique
 
@@ -93,3 +94,16 @@ one-table-exactly ts us table table′ k l P Q f g h i =
     let s = calls.table-read ts table k a ∙ ap (λ P. encode (sortedProgram P)) (lists-given ts (a .lists) P (a .form) f) in
     let t = calls.table-read us table′ l b ∙ ap (λ P. encode (sortedProgram P)) (lists-given us (b .lists) Q (b .form) g) in
     (λ e. sym (program-encode (sortedProgram P)) ∙ ap programOf (sym s ∙ e ∙ t) ∙ program-encode (sortedProgram Q), λ e. s ∙ ap encode e ∙ sym t)
+
+-- ---- what changed
+
+-- Reading a text answers as before, and leaves the same words, save where it was refused by 7 or by 26.
+pub read-as-before : (ts table : List ℕ)
+    → ((r : Refusal) × (readBefore ts (length table) ≡ stop r) × Changes r) ⊎ ((answerOf (readBefore ts (length table)) ≡ readAnswer ts (length table)) × (sliceOf (readBefore ts (length table)) table ≡ tableAfter ts table))
+unfolding readAnswer tableAfter
+read-as-before ts table = go (read-before ts (length table))
+  where
+    go : AsBefore (readBefore ts (length table)) (readText ts (length table))
+        → ((r : Refusal) × (readBefore ts (length table) ≡ stop r) × Changes r) ⊎ ((answerOf (readBefore ts (length table)) ≡ answerOf (readText ts (length table))) × (sliceOf (readBefore ts (length table)) table ≡ sliceOf (readText ts (length table)) table))
+    go (same e) = inr (ap answerOf e, ap (λ x. sliceOf x table) e)
+    go (changed r e c) = inl (r, e, c)

@@ -7,3 +7,4 @@ pub mod Unique
 pub mod Near
 pub mod Calls
 pub mod Before
+pub mod Earlier
