@@ -12,9 +12,9 @@ use Rattle.sorting.specs.Sorting.{below, sorted}
 use Rattle.text_form.specs.declared.Item.{Item}
 use Rattle.text_form.specs.declared.Item.the-variants.{Number, Nothing}
 use Rattle.text_form.specs.declared.Order.{Order}
-use Rattle.text_form.specs.declared.Order.the-variants.{Ascends, Unordered, Malformed}
+use Rattle.text_form.specs.declared.Order.the-variants as order
 use Rattle.text_form.specs.declared.Form.{Form}
-use Rattle.text_form.specs.declared.Form.the-variants.{Numbers, NotInForm}
+use Rattle.text_form.specs.declared.Form.the-variants as form
 use Rattle.text_form.specs.declared.Line.{Line}
 use Rattle.text_form.specs.declared.Line.the-variants.{Got, Stop}
 use Rattle.text_form.specs.Reader.{Read, done, stop, Scanned, failed, emit, scan}
@@ -37,8 +37,8 @@ pub record Keeps (s : Scanned) (k at : ℕ) (w w′ : List ℕ) : Type 0 where
   pub stored : w′ ≡ sets w at (sorted (s .xs))
 
 abbrev pub Sorts : Scanned → Form → ℕ → List ℕ → List ℕ → Type 0
-Sorts s (Numbers k) at w w′ = Keeps s k at w w′
-Sorts s NotInForm at w w′ = s .ok ≡ false
+Sorts s (form.Numbers k) at w w′ = Keeps s k at w w′
+Sorts s form.Malformed at w w′ = s .ok ≡ false
 
 -- those stored before a number that is not above the one before it: no more than will be kept
 pub record Breaks (s : Scanned) (at : ℕ) (w w′ : List ℕ) : Type 0 where
@@ -47,9 +47,9 @@ pub record Breaks (s : Scanned) (at : ℕ) (w w′ : List ℕ) : Type 0 where
   pub stored : w′ ≡ sets w at first
 
 abbrev pub Scans : Scanned → Order → ℕ → List ℕ → List ℕ → Type 0
-Scans s (Ascends k) at w w′ = Keeps s k at w w′
-Scans s Unordered at w w′ = Breaks s at w w′
-Scans s Malformed at w w′ = s .ok ≡ false
+Scans s (order.Ascends k) at w w′ = Keeps s k at w w′
+Scans s order.Unordered at w w′ = Breaks s at w w′
+Scans s order.Malformed at w w′ = s .ok ≡ false
 
 -- the numbers of a value are marked by 1, and all of them are below `top`
 pub record Marked (s : Scanned) (top : ℕ) (marks : List ℕ) : Type 0 where
@@ -59,8 +59,8 @@ pub record Marked (s : Scanned) (top : ℕ) (marks : List ℕ) : Type 0 where
   pub room : top ≤ length marks
 
 abbrev pub Marks : Scanned → Form → List ℕ → Type 0
-Marks s (Numbers top) marks = Marked s top marks
-Marks s NotInForm marks = s .ok ≡ false
+Marks s (form.Numbers top) marks = Marked s top marks
+Marks s form.Malformed marks = s .ok ≡ false
 
 -- the numbers marked by 1, ascending
 unfoldable pub markedOf : List ℕ → List ℕ

@@ -31,7 +31,7 @@ pub enum Order {
 // What a value's numbers come to: so many, or a bound of them all; or the value is not in form.
 pub enum Form {
     Numbers(usize),
-    NotInForm,
+    Malformed,
 }
 
 // A place in the text.
