@@ -1,6 +1,7 @@
 -- Laws of asking: a call that is taken had every question answered yes, and what is said of every answer holds through the questions.
 use Prim.Native.Nat.{ℕ, _≤_}
 use mathlib.Core.Path.{_≡_, refl}
+use mathlib.Core.Logic.{_⊎_, inl}
 use mathlib.Core.Bool.{Bool, true, false}
 use native.Mathlib.Omega.{arith}
 use Rattle.answers.specs.declared.Refusal.{Refusal}
@@ -22,6 +23,12 @@ module _ {Q A : Type 0} where
   unfolding ask
   ask-both S stop true q a h k = k
   ask-both S stop false q a h k = h
+
+  -- two answers behind one question: they come to the same, or the first is what X says
+  pub ask-same : (X : A → Type 0) (stop : Q → A) (t : Bool) (q : Q) (a b : A) → (a ≡ b) ⊎ X a → (ask stop t q a ≡ ask stop t q b) ⊎ X (ask stop t q a)
+  unfolding ask
+  ask-same X stop true q a b h = h
+  ask-same X stop false q a b h = inl refl
 
 -- a refusal is no value
 pub refused-taken : (r : Refusal) (k : ℕ) → Refused r ≡ Accepted k → ⊥

@@ -1,11 +1,11 @@
--- The number and place of every refusal: document 01's, 29 of slip 1, 30 and 31 of slip 3.
+-- The number and place of every refusal: document 01's, 29 of slip 1, 30 and 31 of slip 3, 32 of slip 6.
 use Prim.Native.Nat.{ℕ}
 use Rattle.answers.specs.declared.CallQuestion.{CallQuestion}
 use Rattle.answers.specs.declared.CallQuestion.the-variants.{TableLength, MarksLength, ListLength, ListRoom, TableRoom, SetLength, TextLength, TableSlice, TextRoom, FewAtoms, ModelsRoom}
 use Rattle.answers.specs.declared.WordQuestion.{WordQuestion}
 use Rattle.answers.specs.declared.WordQuestion.the-variants.{AtomLimit, ClauseLimit, CountsLeft, LiteralsLeft, AtomBelow, Ascending, AllUsed, MarkAllowed}
 use Rattle.answers.specs.declared.StepQuestion.{StepQuestion}
-use Rattle.answers.specs.declared.StepQuestion.the-variants.{KindKnown, TargetKept, PartnerKept, AtomKnown, AtomMatches, ConditionHolds}
+use Rattle.answers.specs.declared.StepQuestion.the-variants.{KindKnown, TargetKept, PartnerKept, AtomKnown, AtomMatches, AtomHeaded, ConditionHolds}
 use Rattle.answers.specs.declared.EntryQuestion.{EntryQuestion}
 use Rattle.answers.specs.declared.EntryQuestion.the-variants.{EntryBelow, EntryAscending}
 use Rattle.answers.specs.declared.ByteQuestion.{ByteQuestion}
@@ -42,6 +42,7 @@ stepNumber TargetKept = 13
 stepNumber PartnerKept = 14
 stepNumber AtomKnown = 15
 stepNumber AtomMatches = 29
+stepNumber AtomHeaded = 32
 stepNumber ConditionHolds = 16
 
 abbrev pub entryNumber : EntryQuestion → ℕ

@@ -66,6 +66,8 @@ pub enum StepQuestion {
     AtomKnown,
     // 29: for kind 3, the partner's head atom, where it has exactly one.
     AtomMatches,
+    // 32: for kind 7, an atom in the head of a kept clause.
+    AtomHeaded,
     // 16: the kind's condition.
     ConditionHolds,
 }
@@ -155,6 +157,7 @@ fn step_number(q: StepQuestion) -> u64
         StepQuestion::PartnerKept => 14,
         StepQuestion::AtomKnown => 15,
         StepQuestion::AtomMatches => 29,
+        StepQuestion::AtomHeaded => 32,
         StepQuestion::ConditionHolds => 16,
     }
 }

@@ -65,11 +65,11 @@ table-taken ws = (
   λ h. (0, ap (λ c. onTable Refused c (Accepted 0)) (passed-iff ws .1 h .valid)),
 )
 
--- step k gets a yes to 12 to 16 and 29 on the marks that the steps before it leave
+-- step k gets a yes to 12 to 16, 29 and 32 on the marks that the steps before it leave
 abbrev pub Yes : List ℕ → List ℕ → List ℕ → ℕ → Type 0
 Yes ws ms ls k = firstNo ws (checkList ws ms (take (4 * k) ls) .marks) ls k ≡ none
 
--- 9, 11, then 12 to 15, 29 and 16 of each step
+-- 9, 11, then 12 to 15, 29, 32 and 16 of each step
 pub check-taken : (ws ms ls : List ℕ) → IsTaken (checkCall ws ms ls) ↔ (Passed ws × (length ws ≤ length ms) × So (listFits ls) × ((k : ℕ) → k < length ls / 4 → Yes ws ms ls k))
 check-taken ws ms ls = (
   λ h.

@@ -11,7 +11,7 @@ use lib.ListN.{length, take, drop}
 use Rattle.semantics.specs.Programs.{Program, Atoms, Stable}
 use Rattle.rewriting.specs.Marked.{whole}
 use Rattle.rewriting.specs.Steps.{Step}
-use Rattle.rewriting.specs.Reducer.{Greedy}
+use Rattle.rewriting.specs.Reducer.{eligible, Greedy}
 use Rattle.answers.specs.declared.StepQuestion.{StepQuestion}
 use Rattle.answers.specs.declared.Refusal.the-variants as refusal
 use Rattle.table.specs.Questions.{Passed}
@@ -88,7 +88,7 @@ pub record Demand3 (P : Program) (ms ls ks : List ℕ) : Type 0 where
   pub taken : call P ms ls .answer ≡ Accepted s
   -- "The reducer always takes the applicable step that is smallest by kind, then target, partner, atom, until none applies."
   pub steps : List Step
-  pub order : Greedy (P .atoms) (whole (P .clauses)) steps
+  pub order : Greedy (eligible (P .atoms)) (whole (P .clauses)) steps
   pub list : ownList P ms ls s ≡ wordsOf steps
   -- "later words don't change"
   pub past : drop (4 * s) (call P ms ls .list) ≡ drop (4 * s) ls
@@ -119,7 +119,7 @@ demand-3 P w ms ls ks a b c =
       s = length l;
       taken = h;
       steps = l;
-      order = subst (λ Q. Greedy (P .atoms) (whole (Q .clauses)) l) e (steps-greedy ws p);
+      order = subst (λ Q. Greedy (eligible (P .atoms)) (whole (Q .clauses)) l) e (steps-greedy ws p);
       list = list-words ws ms ls (length l) h;
       past = reducer-list-past ws ms ls (length l) h;
       accepted = reducer-accepted ws ms ls ks (length l) h c;

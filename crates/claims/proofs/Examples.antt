@@ -6,7 +6,7 @@ use Rattle.semantics.specs.Programs.{satisfies, reduct, models}
 use Rattle.semantics.specs.Decide.{sublists, stableTest}
 use Rattle.rewriting.specs.Marked.{left}
 use Rattle.rewriting.specs.Reaches.{fire, reachFrom, reach}
-use Rattle.rewriting.specs.Steps.{inNoHead, condition, conditionHolds, applies, effect}
+use Rattle.rewriting.specs.Steps.{inNoHead, condition, atomHeaded, conditionHolds, applies, effect}
 use Rattle.rewriting.specs.Search.{least, firstAtom, firstPartner, firstTarget, firstStep, reduce}
 use Rattle.answers.specs.Answers.{ask}
 use Rattle.table.specs.StepWords.{wordsOf}
@@ -42,8 +42,8 @@ rows =
     ∷ row (said.cycleCall (2 ∷ 2 ∷ 1 ∷ 0 ∷ 1 ∷ 0 ∷ 1 ∷ 1 ∷ 0 ∷ 1 ∷ 1 ∷ 0 ∷ [])) (value 0)
     -- 0 <- 1. 1 <- 0.: the reducer writes 7,0,0,1 then 6,1,0,0
     ∷ writes (2 ∷ 2 ∷ 1 ∷ 1 ∷ 0 ∷ 0 ∷ 1 ∷ 1 ∷ 1 ∷ 0 ∷ 1 ∷ 0 ∷ []) (7 ∷ 0 ∷ 0 ∷ 1 ∷ 6 ∷ 1 ∷ 0 ∷ 0 ∷ [])
-    -- 0 <- 1. alone: 7,0,0,1 is accepted; the reducer writes 6,0,0,1
-    ∷ row (said.checkCall (2 ∷ 1 ∷ 1 ∷ 1 ∷ 0 ∷ 0 ∷ 1 ∷ []) (replicate 7 0) (7 ∷ 0 ∷ 0 ∷ 1 ∷ [])) (value 1)
+    -- 0 <- 1. alone: "7,0,0,1 is accepted" in document 01, which slip 6 of document 02 refuses by 32; the reducer writes 6,0,0,1
+    ∷ row (said.checkCall (2 ∷ 1 ∷ 1 ∷ 1 ∷ 0 ∷ 0 ∷ 1 ∷ []) (replicate 7 0) (7 ∷ 0 ∷ 0 ∷ 1 ∷ [])) (refusal 32 0)
     ∷ writes (2 ∷ 1 ∷ 1 ∷ 1 ∷ 0 ∷ 0 ∷ 1 ∷ []) (6 ∷ 0 ∷ 0 ∷ 1 ∷ [])
     -- 0. alone: 8,0,0,0 is refused 14 at step 0, as no clause subsumes itself
     ∷ row (said.checkCall (2 ∷ 1 ∷ 1 ∷ 0 ∷ 0 ∷ 0 ∷ []) (replicate 6 0) (8 ∷ 0 ∷ 0 ∷ 0 ∷ [])) (refusal 14 0)
@@ -56,5 +56,5 @@ rows =
     ∷ []
 
 pub examples : AllSay rows
-unfolding satisfies reduct models sublists stableTest left fire reachFrom reach inNoHead condition conditionHolds applies effect least firstAtom firstPartner firstTarget firstStep reduce ask questions.atomsFrom questions.partsFrom questions.clauseFrom questions.clausesFrom questions.allUsed questions.tableOf startFrom clausesOf programOf part entryAt entriesFrom view find clears marksAfter sets.setOf sets.testOf turned leads cyclic cycles.cycleOf steps.shapeQuestions steps.stepQuestions lists.stepsFrom lists.checkList wordsOf reductions.bodyLiterals reductions.room reductions.stepsOf reductions.reduction marksAfterAll questions.onWalk questions.onTable
+unfolding satisfies reduct models sublists stableTest left fire reachFrom reach inNoHead condition atomHeaded conditionHolds applies effect least firstAtom firstPartner firstTarget firstStep reduce ask questions.atomsFrom questions.partsFrom questions.clauseFrom questions.clausesFrom questions.allUsed questions.tableOf startFrom clausesOf programOf part entryAt entriesFrom view find clears marksAfter sets.setOf sets.testOf turned leads cyclic cycles.cycleOf steps.shapeQuestions steps.conditionQuestions steps.stepQuestions lists.stepsFrom lists.checkList wordsOf reductions.bodyLiterals reductions.room reductions.stepsOf reductions.reduction marksAfterAll questions.onWalk questions.onTable
 examples = (refl, (refl, (refl, (refl, (refl, (refl, (refl, (refl, (refl, ((refl, refl), (refl, ((refl, refl), (refl, (refl, ((refl, refl), ((refl, refl), tt))))))))))))))))

@@ -8,6 +8,7 @@ pub mod Cycles
 pub mod Models
 pub mod Digits
 pub mod TextLists
+pub mod Failures
 pub mod OpenSteps
 pub mod Refusals
 pub mod Said

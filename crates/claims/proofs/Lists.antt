@@ -15,7 +15,7 @@ use Rattle.rewriting.specs.Marked.{left}
 use Rattle.rewriting.specs.Steps.{applies}
 use Rattle.rewriting.proofs.Sound.{step-sound}
 use Rattle.answers.specs.declared.StepQuestion.{StepQuestion}
-use Rattle.answers.specs.declared.StepQuestion.the-variants.{KindKnown, TargetKept, PartnerKept, AtomKnown, AtomMatches, ConditionHolds}
+use Rattle.answers.specs.declared.StepQuestion.the-variants.{KindKnown, TargetKept, PartnerKept, AtomKnown, AtomMatches, AtomHeaded, ConditionHolds}
 use Rattle.answers.specs.declared.CallQuestion.{CallQuestion}
 use Rattle.answers.specs.declared.CallQuestion.the-variants.{MarksLength, ListLength}
 use Rattle.answers.specs.declared.Refusal.{Refusal}
@@ -108,6 +108,7 @@ step-late TargetKept = omega arith
 step-late PartnerKept = omega arith
 step-late AtomKnown = omega arith
 step-late AtomMatches = omega arith
+step-late AtomHeaded = omega arith
 step-late ConditionHolds = omega arith
 
 table-early : (ws : List ℕ) (r : Refusal) → tableOf ws ≡ checked.Refused r → (q : StepQuestion) (k : ℕ) → r ≢ refusal.Step q k

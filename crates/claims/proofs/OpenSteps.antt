@@ -27,7 +27,7 @@ rows =
     ∷ writes (3 ∷ 3 ∷ 1 ∷ 0 ∷ 0 ∷ 0 ∷ 1 ∷ 1 ∷ 0 ∷ 1 ∷ 0 ∷ 1 ∷ 0 ∷ 1 ∷ 2 ∷ 1 ∷ []) (3 ∷ 1 ∷ 0 ∷ 0 ∷ 5 ∷ 2 ∷ 1 ∷ 0 ∷ [])
     -- 1 <- 0. 0. 0.: of the two facts 0 the first is the partner; 3 comes before 8, which then takes clause 1 by clause 2
     ∷ writes (2 ∷ 3 ∷ 1 ∷ 1 ∷ 0 ∷ 1 ∷ 0 ∷ 1 ∷ 0 ∷ 0 ∷ 0 ∷ 1 ∷ 0 ∷ 0 ∷ 0 ∷ []) (3 ∷ 0 ∷ 1 ∷ 0 ∷ 8 ∷ 1 ∷ 2 ∷ 0 ∷ [])
-    -- 0 <- 1, 2.: both body atoms are in no head, and 1 is the smaller; 6 comes before 7, which is open too
+    -- 0 <- 1, 2.: both body atoms are in no head, and 1 is the smaller; 7 is not open, since an atom in no head makes a failure
     ∷ writes (3 ∷ 1 ∷ 1 ∷ 2 ∷ 0 ∷ 0 ∷ 1 ∷ 2 ∷ []) (6 ∷ 0 ∷ 0 ∷ 1 ∷ [])
     -- 0|1. 2 <- ~0, ~1.: a disjunctive fact blocks where all of its head atoms are negative there
     ∷ writes (3 ∷ 2 ∷ 2 ∷ 0 ∷ 0 ∷ 0 ∷ 1 ∷ 1 ∷ 0 ∷ 2 ∷ 2 ∷ 0 ∷ 1 ∷ []) (5 ∷ 1 ∷ 0 ∷ 0 ∷ [])

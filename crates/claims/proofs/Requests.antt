@@ -8,7 +8,7 @@ use Rattle.semantics.specs.Programs as programs
 use Rattle.semantics.specs.Decide.{sublists, stableTest}
 use Rattle.rewriting.specs.Marked.{left}
 use Rattle.rewriting.specs.Reaches.{fire, reachFrom, reach}
-use Rattle.rewriting.specs.Steps.{inNoHead, condition, conditionHolds, applies, effect}
+use Rattle.rewriting.specs.Steps.{inNoHead, condition, atomHeaded, conditionHolds, applies, effect}
 use Rattle.rewriting.specs.Search.{least, firstAtom, firstPartner, firstTarget, firstStep, reduce}
 use Rattle.answers.specs.Answers.{ask, writtenIf}
 use Rattle.table.specs.StepWords.{wordsOf}
@@ -56,6 +56,21 @@ rules = 3 ∷ 2 ∷ 1 ∷ 1 ∷ 0 ∷ 0 ∷ 1 ∷ 1 ∷ 1 ∷ 0 ∷ 2 ∷ 0 ∷ 
 -- 0|1. 2 <- 0.
 abbrev disjunctive : List ℕ
 disjunctive = 3 ∷ 2 ∷ 2 ∷ 0 ∷ 0 ∷ 0 ∷ 1 ∷ 1 ∷ 1 ∷ 0 ∷ 2 ∷ 0 ∷ []
+
+-- 0 <- 1., with two atoms, and with three
+abbrev headless : List ℕ
+headless = 2 ∷ 1 ∷ 1 ∷ 1 ∷ 0 ∷ 0 ∷ 1 ∷ []
+
+abbrev wider : List ℕ
+wider = 3 ∷ 1 ∷ 1 ∷ 1 ∷ 0 ∷ 0 ∷ 1 ∷ []
+
+-- 0 <- 1. 1 <- 0.
+abbrev circle : List ℕ
+circle = 2 ∷ 2 ∷ 1 ∷ 1 ∷ 0 ∷ 0 ∷ 1 ∷ 1 ∷ 1 ∷ 0 ∷ 1 ∷ 0 ∷ []
+
+-- 0|1 <- 2. 2 <- 0.
+abbrev either : List ℕ
+either = 3 ∷ 2 ∷ 2 ∷ 1 ∷ 0 ∷ 0 ∷ 1 ∷ 2 ∷ 1 ∷ 1 ∷ 0 ∷ 2 ∷ 0 ∷ []
 
 -- the text of one clause over n atoms, its lists as they stand; "atoms=" with one digit and "clauses=1" have 18 bytes with their line feeds
 abbrev clauseOver : ℕ → List ℕ → List ℕ → List ℕ → List ℕ
@@ -175,8 +190,35 @@ rows =
     -- "question 26 counts what is kept", with the clause's three counts: of 8,187 different numbers, one of them twice, 8,192 words; of 8,188 one too many, though not below n
     ∷ reads (clauseOver 3 (8186 ∷ from 0 8187) [] []) (refusal 6 18)
     ∷ reads (clauseOver 3 (8187 ∷ from 0 8187) [] []) (refusal 26 18)
+    -- Slip 6. "7,0,0,1 on 0 <- 1. alone": 1 is in no head, so that it is a failure, which the reducer writes; 0 is not in the body, but in a head, and stays 16
+    ∷ checks headless (7 ∷ 0 ∷ 0 ∷ 1 ∷ []) (refusal 32 0)
+    ∷ checks headless (6 ∷ 0 ∷ 0 ∷ 1 ∷ []) (value 1)
+    ∷ writes headless (6 ∷ 0 ∷ 0 ∷ 1 ∷ [])
+    ∷ checks headless (7 ∷ 0 ∷ 0 ∷ 0 ∷ []) (refusal 16 0)
+    -- "in the target's body or not": over three atoms 2 is in no body and in no head; 15, 14 and 13 come before 32, and it is asked of kind 7 alone
+    ∷ checks wider (7 ∷ 0 ∷ 0 ∷ 2 ∷ []) (refusal 32 0)
+    ∷ checks wider (7 ∷ 0 ∷ 0 ∷ 3 ∷ []) (refusal 15 0)
+    ∷ checks wider (7 ∷ 0 ∷ 1 ∷ 1 ∷ []) (refusal 14 0)
+    ∷ checks wider (7 ∷ 1 ∷ 0 ∷ 1 ∷ []) (refusal 13 0)
+    ∷ checks wider (6 ∷ 0 ∷ 0 ∷ 2 ∷ []) (refusal 16 0)
+    ∷ checks wider (1 ∷ 0 ∷ 0 ∷ 2 ∷ []) (refusal 16 0)
+    -- "in no kept head": of 0 <- 1. 1 <- 0. either may go as a loop step, and with it the head that the other needs; the place is the step's number
+    ∷ checks circle (7 ∷ 0 ∷ 0 ∷ 1 ∷ 7 ∷ 1 ∷ 0 ∷ 0 ∷ []) (refusal 32 1)
+    ∷ checks circle (7 ∷ 0 ∷ 0 ∷ 1 ∷ 6 ∷ 1 ∷ 0 ∷ 0 ∷ []) (value 2)
+    ∷ checks circle (7 ∷ 1 ∷ 0 ∷ 0 ∷ 7 ∷ 0 ∷ 0 ∷ 1 ∷ []) (refusal 32 1)
+    ∷ writes circle (7 ∷ 0 ∷ 0 ∷ 1 ∷ 6 ∷ 1 ∷ 0 ∷ 0 ∷ [])
+    -- in a head and in the reach: 1. 0 <- 1.; its own head is a kept one: 0 <- 0., of which the reducer takes kind 1; a negative body alone: 0 <- ~1.
+    ∷ checks success (7 ∷ 1 ∷ 0 ∷ 1 ∷ []) (refusal 16 0)
+    ∷ checks (1 ∷ 1 ∷ 1 ∷ 1 ∷ 0 ∷ 0 ∷ 0 ∷ []) (7 ∷ 0 ∷ 0 ∷ 0 ∷ []) (value 1)
+    ∷ writes (1 ∷ 1 ∷ 1 ∷ 1 ∷ 0 ∷ 0 ∷ 0 ∷ []) (1 ∷ 0 ∷ 0 ∷ 0 ∷ [])
+    ∷ checks (2 ∷ 1 ∷ 1 ∷ 0 ∷ 1 ∷ 0 ∷ 1 ∷ []) (4 ∷ 0 ∷ 0 ∷ 1 ∷ []) (value 1)
+    ∷ checks (2 ∷ 1 ∷ 1 ∷ 0 ∷ 1 ∷ 0 ∷ 1 ∷ []) (7 ∷ 0 ∷ 0 ∷ 1 ∷ []) (refusal 32 0)
+    -- one of two head atoms: 0|1 <- 2. 2 <- 0.
+    ∷ checks either (7 ∷ 0 ∷ 0 ∷ 2 ∷ []) (value 1)
+    ∷ checks either (7 ∷ 1 ∷ 0 ∷ 0 ∷ []) (value 1)
+    ∷ checks either (7 ∷ 0 ∷ 0 ∷ 2 ∷ 7 ∷ 1 ∷ 0 ∷ 0 ∷ []) (refusal 32 1)
     ∷ []
 
 pub requests : AllSay rows
-unfolding left fire reachFrom reach inNoHead condition conditionHolds applies effect least firstAtom firstPartner firstTarget firstStep reduce ask questions.atomsFrom questions.partsFrom questions.clauseFrom questions.clausesFrom questions.allUsed questions.tableOf startFrom clausesOf programOf part entryAt entriesFrom view find clears marksAfter marksAfterAll steps.shapeQuestions steps.stepQuestions checking.stepsFrom checking.checkList wordsOf reductions.bodyLiterals reductions.room reductions.stepsOf reductions.reduction questions.onWalk questions.onTable turned leads cyclic cycleOf programs.satisfies programs.reduct programs.models sublists stableTest below entriesOf stableWord modelsOf modelsAnswer modelsOut writtenIf between width places digits others commas lineText clauseText clausesText render textOf writeAnswer outAfter clausesWords encode insert sorted reader.then reader.starts reader.run reader.ended reader.spanAt reader.nextOf reader.scan reader.numbers reader.onSpan reader.valueOf reader.valueAt reader.numberAt reader.countAt reader.listOf reader.listAt reader.clauseAt reader.clausesAt reader.restAt reader.programAt reader.readText reader.readAnswer reader.tableAfter
-requests = (refl, (refl, (refl, ((refl, refl), (refl, (refl, (refl, (refl, (refl, (refl, (refl, (refl, (refl, (refl, (refl, (refl, ((refl, refl), (refl, (refl, (refl, (refl, (refl, (refl, (refl, (refl, (refl, (refl, ((refl, refl), ((refl, refl), ((refl, refl), ((refl, refl), ((refl, refl), ((refl, refl), ((refl, refl), ((refl, refl), ((refl, refl), ((refl, refl), ((refl, refl), (refl, (refl, (refl, (refl, (refl, (refl, (refl, (refl, (refl, (refl, (refl, (refl, (refl, (refl, (refl, (refl, (refl, ((refl, refl), ((refl, refl), ((refl, refl), ((refl, refl), ((refl, refl), ((refl, refl), ((refl, refl), (refl, (refl, (refl, (refl, (refl, (refl, ((refl, refl), ((refl, refl), ((refl, refl), ((refl, refl), ((refl, refl), ((refl, refl), (refl, (refl, (refl, (refl, (refl, (refl, (refl, tt)))))))))))))))))))))))))))))))))))))))))))))))))))))))))))))))))))))))))))))))))
+unfolding left fire reachFrom reach inNoHead condition atomHeaded conditionHolds applies effect least firstAtom firstPartner firstTarget firstStep reduce ask questions.atomsFrom questions.partsFrom questions.clauseFrom questions.clausesFrom questions.allUsed questions.tableOf startFrom clausesOf programOf part entryAt entriesFrom view find clears marksAfter marksAfterAll steps.shapeQuestions steps.conditionQuestions steps.stepQuestions checking.stepsFrom checking.checkList wordsOf reductions.bodyLiterals reductions.room reductions.stepsOf reductions.reduction questions.onWalk questions.onTable turned leads cyclic cycleOf programs.satisfies programs.reduct programs.models sublists stableTest below entriesOf stableWord modelsOf modelsAnswer modelsOut writtenIf between width places digits others commas lineText clauseText clausesText render textOf writeAnswer outAfter clausesWords encode insert sorted reader.then reader.starts reader.run reader.ended reader.spanAt reader.nextOf reader.scan reader.numbers reader.onSpan reader.valueOf reader.valueAt reader.numberAt reader.countAt reader.listOf reader.listAt reader.clauseAt reader.clausesAt reader.restAt reader.programAt reader.readText reader.readAnswer reader.tableAfter
+requests = (refl, (refl, (refl, ((refl, refl), (refl, (refl, (refl, (refl, (refl, (refl, (refl, (refl, (refl, (refl, (refl, (refl, ((refl, refl), (refl, (refl, (refl, (refl, (refl, (refl, (refl, (refl, (refl, (refl, ((refl, refl), ((refl, refl), ((refl, refl), ((refl, refl), ((refl, refl), ((refl, refl), ((refl, refl), ((refl, refl), ((refl, refl), ((refl, refl), ((refl, refl), (refl, (refl, (refl, (refl, (refl, (refl, (refl, (refl, (refl, (refl, (refl, (refl, (refl, (refl, (refl, (refl, (refl, ((refl, refl), ((refl, refl), ((refl, refl), ((refl, refl), ((refl, refl), ((refl, refl), ((refl, refl), (refl, (refl, (refl, (refl, (refl, (refl, ((refl, refl), ((refl, refl), ((refl, refl), ((refl, refl), ((refl, refl), ((refl, refl), (refl, (refl, (refl, (refl, (refl, (refl, (refl, (refl, (refl, ((refl, refl), (refl, (refl, (refl, (refl, (refl, (refl, (refl, (refl, (refl, (refl, ((refl, refl), (refl, (refl, ((refl, refl), (refl, (refl, (refl, (refl, (refl, tt)))))))))))))))))))))))))))))))))))))))))))))))))))))))))))))))))))))))))))))))))))))))))))))))))))))))

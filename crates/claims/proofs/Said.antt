@@ -64,7 +64,7 @@ IsTaken c = (k : ℕ) × (answered c ≡ Accepted k)
 
 -- ---- steps of a list
 
--- the first of questions 12 to 15, 29 and 16 that step k of a list gets a no to, on the marks ms
+-- the first of questions 12 to 15, 29, 32 and 16 that step k of a list gets a no to, on the marks ms
 abbrev pub firstNo : List ℕ → List ℕ → List ℕ → ℕ → Option StepQuestion
 firstNo ws ms ls k = stepQuestions some (getD ws 0 0) (view ws ms) (kindAt ls k) (stepAt ls k) none
 

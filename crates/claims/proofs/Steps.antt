@@ -1,9 +1,9 @@
 -- The first steps of a list; and that a list is accepted exactly when each of its steps is answered yes.
 use mathlib.Core.Path.{_≡_, refl, sym, ap, subst, _∙_}
-use mathlib.Core.Logic.{_↔_}
-use mathlib.Core.Bool.{true, So}
+use mathlib.Core.Logic.{_↔_, _≢_}
+use mathlib.Core.Bool.{Bool, true, false, So, true≢false}
 use mathlib.Core.List.{List}
-use mathlib.Core.Option.{none, some}
+use mathlib.Core.Option.{Option, none, some}
 use Prim.Native.Nat.{ℕ, zero, suc, _+_, _*_, _/_, _%_, _≤_, _<_}
 use native.Mathlib.Omega.{arith}
 use native.Mathlib.Nat.{mul-div-right, mul-mod-right, div-add-mod'}
@@ -18,6 +18,8 @@ use Rattle.table.specs.Effects.{marksAfter}
 use Rattle.step_conditions.specs.declared.Step.{Step}
 use Rattle.step_conditions.specs.Known.{stepOf}
 use Rattle.answers.specs.declared.Answer.the-variants.{Accepted}
+use Rattle.answers.specs.declared.StepQuestion.{StepQuestion}
+use Rattle.answers.specs.Answers.{ask}
 use Rattle.step_questions.specs.declared.Verdict.{Verdict}
 use Rattle.step_questions.specs.declared.Verdict.the-variants.{Fine, No}
 use Rattle.step_lists.specs.Lists.{leaving, stepsFrom, listFits, checkList}
@@ -59,7 +61,7 @@ front-made ws ms ls k p l f h =
     let (a, b) = front-fits ls k f h in
     check-made ws ms (take (4 * k) ls) _ (p .valid) l a ∙ ap (stepsFrom ws (allKept ws ms) (take (4 * k) ls) 0) b ∙ steps-front ws ls (4 * k) k 0 (allKept ws ms) (omega arith)
 
--- ---- a list is accepted exactly when each step gets a yes to 12 to 16 and 29 on what the steps before it leave
+-- ---- a list is accepted exactly when each step gets a yes to 12 to 16, 29 and 32 on what the steps before it leave
 
 module _ (ws ls : List ℕ) where
   abbrev pub Fine-at : List ℕ → ℕ → ℕ → Type 0
@@ -102,10 +104,16 @@ module _ (ws ls : List ℕ) where
       ∙ all-fine rest (k + 1) (next ms k) (λ i h. fine-on k ms q i .0 (f (suc i) (omega arith)))
       ∙ ap Accepted (let z : k + 1 + rest ≡ k + suc rest = omega arith in z)
 
--- a step gets a yes to all of 12 to 16 and 29 exactly where none of them is its first no
+-- a step gets a yes to all of 12 to 16, 29 and 32 exactly where none of them is its first no
 pub none-fine : (ws ms ls : List ℕ) (k : ℕ) → (firstNo ws ms ls k ≡ none) ↔ (verdictOn ws ms ls k ≡ Fine)
 none-fine ws ms ls k = (go (verdictOn ws ms ls k) refl, on-fine some none (getD ws 0 0) (view ws ms) (wordsAt ls k))
   where
     go : (v : Verdict) → verdictOn ws ms ls k ≡ v → firstNo ws ms ls k ≡ none → verdictOn ws ms ls k ≡ Fine
     go Fine e h = e
     go (No x) e h = absurd (let q : none ≡ some x = sym h ∙ on-no some none (getD ws 0 0) (view ws ms) (wordsAt ls k) x e in let z : _≡_ {A = ℕ} 0 1 = cc in omega arith)
+
+-- a question of a step is its first no exactly where it is answered no, whatever other questions follow it
+pub first-exactly : (b : Bool) (q : StepQuestion) (rest : Option StepQuestion) → rest ≢ some q → (ask some b q rest ≡ some q) ↔ (b ≡ false)
+unfolding ask
+first-exactly true q rest d = (λ h. absurd (d h), λ e. absurd (true≢false e))
+first-exactly false q rest d = (λ h. refl, λ e. refl)

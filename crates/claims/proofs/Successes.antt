@@ -1,30 +1,29 @@
 -- Slip 1 of document 02, "Success steps name their atom", of every list of steps: what a success that is taken names, and which steps 29 refuses.
-use mathlib.Core.Path.{_≡_, refl, sym, ap, subst, _∙_}
+use mathlib.Core.Path.{_≡_, sym, ap, subst, _∙_}
 use mathlib.Core.Logic.{_↔_, _≢_}
 use mathlib.Core.Bool.{Bool, true, false, So}
 use mathlib.Core.List.{List, [], _∷_}
-use mathlib.Core.Option.{Option, none, some}
+use mathlib.Core.Option.{none, some}
 use Prim.Native.Nat.{ℕ, _*_, _/_, _<_}
 use native.Mathlib.Omega.{arith}
 use lib.ListN.{length, getD, take}
 use Rattle.semantics.specs.Lists.{_∈_}
 use Rattle.rewriting.specs.Marked.{Marked, entry, left}
 use Rattle.rewriting.specs.Kinds.{success, rowOf, number, kindOf}
-use Rattle.rewriting.specs.Steps.{Step, fact, targetKept, partnerKept, atomKnown, atomMatches, condition, conditionHolds, applies, dropPos, leftBy, effect}
+use Rattle.rewriting.specs.Steps.{Step, fact, targetKept, partnerKept, atomKnown, atomMatches, atomHeaded, condition, conditionHolds, applies, dropPos, leftBy, effect}
 use Rattle.rewriting.proofs.Rows.{kindOf-number, succeeds, matches-no}
 use Rattle.rewriting.proofs.Effect.{asks, at-target}
-use Rattle.answers.specs.declared.StepQuestion.{StepQuestion}
-use Rattle.answers.specs.declared.StepQuestion.the-variants.{AtomMatches, ConditionHolds}
+use Rattle.answers.specs.declared.StepQuestion.the-variants.{AtomMatches, AtomHeaded, ConditionHolds}
 use Rattle.answers.specs.Answers.{ask}
 use Rattle.table.specs.StepWords.{kindAt, stepAt}
 use Rattle.table.specs.View.{view}
-use Rattle.step_questions.specs.Questions.{kindKnown, shapeQuestions, stepQuestions}
+use Rattle.step_questions.specs.Questions.{kindKnown, shapeQuestions, conditionQuestions, stepQuestions}
 use Rattle.step_questions.proofs.Laws.{fine-applies}
 use Rattle.step_lists.specs.Lists.{checkList}
 use Rattle.step_lists.specs.Leaves.{wordsAt}
 use Rattle.claims.proofs.Said.{IsTaken, checkCall, firstNo}
 use Rattle.claims.proofs.Demand1.{check-taken}
-use Rattle.claims.proofs.Steps.{none-fine}
+use Rattle.claims.proofs.Steps.{none-fine, first-exactly}
 
 -- what a success names and does
 pub record Named (P : Marked) (s : Step) : Type 0 where
@@ -53,20 +52,19 @@ successes-named ws ms ls h k l e =
 pub said-29 : (ws ms ls : List ℕ) (k : ℕ) → let P = view ws ms in let s = stepAt ls k in
     So (kindKnown (kindAt ls k)) → So (targetKept P s) → So (partnerKept P s) → So (atomKnown (getD ws 0 0) s)
     → (firstNo ws ms ls k ≡ some AtomMatches) ↔ ((s .kind ≡ success) × (b : ℕ) × (entry P (s .partner) .clause .head ≡ b ∷ []) × (s .atom ≢ b))
-unfolding stepQuestions shapeQuestions ask
+unfolding stepQuestions shapeQuestions conditionQuestions ask
 said-29 ws ms ls k a b c d =
     let P = view ws ms in
     let s = stepAt ls k in
-    let e : firstNo ws ms ls k ≡ then (atomMatches P s) (conditionHolds P s) = rw (a, b, c, d) in
+    let rest = conditionQuestions some P s none in
+    let e : firstNo ws ms ls k ≡ ask some (atomMatches P s) AtomMatches rest = rw (a, b, c, d) in
+    let f = first-exactly (atomMatches P s) AtomMatches rest (other (atomHeaded P s) (conditionHolds P s)) in
     let m = matches-no P s in (
-      λ h. let w = m .0 (no (atomMatches P s) (conditionHolds P s) (sym e ∙ h)) in (sym (kindOf-number (s .kind)) ∙ ap kindOf (w .0), w .1, w .2, w .3),
-      λ w. e ∙ ap (λ x. then x (conditionHolds P s)) (m .1 (ap number (w .0), w .1, w .2, w .3)),
+      λ h. let w = m .0 (f .0 (sym e ∙ h)) in (sym (kindOf-number (s .kind)) ∙ ap kindOf (w .0), w .1, w .2, w .3),
+      λ w. e ∙ f .1 (m .1 (ap number (w .0), w .1, w .2, w .3)),
     )
   where
-    then : Bool → Bool → Option StepQuestion
-    then x y = ask some x AtomMatches (ask some y ConditionHolds none)
-
-    no : (x y : Bool) → then x y ≡ some AtomMatches → x ≡ false
-    no false y h = refl
-    no true true h = let z : _≡_ {A = ℕ} 0 1 = cc in absurd (omega arith)
-    no true false h = let z : _≡_ {A = ℕ} 0 1 = cc in absurd (omega arith)
+    other : (x y : Bool) → ask some x AtomHeaded (ask some y ConditionHolds none) ≢ some AtomMatches
+    other true true h = let z : _≡_ {A = ℕ} 0 1 = cc in omega arith
+    other true false h = let z : _≡_ {A = ℕ} 0 1 = cc in omega arith
+    other false y h = let z : _≡_ {A = ℕ} 0 1 = cc in omega arith

@@ -14,7 +14,7 @@ use Rattle.rewriting.specs.Marked.{Marked, whole}
 use Rattle.rewriting.specs.Steps.{Step, step, applies}
 use Rattle.rewriting.specs.Runs.{accepted, leaves}
 use Rattle.rewriting.specs.Kinds.{number}
-use Rattle.rewriting.proofs.Rows.{kindOf-number, number-bounds, condition-matches}
+use Rattle.rewriting.proofs.Rows.{kindOf-number, number-bounds, condition-matches, condition-headed}
 use Rattle.rewriting.proofs.Greedy.{greedy-end}
 use Rattle.answers.specs.declared.StepQuestion.{StepQuestion}
 use Rattle.answers.specs.declared.Refusal.the-variants as refusal
@@ -37,7 +37,7 @@ use Rattle.step_questions.specs.declared.Verdict.the-variants.{Fine, No}
 use Rattle.step_lists.specs.Lists.{leaving, stepsFrom, listFits, checkList}
 use Rattle.table.specs.StepWords.{stepAt}
 use Rattle.answers.specs.Answers.{ask}
-use Rattle.step_questions.specs.Questions.{shapeQuestions, stepQuestions}
+use Rattle.step_questions.specs.Questions.{shapeQuestions, conditionQuestions, stepQuestions}
 use Rattle.step_questions.specs.Verdicts.{verdictAt}
 use Rattle.step_questions.proofs.Laws.{onVerdict, known-kind, fine-applies}
 use Rattle.step_lists.specs.Leaves.{wordsAt}
@@ -72,11 +72,11 @@ next-words ls r k s l e =
     ap (λ i. drop i ls) f ∙ past ls (number (s .kind) ∷ s .target ∷ s .partner ∷ s .atom ∷ []) (wordsOf l ++ r) (4 * k) e
 
 applies-fine : (n : ℕ) (P : Marked) (s : Step) → So (applies n P s) → verdictAt n P (wordsStep s) ≡ Fine
-unfolding stepQuestions shapeQuestions ask applies
+unfolding stepQuestions shapeQuestions conditionQuestions ask applies
 applies-fine n P s h =
     let b = number-bounds (s .kind) in
     let w = simp and-iff at (subst (λ u. So (applies n P u)) (sym (step-words s)) h) in
-    rw (known-kind (number (s .kind)) (b .0) (b .1), w .0, w .1 .0, w .1 .1 .0, condition-matches P (stepOf (wordsStep s)) (w .1 .1 .1), w .1 .1 .1)
+    rw (known-kind (number (s .kind)) (b .0) (b .1), w .0, w .1 .0, w .1 .1 .0, condition-matches P (stepOf (wordsStep s)) (w .1 .1 .1), condition-headed P (stepOf (wordsStep s)) (w .1 .1 .1), w .1 .1 .1)
 
 -- ---- the steps of a list, one after the other
 
@@ -164,7 +164,7 @@ module _ (ws ms : List ℕ) (p : Passed ws) (l : length ws ≤ length ms) where
           ∙ ap (λ P. leaves (getD ws 0 0) P (stepsOf ws)) e
 
       none-open : (u : Step) → ¬ So (applies (getD ws 0 0) (view ws marksLeft) u)
-      none-open u h = greedy-end (steps-greedy ws p) u (subst (λ P. So (applies (getD ws 0 0) P u)) left-is h)
+      none-open u h = greedy-end (getD ws 0 0) (steps-greedy ws p) u (subst (λ P. So (applies (getD ws 0 0) P u)) left-is h)
 
       ls : List ℕ
       ls = wordsOf (stepsOf ws) ++ a ∷ b ∷ c ∷ d ∷ []

@@ -26,7 +26,7 @@ pub extern "C" fn gambrolt_check_table(words: &[u16]) -> u64
     answers::refusal_code(r)
 }
 
-// Questions 1 to 9, 11 to 16 and 29, and the marks of the steps that are taken.
+// Questions 1 to 9, 11 to 16, 29 and 32, and the marks of the steps that are taken.
 #[no_mangle]
 pub extern "C" fn gambrolt_check(words: &[u16], marks: &mut [u8], list: &[u16]) -> u64
     ensures { λ r. ⌜ (r ≡ answerCode (checkList (now (words .entry)) (now (marks .entry)) (now (list .entry)) .answer)) × (now (marks .exit) ≡ checkList (now (words .entry)) (now (marks .entry)) (now (list .entry)) .marks) ⌝ }

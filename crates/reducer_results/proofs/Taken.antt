@@ -13,7 +13,7 @@ use Rattle.semantics.specs.Lists.{count}
 use Rattle.rewriting.specs.Marked.{whole, entry}
 use Rattle.rewriting.specs.Steps.{Step}
 use Rattle.rewriting.specs.Runs.{accepted, leaves}
-use Rattle.rewriting.specs.Reducer.{Greedy}
+use Rattle.rewriting.specs.Reducer.{eligible, Greedy}
 use Rattle.rewriting.proofs.Measure.{Tidy}
 use Rattle.rewriting.proofs.Greedy.{reduce-greedy, greedy-accepted, accepted-measure}
 use Rattle.answers.specs.declared.CallQuestion.the-variants.{MarksLength, ListRoom}
@@ -81,12 +81,12 @@ pub whole-tidy : (ws : List ℕ) → Passed ws → (i : ℕ) → Tidy (entry (wh
 whole-tidy ws p = subst (λ P. (i : ℕ) → Tidy (entry P i)) (view-allKept ws [] p) (view-tidy ws (allKept ws []) p)
 
 -- "The reducer always takes the applicable step that is smallest by kind, then target, partner, atom, until none applies."
-pub steps-greedy : (ws : List ℕ) → Passed ws → Greedy (getD ws 0 0) (whole (programOf ws .clauses)) (stepsOf ws)
+pub steps-greedy : (ws : List ℕ) → Passed ws → Greedy (eligible (getD ws 0 0)) (whole (programOf ws .clauses)) (stepsOf ws)
 unfolding stepsOf
 steps-greedy ws p = reduce-greedy (getD ws 0 0) (room ws) (whole (programOf ws .clauses)) (whole-tidy ws p) (omega (arith, room-measure ws))
 
 pub steps-accepted : (ws : List ℕ) → Passed ws → So (accepted (getD ws 0 0) (whole (programOf ws .clauses)) (stepsOf ws))
-steps-accepted ws p = greedy-accepted (steps-greedy ws p)
+steps-accepted ws p = greedy-accepted (getD ws 0 0) (steps-greedy ws p)
 
 -- The list is never longer than the room that question 17 asks for.
 pub steps-room : (ws : List ℕ) → Passed ws → length (stepsOf ws) ≤ room ws

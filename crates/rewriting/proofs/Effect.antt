@@ -10,26 +10,20 @@ use lib.ListN.{length, length-set}
 use lib.Seq.{getD-set-same, getD-set-other}
 use Rattle.semantics.specs.Lists.{_∈_, mem}
 use Rattle.semantics.specs.Programs.{Clause, Atoms}
-use Rattle.semantics.proofs.Tests.{without-keeps, and-iff, null-iff}
+use Rattle.semantics.proofs.Tests.{without-keeps, and-iff, mem-iff, null-iff}
 use Rattle.semantics.proofs.Models.{All}
 use Rattle.rewriting.specs.Marked.{Entry, Marked, gone, entry, left}
 use Rattle.rewriting.specs.Reaches.{reach}
 use Rattle.rewriting.specs.Steps.{Step, fact, inNoHead, condition, applies, leftBy, effect}
 use Rattle.rewriting.specs.Kinds.{Kind, rowOf, usesPartner}
-use Rattle.rewriting.specs.Uses.{drops}
-use Rattle.rewriting.proofs.Left.{left-each, kept-lt, closed-left}
-use Rattle.rewriting.proofs.Reach.{inNoHead-iff, reach-closed, reach-least}
+use Rattle.rewriting.specs.Uses.{drops, asksHeads}
+use Rattle.rewriting.proofs.Left.{kept-lt, closed-left}
+use Rattle.rewriting.proofs.Reach.{bare-out, reach-closed, reach-least}
 use Rattle.rewriting.proofs.Sound.{partner-other, applies-ask}
-use Rattle.rewriting.proofs.Rows.{kinds-drop, succeeds}
-use Rattle.rewriting.proofs.Subclauses.{Subclause, below-same, below-left, left-kept}
+use Rattle.rewriting.proofs.Rows.{kinds-heads, kinds-drop, succeeds, loops}
+use Rattle.rewriting.proofs.Subclauses.{Subclause, bare-iff, below-same, below-left, left-kept}
 
--- ---- heads and the reach of what is left, by the clauses' numbers
-
-pub bare-iff : (P : Marked) (a : ℕ) → So (inNoHead (left P) a) ↔ ((i : ℕ) → So (entry P i .kept) → ¬ (a ∈ entry P i .clause .head))
-bare-iff P a = (
-  λ h. left-each (λ c. ¬ (a ∈ c .head)) P .0 (inNoHead-iff (left P) a .0 h),
-  λ h. inNoHead-iff (left P) a .1 (left-each (λ c. ¬ (a ∈ c .head)) P .1 h),
-)
+-- ---- the reach of what is left, by the clauses' numbers
 
 pub reach-fires : (P : Marked) (i : ℕ) → So (entry P i .kept) → All (reach (left P)) (entry P i .clause .pos) → All (reach (left P)) (entry P i .clause .head)
 reach-fires P = closed-left (reach (left P)) P .0 (reach-closed (left P))
@@ -150,6 +144,17 @@ module _ (n : ℕ) (P : Marked) (s : Step) (h : So (applies n P s)) where
   -- The reach does not change when a literal is dropped.
   pub drop-reach : So (drops (s .kind)) → (a : ℕ) → So (before a) ↔ So (after a)
   drop-reach x a = (reach-drop x a, drop-less x a)
+
+  -- the clause that a failure or a loop step deletes did not fire
+  pub heads-idle : So (asksHeads (s .kind)) → ¬ So (drops (s .kind)) → ¬ All before (the .pos)
+  unfolding condition
+  heads-idle x d = kinds-heads (λ k. ¬ So (drops k) → So (condition k (left P) the by (s .atom)) → ¬ All before (the .pos))
+      (λ d q g. d refl)
+      (λ d q g. let w = and-iff (mem (s .atom) (the .pos)) (inNoHead (left P) (s .atom)) .0 q in bare-out (left P) (s .atom) (w .1) (g (s .atom) (mem-iff _ _ .0 (w .0))))
+      (λ d q g. let w = loops (left P) the by (s .atom) .0 q in w .outside (g (s .atom) (w .there))) (s .kind) x d asks
+    where
+      by : Clause
+      by = entry P (s .partner) .clause
 
   -- Nor when a clause is deleted that did not fire, or in whose place another fires.
   pub idle-reach : ¬ So (drops (s .kind)) → ¬ All before (the .pos) → (a : ℕ) → So (before a) ↔ So (after a)

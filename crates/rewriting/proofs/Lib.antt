@@ -13,3 +13,4 @@ pub mod Reopen
 pub mod Quiet
 pub mod Counts
 pub mod Order
+pub mod Before

@@ -1,6 +1,6 @@
--- What has to be open where the only clause with an atom in its head is deleted.
-use mathlib.Core.Path.{refl}
-use mathlib.Core.Bool.{true, So}
+-- What has to be open where the only clause with an atom in its head is deleted, and what not: a failure, and by slip 6 no loop step.
+use mathlib.Core.Path.{_≡_, refl}
+use mathlib.Core.Bool.{true, false, So}
 use mathlib.Core.List.{[], _∷_}
 use Rattle.rewriting.specs.Marked.{Marked, left}
 use Rattle.rewriting.specs.Kinds.{noHead, failure, loop}
@@ -20,6 +20,6 @@ pub failure-open : So (applies 3 given (step failure 0 0 1))
 unfolding left inNoHead condition conditionHolds applies
 failure-open = refl
 
-pub loop-open : So (applies 3 given (step loop 0 0 1))
-unfolding left fire reachFrom reach condition conditionHolds applies
-loop-open = refl
+pub no-loop : applies 3 given (step loop 0 0 1) ≡ false
+unfolding left inNoHead fire reachFrom reach condition conditionHolds applies
+no-loop = refl

@@ -15,7 +15,7 @@ use Rattle.semantics.specs.Programs.{Clause}
 use Rattle.semantics.proofs.Tests.{and-iff, all-iff, mem-iff, so-false, not-so}
 use Rattle.rewriting.specs.Marked.{Marked, entry, left}
 use Rattle.rewriting.specs.Reaches.{reach}
-use Rattle.rewriting.specs.Steps.{Step, step, inNoHead, condition, conditionHolds, applies}
+use Rattle.rewriting.specs.Steps.{Step, step, inNoHead, headed, condition, conditionHolds, applies}
 use Rattle.rewriting.specs.Kinds.{Kind, tautology, contradiction, success, noHead, blocked, failure, loop, subsumed, kindOf, usesPartner, usesAtom}
 use Rattle.rewriting.specs.Search.{partnerAtom, stepWith, least, given, firstAtom, firstPartner, firstTarget, firstStep}
 use Rattle.rewriting.proofs.Search.{atom-bound}
@@ -78,7 +78,7 @@ asked tautology cs c a = mem a (c .pos)
 asked contradiction cs c a = mem a (c .neg)
 asked noHead cs c a = inNoHead cs a
 asked failure cs c a = inNoHead cs a
-asked loop cs c a = not (reach cs a)
+asked loop cs c a = headed loop cs a && not (reach cs a)
 asked success cs c a = false
 asked blocked cs c a = false
 asked subsumed cs c a = false

@@ -38,6 +38,16 @@ inNoHead-iff cs a = (
     test : Clause → Bool
     test c = mem a (c .head)
 
+pub inHead-iff : (cs : List Clause) (a : ℕ) → (¬ So (inNoHead cs a)) ↔ ((c : Clause) × (c ∈ cs) × (a ∈ c .head))
+unfolding inNoHead
+inHead-iff cs a = (
+  λ h. let w = any-iff test cs .0 (so-by _ (λ x. h (not-iff _ .1 x))) in (w .0, w .1, mem-iff _ _ .0 (w .2)),
+  λ (c, m, k) h. not-iff _ .0 h (any-iff test cs .1 (c, m, mem-iff _ _ .1 k)),
+)
+  where
+    test : Clause → Bool
+    test c = mem a (c .head)
+
 -- everything but one atom
 abbrev pub allBut : ℕ → Atoms
 allBut a b = not (eqb b a)
@@ -129,6 +139,10 @@ module _ (T : ℕ → Type 0) (cs : List Clause) (c : (d : Clause) → d ∈ cs 
   pub reach-least : (a : ℕ) → So (reach cs a) → T a
   unfolding reach
   reach-least a m = reachFrom-least (length cs) [] (λ b k. absurd (List·Memᴰ·not-nil k)) a (mem-iff _ _ .0 m)
+
+-- an atom in no head is outside the reach
+pub bare-out : (cs : List Clause) (a : ℕ) → So (inNoHead cs a) → ¬ So (reach cs a)
+bare-out cs a h r = others-not a (reach-least (λ b. So (allBut a b)) cs (others-closed cs a h) a r)
 
 pub reach-closed : (cs : List Clause) → Closed (reach cs) cs
 unfolding reach

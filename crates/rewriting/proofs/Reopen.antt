@@ -15,7 +15,7 @@ use Rattle.rewriting.specs.Marked.{Marked, entry, left}
 use Rattle.rewriting.specs.Reaches.{reach}
 use Rattle.rewriting.specs.Steps.{Step, step, fact, inNoHead, condition, conditionHolds, applies, effect}
 use Rattle.rewriting.specs.Kinds.{Kind, tautology, contradiction, success, noHead, blocked, failure, loop, subsumed, number, kindOf, usesPartner}
-use Rattle.rewriting.specs.Uses.{drops, asksHeads}
+use Rattle.rewriting.specs.Uses.{drops, asksNoHead}
 use Rattle.rewriting.proofs.Rows.{kindOf-number}
 use Rattle.rewriting.proofs.Subclauses.{Keeps, back}
 use Rattle.rewriting.proofs.Effect.{asks, at-other, partner-asked, effect-below, is-deleted, heads-back, reach-drop, reach-idle, reach-twin}
@@ -37,7 +37,7 @@ Twin P s = (s .kind ≡ subsumed) × ((b : ℕ) → b ∈ entry P (s .target) .c
 
 pub data Opens (P : Marked) (s u : Step) : Type 0 where
   openPartner : So (drops (s .kind)) → So (usesPartner (u .kind)) → u .partner ≡ s .target → So (ready (u .kind) (entry (effect P s) (s .target) .clause)) → Opens P s u
-  openHead : ¬ So (drops (s .kind)) → So (asksHeads (u .kind)) → u .atom ∈ entry P (s .target) .clause .head → So (inNoHead (left (effect P s)) (u .atom)) → Opens P s u
+  openHead : ¬ So (drops (s .kind)) → So (asksNoHead (u .kind)) → u .atom ∈ entry P (s .target) .clause .head → So (inNoHead (left (effect P s)) (u .atom)) → Opens P s u
   openReach : ¬ So (drops (s .kind)) → u .kind ≡ loop → All (reach (left P)) (entry P (s .target) .clause .pos) → ¬ Twin P s → Opens P s u
 
 module _ (n : ℕ) (P : Marked) (s : Step) (h : So (applies n P s)) where
@@ -56,7 +56,7 @@ module _ (n : ℕ) (P : Marked) (s : Step) (h : So (applies n P s)) where
       (λ d. absurd (is-deleted n P s h d (subst (λ j. So (entry (effect P s) j .kept)) e k))))
       (λ d. inl (at-other n P s h (u .partner) d))
 
-  open-head : (u : Step) → So (asksHeads (u .kind)) → So (inNoHead (left (effect P s)) (u .atom)) → So (inNoHead (left P) (u .atom)) ⊎ Opens P s u
+  open-head : (u : Step) → So (asksNoHead (u .kind)) → So (inNoHead (left (effect P s)) (u .atom)) → So (inNoHead (left P) (u .atom)) ⊎ Opens P s u
   open-head u x q = by-cases (so-dec (drops (s .kind)))
       (λ d. inl (heads-back n P s h (u .atom) (λ y. y .0 d) q))
       (λ d. by-cases (so-dec (mem (u .atom) (entry P (s .target) .clause .head)))

@@ -12,9 +12,10 @@ use Rattle.semantics.specs.Lists.{_∈_, mem}
 use Rattle.semantics.specs.Programs.{Clause}
 use Rattle.semantics.proofs.Tests.{and-iff, not-iff, mem-iff}
 use Rattle.rewriting.specs.Marked.{Marked, entry, left}
-use Rattle.rewriting.specs.Steps.{Step, step, fact, single, inNoHead, condition, conditionHolds, atomMatches, applies}
-use Rattle.rewriting.specs.Kinds.{Kind, tautology, contradiction, success, noHead, blocked, failure, loop, subsumed, Deed, deletes, dropsPos, dropsNeg, Scope, clausesAlone, keptHeads, wholeReach, rowOf, number, kindOf, usesPartner, usesAtom}
-use Rattle.rewriting.specs.Uses.{drops, isHeads, isReach, asksHeads, asksReach}
+use Rattle.rewriting.specs.Reaches.{reach}
+use Rattle.rewriting.specs.Steps.{Step, step, fact, single, inNoHead, condition, headed, conditionHolds, atomMatches, atomHeaded, applies}
+use Rattle.rewriting.specs.Kinds.{Kind, tautology, contradiction, success, noHead, blocked, failure, loop, subsumed, Deed, deletes, dropsPos, dropsNeg, clausesAlone, rowOf, number, kindOf, usesPartner, usesAtom}
+use Rattle.rewriting.specs.Uses.{drops, asksNoHead, asksHeads}
 use Rattle.rewriting.specs.Search.{partnerAtom}
 
 -- what holds of the eight kinds, in the order of their numbers
@@ -28,15 +29,19 @@ each-kind Q a b c d e f g h failure = f
 each-kind Q a b c d e f g h loop = g
 each-kind Q a b c d e f g h subsumed = h
 
--- what holds of the kinds with a partner, of those that ask for the kept heads, of those that drop a literal
+-- what holds of the kinds with a partner, of those whose atom has to be in no kept head, of those that ask for kept heads at all, of those that drop a literal
 module _ (Q : Kind → Type 0) where
   pub kinds-partner : Q success → Q blocked → Q subsumed → (k : Kind) → So (usesPartner k) → Q k
   kinds-partner c e h = each-kind (λ k. So (usesPartner k) → Q k)
       (λ u. absurd (false≢true u)) (λ u. absurd (false≢true u)) (λ u. c) (λ u. absurd (false≢true u)) (λ u. e) (λ u. absurd (false≢true u)) (λ u. absurd (false≢true u)) (λ u. h)
 
-  pub kinds-heads : Q noHead → Q failure → (k : Kind) → So (asksHeads k) → Q k
-  kinds-heads d f = each-kind (λ k. So (asksHeads k) → Q k)
+  pub kinds-no-head : Q noHead → Q failure → (k : Kind) → So (asksNoHead k) → Q k
+  kinds-no-head d f = each-kind (λ k. So (asksNoHead k) → Q k)
       (λ u. absurd (false≢true u)) (λ u. absurd (false≢true u)) (λ u. absurd (false≢true u)) (λ u. d) (λ u. absurd (false≢true u)) (λ u. f) (λ u. absurd (false≢true u)) (λ u. absurd (false≢true u))
+
+  pub kinds-heads : Q noHead → Q failure → Q loop → (k : Kind) → So (asksHeads k) → Q k
+  kinds-heads d f g = each-kind (λ k. So (asksHeads k) → Q k)
+      (λ u. absurd (false≢true u)) (λ u. absurd (false≢true u)) (λ u. absurd (false≢true u)) (λ u. d) (λ u. absurd (false≢true u)) (λ u. f) (λ u. g) (λ u. absurd (false≢true u))
 
   pub kinds-drop : Q success → Q noHead → (k : Kind) → So (drops k) → Q k
   kinds-drop c d = each-kind (λ k. So (drops k) → Q k)
@@ -74,16 +79,7 @@ alone-atom = each-kind (λ k. usesPartner k ≡ false → usesAtom k ≡ true) (
 
 -- ---- what a kind asks for
 
--- the kept heads or the reach, not both
-pub one-scope : (k : Kind) → asksHeads k ≡ true → ¬ So (asksReach k)
-one-scope k = go (rowOf k .scope)
-  where
-    go : (s : Scope) → isHeads s ≡ true → ¬ So (isReach s)
-    go clausesAlone h r = false≢true r
-    go keptHeads h r = false≢true r
-    go wholeReach h r = false≢true h
-
--- a kind with a partner asks for neither
+-- a kind with a partner asks for neither kept heads nor the reach
 pub partner-scope : (k : Kind) → So (usesPartner k) → rowOf k .scope ≡ clausesAlone
 partner-scope = kinds-partner (λ k. rowOf k .scope ≡ clausesAlone) refl refl refl
 
@@ -118,6 +114,10 @@ unfolding condition
 drops-there cs c d a = each-kind (λ k. So (condition k cs c d a) → There (rowOf k .deed) a c)
     (λ h. tt) (λ h. tt) (λ h. succeeds cs c d a h .there) (λ h. mem-iff _ _ .0 (and-iff (mem a (c .neg)) (inNoHead cs a) .0 h .0)) (λ h. tt) (λ h. tt) (λ h. tt) (λ h. tt)
 
+no-not : (b : Bool) → not b ≡ false → So b
+no-not true e = refl
+no-not false e = absurd (true≢false e)
+
 -- ---- the atom of a step with a partner
 
 -- 29 is answered no exactly of a success whose partner's head is one atom, and another than the step's
@@ -129,10 +129,6 @@ matches-no P s = (
   where
     l : List ℕ
     l = entry P (s .partner) .clause .head
-
-    no-not : (b : Bool) → not b ≡ false → So b
-    no-not true e = refl
-    no-not false e = absurd (true≢false e)
 
     one : (l : List ℕ) → So (single (λ b. not (eqb (s .atom) b)) l) → (b : ℕ) × (l ≡ b ∷ []) × (s .atom ≢ b)
     one [] h = absurd (false≢true h)
@@ -149,6 +145,38 @@ condition-matches P s = each-kind
   where
     d : Clause
     d = entry P (s .partner) .clause
+
+-- ---- the atom of a loop
+
+-- kind 7: the atom is in the target's positive body, in a kept head, and outside the reach
+pub record Loops (cs : List Clause) (c : Clause) (a : ℕ) : Type 0 where
+  pub there : a ∈ c .pos
+  pub head : ¬ So (inNoHead cs a)
+  pub outside : ¬ So (reach cs a)
+
+pub loops : (cs : List Clause) (c d : Clause) (a : ℕ) → So (condition loop cs c d a) ↔ Loops cs c a
+unfolding condition
+loops cs c d a = (
+  λ h. let w = and-iff (mem a (c .pos)) (not (inNoHead cs a) && not (reach cs a)) .0 h in
+      let v = and-iff (not (inNoHead cs a)) (not (reach cs a)) .0 (w .1) in
+      record { there = mem-iff _ _ .0 (w .0); head = not-iff _ .0 (v .0); outside = not-iff _ .0 (v .1) },
+  λ w. and-iff (mem a (c .pos)) (not (inNoHead cs a) && not (reach cs a)) .1
+      (mem-iff _ _ .1 (w .there), and-iff (not (inNoHead cs a)) (not (reach cs a)) .1 (not-iff _ .1 (w .head), not-iff _ .1 (w .outside))),
+)
+
+-- 32 is answered no exactly of a loop step whose atom is in no kept head
+pub headed-no : (P : Marked) (s : Step) → (atomHeaded P s ≡ false) ↔ ((number (s .kind) ≡ 7) × So (inNoHead (left P) (s .atom)))
+unfolding atomHeaded
+headed-no P s = (
+  λ e. let w = and-iff (eqb (number (s .kind)) 7) (inNoHead (left P) (s .atom)) .0 (no-not _ e) in (eqb-true _ _ (w .0), w .1),
+  λ (k, h). ap not (and-iff (eqb (number (s .kind)) 7) (inNoHead (left P) (s .atom)) .1 (eq-eqb _ _ k, h)),
+)
+
+-- where 16 is answered yes, so is 32
+pub condition-headed : (P : Marked) (s : Step) → So (conditionHolds P s) → So (atomHeaded P s)
+unfolding conditionHolds atomHeaded
+condition-headed P s = each-kind (λ k. So (condition k (left P) (entry P (s .target) .clause) (entry P (s .partner) .clause) (s .atom)) → So (headed k (left P) (s .atom)))
+    (λ h. refl) (λ h. refl) (λ h. refl) (λ h. refl) (λ h. refl) (λ h. refl) (λ h. not-iff _ .1 (loops (left P) (entry P (s .target) .clause) (entry P (s .partner) .clause) (s .atom) .0 h .head)) (λ h. refl) (s .kind)
 
 -- the partner settles the atom
 pub atom-settled : (n : ℕ) (P : Marked) (k : Kind) (t p a : ℕ) → So (usesPartner k) → So (applies n P (step k t p a)) → a ≡ partnerAtom k (entry P p .clause)

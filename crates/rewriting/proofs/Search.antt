@@ -13,7 +13,7 @@ use Rattle.semantics.proofs.Tests.{and-iff}
 use Rattle.rewriting.specs.Marked.{Marked, entry}
 use Rattle.rewriting.specs.Steps.{Step, step, applies}
 use Rattle.rewriting.specs.Kinds.{Kind, number, kindOf, usesPartner, usesAtom}
-use Rattle.rewriting.specs.Reducer.{Less, lessKind, lessTarget, lessPartner, lessAtom, IsFirst}
+use Rattle.rewriting.specs.Reducer.{Less, lessKind, lessTarget, lessPartner, lessAtom, eligible, IsFirst}
 use Rattle.rewriting.specs.Search.{least, given, firstAtom, firstPartner, firstTarget, firstStep}
 use Rattle.rewriting.proofs.Left.{kept-lt}
 use Rattle.rewriting.proofs.Rows.{kind-index, number-kindOf}
@@ -124,7 +124,7 @@ module _ (n : ℕ) (P : Marked) where
   firstStep-none e u h = level-none 8 (λ i. firstTarget n P (kindOf (suc i))) OfKind (λ i q. q .0) kind-dead e (at-kind u h .0) (at-kind u h .2)
 
   -- What is found applies, and no smaller step does.
-  pub firstStep-some : (s : Step) → firstStep n P ≡ some s → IsFirst n P s
+  pub firstStep-some : (s : Step) → firstStep n P ≡ some s → IsFirst (eligible n) P s
   unfolding firstStep firstTarget firstPartner firstAtom OfKind Target Partner Atom
   firstStep-some s e =
       let w = level-some 8 (λ i. firstTarget n P (kindOf (suc i))) OfKind (λ i q. q .0) kind-dead s e in
@@ -133,7 +133,7 @@ module _ (n : ℕ) (P : Marked) where
       let y = level-some (cond (usesPartner k) (length P) 1) (λ p. firstAtom n P k (x .0) p) (Partner k (x .0)) (partner-bound k (x .0)) (partner-dead k (x .0)) s (x .2) in
       let z = level-some (cond (usesAtom k) n 1) (λ a. given (applies n P (step k (x .0) (y .0) a)) (step k (x .0) (y .0) a)) (Atom k (x .0) (y .0)) (atom-bound k (x .0) (y .0)) (atom-dead k (x .0) (y .0)) s (y .2) in
       let v = given-some (applies n P (step k (x .0) (y .0) (z .0))) (step k (x .0) (y .0) (z .0)) s (z .2) in
-      subst (IsFirst n P) (v .1) (record { applicable = v .0; smallest = smaller (w .0) (x .0) (y .0) (z .0) (w .1) (w .3) (x .3) (y .3) (z .3) })
+      subst (IsFirst (eligible n) P) (v .1) (record { applicable = v .0; smallest = smaller (w .0) (x .0) (y .0) (z .0) (w .1) (w .3) (x .3) (y .3) (z .3) })
     where
       smaller : (i t p a : ℕ) → i < 8 → ((j : ℕ) → j < i → ¬ OfKind j) → ((j : ℕ) → j < t → ¬ Target (kindOf (suc i)) j) → ((j : ℕ) → j < p → ¬ Partner (kindOf (suc i)) t j) → ((j : ℕ) → j < a → ¬ Atom (kindOf (suc i)) t p j)
           → (u : Step) → Less u (step (kindOf (suc i)) t p a) → ¬ So (applies n P u)

@@ -17,7 +17,7 @@ use Rattle.rewriting.specs.Steps.{Step, inNoHead, condition, conditionHo
 use Rattle.rewriting.specs.Runs.{leaves}
 use Rattle.rewriting.specs.Kinds.{Kind, tautology, contradiction, success, noHead, blocked, failure, loop, subsumed, rowOf, usesPartner}
 use Rattle.rewriting.proofs.Left.{each-set, ClosedAt, closed-left}
-use Rattle.rewriting.proofs.Rows.{succeeds}
+use Rattle.rewriting.proofs.Rows.{loops, succeeds}
 use Rattle.rewriting.proofs.ByKind.{same-tautology, same-contradiction, same-outside, same-dropNeg, same-blocked, same-subsumed, same-success}
 use Rattle.rewriting.proofs.Reach.{allBut, others-closed, others-not, reach-closed, same-without}
 
@@ -82,8 +82,8 @@ module _ (P : Marked) (t p a : ℕ) where
       let w = and-iff _ _ .0 h in let c = others-closed (left P) a (w .1) in
       same-without n (left P) (After failure) M (allBut a) a c (closed-deleted (allBut a) P t c) (others-not a) (λ o. same-outside M P t a o (mem-iff _ _ .0 (w .0)))
   by-kind loop (kt, u, h) n M =
-      let w = and-iff _ _ .0 h in
-      same-without n (left P) (After loop) M (reach (left P)) a (reach-closed (left P)) (closed-deleted (reach (left P)) P t (reach-closed (left P))) (not-iff _ .0 (w .1)) (λ o. same-outside M P t a o (mem-iff _ _ .0 (w .0)))
+      let w = loops (left P) (entry P t .clause) (entry P p .clause) a .0 h in
+      same-without n (left P) (After loop) M (reach (left P)) a (reach-closed (left P)) (closed-deleted (reach (left P)) P t (reach-closed (left P))) (w .outside) (λ o. same-outside M P t a o (w .there))
 
 -- what an applicable step asks
 pub applies-ask : (n : ℕ) (P : Marked) (s : Step) → So (applies n P s) → Ask P (s .target) (s .partner) (s .atom) (s .kind)

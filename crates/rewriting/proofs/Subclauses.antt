@@ -1,19 +1,22 @@
 -- A step that applies in a program whose clauses are no more than another program's applies there too, where what its kind asks of the
 -- other clauses carries over.
 use mathlib.Core.Path.{_≡_, refl, sym, subst}
-use mathlib.Core.Logic.{_≢_}
+use mathlib.Core.Logic.{_↔_}
 use mathlib.Core.Bool.{Bool, true, false, not, cond, _&&_, So, false≢true}
-use mathlib.Core.List.{List, [], _∷_}
+use mathlib.Core.List.{List}
 use Prim.Native.Nat.{ℕ}
 use lib.Dec.{eqb}
 use Rattle.semantics.specs.Lists.{_∈_, mem, within}
 use Rattle.semantics.specs.Programs.{Clause}
-use Rattle.semantics.proofs.Tests.{without-sub, and-iff, not-iff, mem-iff, within-iff}
+use Rattle.semantics.proofs.Tests.{without-sub, and-iff, mem-iff, within-iff}
 use Rattle.rewriting.specs.Marked.{Entry, Marked, entry, left}
 use Rattle.rewriting.specs.Reaches.{reach}
 use Rattle.rewriting.specs.Steps.{Step, fact, single, inNoHead, condition, conditionHolds, applies, deleted, leftBy}
 use Rattle.rewriting.specs.Kinds.{Kind, tautology, contradiction, success, noHead, blocked, failure, loop, subsumed, Deed, deletes, dropsPos, dropsNeg, usesPartner}
 use Rattle.rewriting.specs.Uses.{dropping}
+use Rattle.rewriting.proofs.Left.{left-each}
+use Rattle.rewriting.proofs.Reach.{inNoHead-iff}
+use Rattle.rewriting.proofs.Rows.{loops}
 
 -- a clause that is no more than another, with the same head
 pub record Subclause (d c : Entry) : Type 0 where
@@ -38,6 +41,20 @@ left-kept deletes a c = refl
 left-kept dropsPos a c = refl
 left-kept dropsNeg a c = refl
 
+-- ---- heads of what is left, by the clauses' numbers
+
+pub bare-iff : (P : Marked) (a : ℕ) → So (inNoHead (left P) a) ↔ ((i : ℕ) → So (entry P i .kept) → ¬ (a ∈ entry P i .clause .head))
+bare-iff P a = (
+  λ h. left-each (λ c. ¬ (a ∈ c .head)) P .0 (inNoHead-iff (left P) a .0 h),
+  λ h. inNoHead-iff (left P) a .1 (left-each (λ c. ¬ (a ∈ c .head)) P .1 h),
+)
+
+-- an atom in no kept head stays in none
+bare-on : (P Q : Marked) → ((i : ℕ) → Subclause (entry Q i) (entry P i)) → (a : ℕ) → So (inNoHead (left P) a) → So (inNoHead (left Q) a)
+bare-on P Q b a h = bare-iff Q a .1 (λ i k m. bare-iff P a .0 h i (b i .kept k) (subst (λ l. a ∈ l) (b i .head) m))
+
+-- ---- conditions
+
 -- what the condition of a kind asks of the other clauses, carried back from Q to P
 abbrev pub Keeps : Kind → Marked → Marked → ℕ → ℕ → Type 0
 Keeps tautology P Q p a = Unit {0}
@@ -55,7 +72,7 @@ mem-more a k l f h = mem-iff a l .1 (f a (mem-iff a k .0 h))
 within-more : (j k l : List ℕ) → ((b : ℕ) → b ∈ k → b ∈ l) → So (within j k) → So (within j l)
 within-more j k l f h = within-iff j l .1 (λ a m. f a (within-iff j k .0 h a m))
 
-module _ (P Q : Marked) (t p a : ℕ) (b : Subclause (entry Q t) (entry P t)) where
+module _ (P Q : Marked) (t p a : ℕ) (below : (i : ℕ) → Subclause (entry Q i) (entry P i)) where
   abbrev old : Clause
   old = entry P t .clause
 
@@ -64,6 +81,9 @@ module _ (P Q : Marked) (t p a : ℕ) (b : Subclause (entry Q t) (entry P t)) wh
 
   abbrev by : Clause
   by = entry P p .clause
+
+  b : Subclause (entry Q t) (entry P t)
+  b = below t
 
   condition-back : (k : Kind) → Keeps k P Q p a → So (condition k (left Q) new (entry Q p .clause) a) → So (condition k (left P) old by a)
   unfolding condition
@@ -78,8 +98,8 @@ module _ (P Q : Marked) (t p a : ℕ) (b : Subclause (entry Q t) (entry P t)) wh
   condition-back blocked e h = let w = and-iff (fact by) (within (by .head) (new .neg)) .0 (rw e at h) in
       and-iff (fact by) (within (by .head) (old .neg)) .1 (w .0, within-more (by .head) (new .neg) (old .neg) (b .neg) (w .1))
   condition-back failure e h = let w = and-iff _ _ .0 h in and-iff _ _ .1 (mem-more a (new .pos) (old .pos) (b .pos) (w .0), e (w .1))
-  condition-back loop e h = let w = and-iff _ _ .0 h in
-      and-iff _ _ .1 (mem-more a (new .pos) (old .pos) (b .pos) (w .0), not-iff _ .1 (λ r. not-iff _ .0 (w .1) (e r)))
+  condition-back loop e h = let w = loops (left Q) new (entry Q p .clause) a .0 h in
+      loops (left P) old by a .1 (record { there = b .pos a (w .there); head = λ x. w .head (bare-on P Q below a x); outside = λ r. w .outside (e r) })
   condition-back subsumed e h = let w = simp and-iff at (rw e at h) in
       and-iff _ _ .1 (
         subst (λ l. So (within (by .head) l)) (b .head) (w .0),
@@ -103,7 +123,7 @@ back n P Q b u e h =
         partner-back (usesPartner (u .kind)) P Q (u .partner) (u .target) (b (u .partner)) (w .1 .0),
         and-iff _ _ .1 (
           w .1 .1 .0,
-          condition-back P Q (u .target) (u .partner) (u .atom) (b (u .target)) (u .kind) e (w .1 .1 .1),
+          condition-back P Q (u .target) (u .partner) (u .atom) b (u .kind) e (w .1 .1 .1),
         ),
       ),
     )

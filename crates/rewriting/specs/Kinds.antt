@@ -9,9 +9,9 @@ pub data Kind : Type 0 where
 pub data Deed : Type 0 where
   deletes dropsPos dropsNeg : Deed
 
--- What a condition asks for beside its clauses: nothing, "the head of no kept clause", "the reach".
+-- What a condition asks for beside its clauses: nothing, "the head of no kept clause", or "the reach" and, by slip 6, a kept head.
 pub data Scope : Type 0 where
-  clausesAlone keptHeads wholeReach : Scope
+  clausesAlone noKeptHead headAndReach : Scope
 
 -- The number of a kind; "Kinds 1, 2, 4, 6, 7 have no partner word, kinds 3, 5, 8 no atom word", but slip 1: "The atom word of kind 3 now holds that atom, and
 -- question 15 treats it as used."; what it does and asks for.
@@ -30,10 +30,10 @@ abbrev pub rowOf : Kind → Row
 rowOf tautology = row 1 false true deletes clausesAlone
 rowOf contradiction = row 2 false true deletes clausesAlone
 rowOf success = row 3 true true dropsPos clausesAlone
-rowOf noHead = row 4 false true dropsNeg keptHeads
+rowOf noHead = row 4 false true dropsNeg noKeptHead
 rowOf blocked = row 5 true false deletes clausesAlone
-rowOf failure = row 6 false true deletes keptHeads
-rowOf loop = row 7 false true deletes wholeReach
+rowOf failure = row 6 false true deletes noKeptHead
+rowOf loop = row 7 false true deletes headAndReach
 rowOf subsumed = row 8 true false deletes clausesAlone
 
 abbrev pub number : Kind → ℕ

@@ -18,12 +18,12 @@ pub data Less (s u : Step) : Type 0 where
 abbrev pub eligible : ℕ → Marked → Step → Bool
 eligible n P s = applies n P s
 
--- the smallest of them
-pub record IsFirst (n : ℕ) (P : Marked) (s : Step) : Type 0 where
-  pub applicable : So (eligible n P s)
-  pub smallest : (u : Step) → Less u s → ¬ So (eligible n P u)
+-- the smallest of the steps that a test lets through
+pub record IsFirst (among : Marked → Step → Bool) (P : Marked) (s : Step) : Type 0 where
+  pub applicable : So (among P s)
+  pub smallest : (u : Step) → Less u s → ¬ So (among P u)
 
 -- "The reducer always takes the applicable step that is smallest by kind, then target, partner, atom, until none applies."
-pub data Greedy (n : ℕ) : Marked → List Step → Type 0 where
-  stop : {P : Marked} → ((u : Step) → ¬ So (eligible n P u)) → Greedy n P []
-  take : {P : Marked} {s : Step} {l : List Step} → IsFirst n P s → Greedy n (effect P s) l → Greedy n P (s ∷ l)
+pub data Greedy (among : Marked → Step → Bool) : Marked → List Step → Type 0 where
+  stop : {P : Marked} → ((u : Step) → ¬ So (among P u)) → Greedy among P []
+  take : {P : Marked} {s : Step} {l : List Step} → IsFirst among P s → Greedy among (effect P s) l → Greedy among P (s ∷ l)

@@ -1,4 +1,4 @@
--- The eight steps, after document 01, "Eight steps", and slip 1 of document 02.
+-- The eight steps, after document 01, "Eight steps", and slips 1 and 6 of document 02.
 use mathlib.Core.Bool.{Bool, true, false, not, cond, _&&_}
 use mathlib.Core.List.{List, [], _∷_}
 use Prim.Native.Nat.{ℕ}
@@ -34,6 +34,11 @@ single f (b ∷ c ∷ l) = false
 unfoldable pub inNoHead : List Clause → ℕ → Bool
 inNoHead cs a = not (any (λ c. mem a (c .head)) cs)
 
+-- slip 6, of the atom that a step of the kind names, among the kept clauses: "A step of kind 7 whose atom is in no kept head, in the target's body or not, is now
+-- turned down; a failure must be kind 6."
+abbrev pub headed : Kind → List Clause → ℕ → Bool
+headed k cs a = not (eqb (number k) 7 && inNoHead cs a)
+
 -- Each kind's condition, with the kept clauses cs, the target c, the partner d and the atom a, all as left:
 -- 1 "the atom is in the target's head and its positive body"
 -- 2 "the atom is in its positive and negative body"
@@ -41,7 +46,7 @@ inNoHead cs a = not (any (λ c. mem a (c .head)) cs)
 -- 4 "the atom is in its negative body and in the head of no kept clause"
 -- 5 "the partner is a fact whose head atoms are all in the target's negative body"
 -- 6 "the atom is in its positive body and in the head of no kept clause"
--- 7 "the atom is in its positive body and outside the reach"
+-- 7 "the atom is in its positive body and outside the reach"; slip 6: and in the head of a kept clause, as 32 asks
 -- 8 "each of the partner's three parts is within the target's same part"
 unfoldable pub condition : Kind → List Clause → Clause → Clause → ℕ → Bool
 unfolding inNoHead reach
@@ -51,7 +56,7 @@ condition success cs c d a = fact d && (single (eqb a) (d .head) && mem a (c .po
 condition noHead cs c d a = mem a (c .neg) && inNoHead cs a
 condition blocked cs c d a = fact d && within (d .head) (c .neg)
 condition failure cs c d a = mem a (c .pos) && inNoHead cs a
-condition loop cs c d a = mem a (c .pos) && not (reach cs a)
+condition loop cs c d a = mem a (c .pos) && (headed loop cs a && not (reach cs a))
 condition subsumed cs c d a = within (d .head) (c .head) && (within (d .pos) (c .pos) && within (d .neg) (c .neg))
 
 -- 13 "Is the target below m and kept?"
@@ -70,12 +75,17 @@ atomKnown n s = cond (usesAtom (s .kind)) (ltb (s .atom) n) (eqb (s .atom) 0)
 abbrev pub atomMatches : Marked → Step → Bool
 atomMatches P s = not (eqb (number (s .kind)) 3 && single (λ b. not (eqb (s .atom) b)) (entry P (s .partner) .clause .head))
 
+-- 32, slip 6: "Such steps get 32"
+unfoldable pub atomHeaded : Marked → Step → Bool
+unfolding inNoHead left
+atomHeaded P s = headed (s .kind) (left P) (s .atom)
+
 -- 16 "Does the kind's condition hold?"
 unfoldable pub conditionHolds : Marked → Step → Bool
 unfolding condition left
 conditionHolds P s = condition (s .kind) (left P) (entry P (s .target) .clause) (entry P (s .partner) .clause) (s .atom)
 
--- the step is applicable: questions 13 to 16; where 16 is answered yes, so is 29 (`condition-matches`, `proofs/Rows`)
+-- the step is applicable: questions 13 to 16; where 16 is answered yes, so are 29 and 32 (`condition-matches`, `condition-headed`, `proofs/Rows`)
 unfoldable pub applies : ℕ → Marked → Step → Bool
 unfolding conditionHolds
 applies n P s = targetKept P s && (partnerKept P s && (atomKnown n s && conditionHolds P s))

@@ -1,6 +1,6 @@
 -- What a kind does and asks for, as tests.
 use mathlib.Core.Bool.{Bool, true, false}
-use Rattle.rewriting.specs.Kinds.{Kind, Deed, deletes, dropsPos, dropsNeg, Scope, clausesAlone, keptHeads, wholeReach, rowOf}
+use Rattle.rewriting.specs.Kinds.{Kind, Deed, deletes, dropsPos, dropsNeg, Scope, clausesAlone, noKeptHead, headAndReach, rowOf}
 
 -- a literal is dropped, and the clause stays
 abbrev pub dropping : Deed → Bool
@@ -11,16 +11,26 @@ dropping dropsNeg = true
 abbrev pub drops : Kind → Bool
 drops k = dropping (rowOf k .deed)
 
+abbrev pub isNoHead : Scope → Bool
+isNoHead clausesAlone = false
+isNoHead noKeptHead = true
+isNoHead headAndReach = false
+
 abbrev pub isHeads : Scope → Bool
 isHeads clausesAlone = false
-isHeads keptHeads = true
-isHeads wholeReach = false
+isHeads noKeptHead = true
+isHeads headAndReach = true
 
 abbrev pub isReach : Scope → Bool
 isReach clausesAlone = false
-isReach keptHeads = false
-isReach wholeReach = true
+isReach noKeptHead = false
+isReach headAndReach = true
 
+-- the atom has to be in the head of no kept clause
+abbrev pub asksNoHead : Kind → Bool
+asksNoHead k = isNoHead (rowOf k .scope)
+
+-- which atoms are in kept heads is asked
 abbrev pub asksHeads : Kind → Bool
 asksHeads k = isHeads (rowOf k .scope)
 

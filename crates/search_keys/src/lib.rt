@@ -132,7 +132,7 @@ fn spread_key(
         spread_clause(words, marks, index, heads, reach, flags, kind, x, m);
         return;
     }
-    if !step_kinds::asks_heads(kind) {
+    if !step_kinds::asks_no_head(kind) {
         search_flags::flag_all(flags, table::wide(kind), m);
         return;
     }

@@ -1,38 +1,37 @@
 -- Each step keeps the state.
 use mathlib.Core.Path.{_≡_, refl, sym, ap, subst, _∙_}
-use mathlib.Core.Logic.{_≢_, _⊎_, by-cases, ⊎-elim}
-use mathlib.Core.Bool.{not, cond, _&&_, So, false≢true}
+use mathlib.Core.Logic.{_≢_, _⊎_, ⊎-elim}
+use mathlib.Core.Bool.{cond, So, false≢true}
 use mathlib.Core.List.{List}
 use Prim.Native.Nat.{ℕ, zero, suc, _+_, _<_}
 use native.Mathlib.Omega.{arith}
-use native.Mathlib.Decide.{decLt}
-use lib.ListN.{length, getD, List·getD-eq-default}
-use Rattle.semantics.specs.Lists.{_∈_, mem, bit}
-use Rattle.semantics.proofs.Tests.{so-ext, so-false}
+use lib.ListN.{getD}
+use Rattle.semantics.specs.Lists.{_∈_}
+use Rattle.semantics.proofs.Tests.{so-ext}
 use Rattle.semantics.proofs.Models.{All}
 use Rattle.rewriting.specs.Marked.{Marked, entry, left}
 use Rattle.rewriting.specs.Reaches.{reach}
 use Rattle.rewriting.specs.Steps.{Step, applies, effect}
 use Rattle.rewriting.specs.Kinds.{Kind, success, noHead, blocked, failure, loop, subsumed, number, kindOf, usesPartner}
-use Rattle.rewriting.specs.Uses.{drops, asksHeads}
-use Rattle.rewriting.proofs.Rows.{number-bounds, kinds-partner, kinds-heads}
-use Rattle.rewriting.proofs.Effect.{effect-below, reach-less, drop-reach, idle-reach}
+use Rattle.rewriting.specs.Uses.{drops, asksNoHead}
+use Rattle.rewriting.proofs.Rows.{number-bounds, kinds-partner, kinds-no-head}
+use Rattle.rewriting.proofs.Effect.{effect-below, reach-less, idle-reach}
 use Rattle.rewriting.proofs.Reopen.{Opens, openPartner, openHead, openReach, opened, twin-reach, Twin}
-use Rattle.rewriting.proofs.Counts.{heads, heads-effect}
 use Rattle.rewriting.proofs.Quiet.{Quiet, key}
 use Rattle.table.specs.View.{view}
 use Rattle.table.specs.Effects.{marksAfter}
 use Rattle.table.proofs.Encoding.{passed-limits}
 use Rattle.table.proofs.View.{view-after, length-after}
-use Rattle.step_conditions.specs.Known.{headCount, Tallied}
+use Rattle.step_conditions.specs.Known.{Tallied}
+use Rattle.step_conditions.proofs.After.{heads-stay, heads-lowered, reached-stays}
 use Rattle.search_flags.specs.Flags.{flagAt, most}
 use Rattle.search_keys.specs.State.{State, Least, Most, Gaps}
 use Rattle.search_spreads.proofs.Limits.{target-lt, key-lt}
 use Rattle.search_openings.specs.Opened.{Opened, PartnerFresh, AtomFresh, AllFresh}
 
--- the key of a kind that asks for heads is the atom
-atom-key : (p a : ℕ) (j : Kind) → So (asksHeads j) → cond (usesPartner j) p a ≡ a
-atom-key p a = kinds-heads (λ j. cond (usesPartner j) p a ≡ a) refl refl
+-- the key of a kind whose atom has to be in no head is the atom
+atom-key : (p a : ℕ) (j : Kind) → So (asksNoHead j) → cond (usesPartner j) p a ≡ a
+atom-key p a = kinds-no-head (λ j. cond (usesPartner j) p a ≡ a) refl refl
 
 module _ (ws ms index hs rs flags : List ℕ) (z : State ws ms index hs rs flags) (s : Step) (h : So (applies (getD ws 0 0) (view ws ms) s)) where
   abbrev n : ℕ
@@ -94,26 +93,19 @@ module _ (ws ms index hs rs flags : List ℕ) (z : State ws ms index hs rs flags
 
     -- A drop: the clause is a fresh key of the kinds with a partner.
     pub state-dropped : So (drops (s .kind)) → PartnerFresh flags' (s .target) → State ws after index hs rs flags'
-    unfolding heads
     state-dropped d f = record {
       ready = ready-after;
-      counted = record { is = λ a. z .counted .is a ∙ sym (heads-same a) };
+      counted = heads-stay ws ms (z .ready .placed .passed) (z .ready .marks) n s h d hs (z .counted);
       atoms = z .atoms;
       bytes = z .bytes;
       rows = o .rows (getD ws 1 0) (z .rows);
-      reached = λ e. record { is = λ a. z .reached (reach-up e) .is a ∙ reach-same a };
+      reached = λ e. reached-stays ws ms (z .ready .placed .passed) (z .ready .marks) n s h d rs (z .reached (reach-up e));
       quiet = λ k e. quiet-on k (flagAt flags (number k)) (flagAt flags (8 + number k)) (flagAt flags' (number k)) (flagAt flags' (8 + number k)) (z .quiet k (λ q. reach-up (e q))) (flags-up k) (keys-up k) (only k);
       least = λ k. least-on k flags' o (only k);
       bounded = most-on flags' o (only success);
       gaps = gaps-on flags' o;
     }
       where
-        heads-same : (a : ℕ) → headCount (left (view ws after)) a ≡ headCount (left P) a
-        heads-same a = ap (λ R. headCount (left R) a) is-effect ∙ omega (arith, heads-effect n P s h a, ap (λ b. bit (not b && mem a (entry P (s .target) .clause .head))) d)
-
-        reach-same : (a : ℕ) → reach (left P) a ≡ reach (left (view ws after)) a
-        reach-same a = let w = drop-reach n P s h d a in so-ext (reach (left P) a) (reach (left (effect P s)) a) (w .0) (w .1) ∙ ap (λ R. reach (left R) a) (sym is-effect)
-
         fresh : (k : Kind) → So (usesPartner k) → flagAt flags' (8 + number k) (s .target) ≢ 0
         fresh = kinds-partner (λ k. flagAt flags' (8 + number k) (s .target) ≢ 0) (f .success) (f .blocked) (f .subsumed)
 
@@ -126,10 +118,9 @@ module _ (ws ms index hs rs flags : List ℕ) (z : State ws ms index hs rs flags
     pub state-deleted : (hs' : List ℕ) → ¬ So (drops (s .kind)) → Tallied (entry P (s .target) .clause .head) hs' hs
         → (flagAt flags' 0 0 ≡ 0 → (¬ All (reach (left P)) (entry P (s .target) .clause .pos)) ⊎ Twin P s)
         → AllFresh flags' (entry (view ws after) (s .target) .clause .head) → State ws after index hs' rs flags'
-    unfolding heads
     state-deleted hs' d c t f = record {
       ready = ready-after;
-      counted = record { is = heads-less };
+      counted = heads-lowered ws ms (z .ready .placed .passed) (z .ready .marks) n s h d hs hs' (z .counted) c;
       atoms = omega (arith, z .atoms, c .same);
       bytes = z .bytes;
       rows = o .rows (getD ws 1 0) (z .rows);
@@ -140,17 +131,6 @@ module _ (ws ms index hs rs flags : List ℕ) (z : State ws ms index hs rs flags
       bounded = most-on flags' o (only success (λ l. absurd (false≢true (subst (λ j. So (usesPartner j)) l refl))));
     }
       where
-        heads-less : (a : ℕ) → getD hs' a 0 ≡ headCount (left (view ws after)) a
-        heads-less a =
-            let e = heads-effect n P s h a in
-            let q = ap (λ b. bit (not b && mem a (entry P (s .target) .clause .head))) (so-false _ d) in
-            let g = z .counted .is a in
-            by-cases (decLt a (length hs'))
-            (λ l. let v = c .at a l in omega (arith, e, q, v, g) ∙ ap (λ R. headCount (left R) a) (sym is-effect))
-            (λ l. let v : getD hs' a 0 ≡ 0 = List·getD-eq-default hs' 0 (omega arith) in
-            let w : getD hs a 0 ≡ 0 = List·getD-eq-default hs 0 (omega (arith, c .same)) in
-            omega (arith, e, v, w, g) ∙ ap (λ R. headCount (left R) a) (sym is-effect))
-
         reach-same : ((¬ All (reach (left P)) (entry P (s .target) .clause .pos)) ⊎ Twin P s) → (a : ℕ) → reach (left P) a ≡ reach (left (view ws after)) a
         reach-same x a = so-ext (reach (left P) a) (reach (left (effect P s)) a)
             (⊎-elim (λ v. idle-reach n P s h d v a .0) (λ v. twin-reach n P s h v a) x) (reach-less n P s h d a) ∙ ap (λ R. reach (left R) a) (sym is-effect)
@@ -158,12 +138,12 @@ module _ (ws ms index hs rs flags : List ℕ) (z : State ws ms index hs rs flags
         in-head : (a : ℕ) → a ∈ entry P (s .target) .clause .head → a ∈ entry (view ws after) (s .target) .clause .head
         in-head a m = subst (λ R. a ∈ entry R (s .target) .clause .head) (sym is-effect) (subst (λ l. a ∈ l) (sym (effect-below n P s h (s .target) .head)) m)
 
-        fresh : (a : ℕ) → AtomFresh flags' a → (k : Kind) → So (asksHeads k) → flagAt flags' (8 + number k) a ≢ 0
-        fresh a q = kinds-heads (λ k. flagAt flags' (8 + number k) a ≢ 0) (q .noHead) (q .failure)
+        fresh : (a : ℕ) → AtomFresh flags' a → (k : Kind) → So (asksNoHead k) → flagAt flags' (8 + number k) a ≢ 0
+        fresh a q = kinds-no-head (λ k. flagAt flags' (8 + number k) a ≢ 0) (q .noHead) (q .failure)
 
         only : (k : Kind) → (k ≡ loop → flagAt flags' 0 0 ≡ 0) → (u : Step) → u .kind ≡ k → Opens P s u → flagAt flags' (8 + number k) (key u) ≢ 0
         only k r u e (openPartner y p q w) x = d y
-        only k r u e (openHead y a m i) x = fresh (u .atom) (f (u .atom) (in-head (u .atom) m)) k (subst (λ j. So (asksHeads j)) e a) (subst (λ b. flagAt flags' (8 + number k) b ≡ 0) (atom-key (u .partner) (u .atom) (u .kind) a) x)
+        only k r u e (openHead y a m i) x = fresh (u .atom) (f (u .atom) (in-head (u .atom) m)) k (subst (λ j. So (asksNoHead j)) e a) (subst (λ b. flagAt flags' (8 + number k) b ≡ 0) (atom-key (u .partner) (u .atom) (u .kind) a) x)
         only k r u e (openReach y q a w) x = ⊎-elim (λ v. v a) (λ v. w v) (t (r (sym e ∙ q)))
 
 -- the kinds that delete

@@ -1,14 +1,14 @@
 -- Laws of the eight steps: below a set of reached atoms each keeps the models; a fact that goes leaves one in its place; clauses only shrink.
 use mathlib.Core.Path.{_≡_, refl, sym, subst, _∙_}
 use mathlib.Core.Logic.{_≢_, by-cases, ⊎-elim}
-use mathlib.Core.Bool.{Bool, true, false, cond, _||_, So, false≢true}
+use mathlib.Core.Bool.{Bool, true, false, cond, _||_, So}
 use mathlib.Core.List.{List, [], _∷_, _++_, List·Memᴰ·head, List·Memᴰ·not-nil, List·Memᴰ·append-cases, Memᴰ·append-left, Memᴰ·append-right}
 use Prim.Native.Nat.{ℕ}
 use native.Mathlib.Decide.{ℕ-discrete}
 use lib.ListN.{set}
 use Rattle.semantics.specs.Lists.{_∈_, null, mem, within}
 use Rattle.semantics.specs.Programs.{Clause, Atoms, Subset}
-use Rattle.semantics.proofs.Tests.{and-iff, not-iff, or-iff, mem-iff, within-iff, null-iff, so-dec}
+use Rattle.semantics.proofs.Tests.{and-iff, or-iff, mem-iff, within-iff, null-iff, so-dec}
 use Rattle.semantics.proofs.Models.{Same}
 use Rattle.rewriting.specs.Marked.{Entry, Marked, entry, left}
 use Rattle.rewriting.specs.Reaches.{reach}
@@ -16,17 +16,14 @@ use Rattle.rewriting.specs.Steps.{Step, fact, inNoHead, condition, applies, lef
 use Rattle.rewriting.specs.Runs.{leaves}
 use Rattle.rewriting.specs.Kinds.{Kind, tautology, contradiction, success, noHead, blocked, failure, loop, subsumed, rowOf, usesPartner}
 use Rattle.rewriting.specs.Uses.{drops}
-use Rattle.rewriting.proofs.Rows.{succeeds}
+use Rattle.rewriting.proofs.Rows.{succeeds, loops}
 use Rattle.rewriting.proofs.ByKind.{same-outside, same-dropNeg}
-use Rattle.rewriting.proofs.Reach.{allBut, others-closed, others-not, reach-least}
+use Rattle.rewriting.proofs.Reach.{bare-out}
 use Rattle.rewriting.proofs.Sound.{strong, strong-same, applies-ask}
 use Rattle.rewriting.proofs.Subclauses.{Subclause, below-same}
 use Rattle.rewriting.proofs.Effect.{asks, target-kept, partner-asked, at-other, effect-below, reach-less, drop-reach}
 
 -- ---- models
-
-bare-out : (cs : List Clause) (a : ℕ) → So (inNoHead cs a) → ¬ So (reach cs a)
-bare-out cs a h r = others-not a (reach-least (λ b. So (allBut a b)) cs (others-closed cs a h) a r)
 
 -- no kept body has an atom of U
 abbrev pub NoBody : Atoms → Marked → Type 0
@@ -44,7 +41,7 @@ module _ (P : Marked) (U : Atoms) (no-body : NoBody U P) (M : Atoms) (sub : Subs
   unfolding condition
   weak-same noHead s h = let w = and-iff (mem a (the .neg)) (inNoHead (left P) a) .0 h in same-dropNeg M P t a kt (outside (Memᴰ·append-right (the .pos) (mem-iff _ _ .0 (w .0))) (bare-out (left P) a (w .1)))
   weak-same failure s h = let w = and-iff (mem a (the .pos)) _ .0 h in let m = mem-iff a (the .pos) .0 (w .0) in same-outside M P t a (outside (Memᴰ·append-left (the .neg) m) (bare-out (left P) a (w .1))) m
-  weak-same loop s h = let w = and-iff (mem a (the .pos)) _ .0 h in let m = mem-iff a (the .pos) .0 (w .0) in same-outside M P t a (outside (Memᴰ·append-left (the .neg) m) (not-iff _ .0 (w .1))) m
+  weak-same loop s h = let w = loops (left P) the (entry P p .clause) a .0 h in same-outside M P t a (outside (Memᴰ·append-left (the .neg) (w .there)) (w .outside)) (w .there)
   weak-same tautology s h = absurd (s refl)
   weak-same contradiction s h = absurd (s refl)
   weak-same success s h = absurd (s refl)
@@ -97,7 +94,7 @@ fact-partner tautology cs c d a f h = absurd (fact-pos c f a (mem-iff _ _ .0 (an
 fact-partner contradiction cs c d a f h = absurd (fact-pos c f a (mem-iff _ _ .0 (and-iff (mem a (c .pos)) _ .0 h .0)))
 fact-partner noHead cs c d a f h = absurd (fact-neg c f a (mem-iff _ _ .0 (and-iff (mem a (c .neg)) _ .0 h .0)))
 fact-partner failure cs c d a f h = absurd (fact-pos c f a (mem-iff _ _ .0 (and-iff (mem a (c .pos)) _ .0 h .0)))
-fact-partner loop cs c d a f h = absurd (fact-pos c f a (mem-iff _ _ .0 (and-iff (mem a (c .pos)) _ .0 h .0)))
+fact-partner loop cs c d a f h = absurd (fact-pos c f a (loops cs c d a .0 h .there))
 
 -- a kept fact whose head atoms are all in the list
 pub record HasFact (P : Marked) (l : List ℕ) : Type 0 where

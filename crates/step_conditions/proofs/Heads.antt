@@ -1,7 +1,7 @@
 -- Kept heads of an atom, counted clause by clause.
 use mathlib.Core.Path.{_≡_, refl, sym, ap, _∙_}
 use mathlib.Core.Logic.{_↔_, by-cases}
-use mathlib.Core.Bool.{Bool, true, false, cond, _||_, So}
+use mathlib.Core.Bool.{Bool, true, false, not, cond, _&&_, _||_, So}
 use mathlib.Core.List.{List, [], _∷_, _++_, List·Memᴰ·head, List·Memᴰ·tail}
 use Prim.Native.Nat.{ℕ, _+_, _-_, _≤_, _<_}
 use native.Mathlib.Omega.{arith}
@@ -15,7 +15,9 @@ use Rattle.semantics.specs.Lists.{_∈_, mem, count, bit}
 use Rattle.semantics.specs.Programs.{Clause}
 use Rattle.semantics.proofs.Tests.{mem-iff, so-false, so-ext, bit-false, bit-bound, count-bound, count-none}
 use Rattle.rewriting.specs.Marked.{Marked, gone, entry, left}
-use Rattle.rewriting.specs.Steps.{inNoHead}
+use Rattle.rewriting.specs.Steps.{inNoHead, headed}
+use Rattle.rewriting.specs.Kinds.{loop}
+use Rattle.rewriting.specs.Reaches.{reach}
 use Rattle.rewriting.proofs.Reach.{inNoHead-iff}
 use Rattle.rewriting.proofs.Left.{left-each, left-le}
 use Rattle.table.specs.Questions.{Passed}
@@ -26,6 +28,7 @@ use Rattle.table.proofs.Parts.{scan-end, view-straight}
 use Rattle.step_parts.specs.Parts.{Ascends}
 use Rattle.step_parts.proofs.Laws.{kept-on, kept-some, kept-place, place-kept}
 use Rattle.table.proofs.Slices.{zero-at}
+use Rattle.step_reach.specs.Bytes.{inBytes, Reached}
 use Rattle.step_conditions.specs.Known.{headCount, Heads, Tallied, Positive}
 
 -- "in the head of no kept clause" by the count
@@ -41,6 +44,11 @@ no-head-count cs a = (
 
 pub no-head-is : (cs : List Clause) (a k : ℕ) → k ≡ headCount cs a → eqb k 0 ≡ inNoHead cs a
 no-head-is cs a k e = so-ext (eqb k 0) (inNoHead cs a) (λ h. no-head-count cs a .1 (sym e ∙ eqb-true _ _ h)) (λ h. eq-eqb _ _ (e ∙ no-head-count cs a .0 h))
+
+-- in a kept head and outside the reach, by the count and the byte
+pub unfounded-is : (ws ms hs rs : List ℕ) (a : ℕ) → Heads ws ms hs → Reached ws ms rs
+    → (not (eqb (getD hs a 0) 0) && not (inBytes rs a)) ≡ (headed loop (left (view ws ms)) a && not (reach (left (view ws ms)) a))
+unfounded-is ws ms hs rs a h r = ap (λ x. not x && not (inBytes rs a)) (no-head-is (left (view ws ms)) a (getD hs a 0) (h .is a)) ∙ ap (λ x. not (inNoHead (left (view ws ms)) a) && not x) (r .is a)
 
 -- ---- one part, atom by atom
 

@@ -1,3 +1,3 @@
 pub mod Heads
 pub mod Tests
-pub mod Drops
+pub mod After

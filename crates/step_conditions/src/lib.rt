@@ -5,16 +5,16 @@ ghost use Prim.Native.Nat.{ℕ, _+_, _-_, _≤_, _<_};
 ghost use lib.Dec.{eqb};
 ghost use lib.ListN.{length, getD, set, replicate};
 ghost use Rattle.semantics.specs.Lists.{mem};
+ghost use Rattle.semantics.specs.Programs.{Clause};
 ghost use Rattle.rewriting.specs.Marked.{entry, left};
-ghost use Rattle.rewriting.specs.Reaches.{reach};
 ghost use Rattle.rewriting.specs.Steps.{fact, single, inNoHead, condition, applies};
-ghost use Rattle.rewriting.specs.Kinds.{success, blocked, subsumed, rowOf, kindOf};
+ghost use Rattle.rewriting.specs.Kinds.{success, blocked, loop, subsumed, rowOf, kindOf};
 ghost use Rattle.table.specs.Places.{startOf};
 ghost use Rattle.table.specs.View.{view, allKept};
 ghost use Rattle.table.specs.Effects.{find, clearedBy, marksAfter};
 ghost use Rattle.table.specs.Slices.{kept-of};
 ghost use Rattle.step_parts.specs.Parts.{partOf, Placed, Ready, Ascends};
-ghost use Rattle.step_reach.specs.Bytes.{Reached};
+ghost use Rattle.step_reach.specs.Bytes.{inBytes, Reached};
 ghost use Rattle.step_conditions.specs.Known.{Heads, Tallied, Positive, Known, placeIn, stepOf};
 use step_parts::Part;
 use step_parts::Single;
@@ -192,22 +192,33 @@ pub fn headless(
     no_head(heads, atom)
 }
 
-// Whether the positive body of clause t has the atom, which is outside the reach: kind 7.
-pub fn unreached(
+// Whether the atom is in a kept head and outside the reach: kind 7.
+pub fn unfounded(heads: &[u16], reached: &[u8], atom: u16) -> bool
+    ensures { λ r. ⌜ r ≡ (not (eqb (getD (now (heads .entry)) atom 0) 0) && not (inBytes (now (reached .entry)) atom)) ⌝ }
+{
+    if no_head(heads, atom) {
+        return false;
+    }
+    !step_reach::is_in(reached, atom)
+}
+
+// Whether the positive body of clause t has the atom, which is in a kept head and outside the reach: kind 7.
+pub fn loop_holds(
     words: &[u16],
     marks: &[u8],
     index: &[u16],
+    heads: &[u16],
     reached: &[u8],
     t: usize,
     atom: u16,
 ) -> bool
-    requires { ⌜ (Ready (now words) (now marks) (now index)) × ((t < getD (now words) 1 0) × (Reached (now words) (now marks) (now reached))) ⌝ }
-    ensures { λ r. ⌜ r ≡ (mem atom (entry (view (now (words .entry)) (now (marks .entry))) t .clause .pos) && not (reach (left (view (now (words .entry)) (now (marks .entry)))) atom)) ⌝ }
+    requires { ⌜ (Ready (now words) (now marks) (now index)) × ((t < getD (now words) 1 0) × ((Heads (now words) (now marks) (now heads)) × (Reached (now words) (now marks) (now reached)))) ⌝ }
+    ensures { λ r. ⌜ ((d : Clause) → r ≡ condition loop (left (view (now (words .entry)) (now (marks .entry)))) (entry (view (now (words .entry)) (now (marks .entry))) t .clause) d atom) ⌝ }
 {
     if !step_parts::has(words, marks, index, t, Part::Pos, atom) {
         return false;
     }
-    !step_reach::is_in(reached, atom)
+    unfounded(heads, reached, atom)
 }
 
 // Whether clause t is a fact.
@@ -301,7 +312,7 @@ pub fn holds(
         4 => headless(words, marks, index, heads, t, Part::Neg, atom),
         5 => blocked_holds(words, marks, index, t, p),
         6 => headless(words, marks, index, heads, t, Part::Pos, atom),
-        7 => unreached(words, marks, index, reached, t, atom),
+        7 => loop_holds(words, marks, index, heads, reached, t, atom),
         _ => subsumed_holds(words, marks, index, t, p),
     }
 }

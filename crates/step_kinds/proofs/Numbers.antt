@@ -6,7 +6,7 @@ use Prim.Native.Nat.{ℕ, zero, suc, _≤_}
 use native.Mathlib.Omega.{arith}
 use lib.Dec.{eqb}
 use Rattle.rewriting.specs.Kinds.{kindOf, usesPartner, usesAtom, number}
-use Rattle.rewriting.specs.Uses.{asksHeads}
+use Rattle.rewriting.specs.Uses.{asksNoHead}
 use Rattle.rewriting.proofs.Rows.{number-kindOf}
 use Rattle.step_kinds.specs.Kinds.{PartnerKind, AtomKind, HeadsKind}
 
@@ -58,7 +58,7 @@ is-five kind k = partner-number (λ i. i ≢ 3 → i ≢ 8 → i ≡ 5) kind k (
 pub no-atom : (kind : ℕ) → PartnerKind kind → kind ≢ 3 → usesAtom (kindOf kind) ≡ false
 no-atom kind k = partner-number (λ i. i ≢ 3 → usesAtom (kindOf i) ≡ false) kind k (λ a. absurd (a refl)) (λ a. refl) (λ a. refl)
 
-pub heads-kind : (kind : ℕ) → 1 ≤ kind → kind ≤ 8 → So (asksHeads (kindOf kind)) → HeadsKind kind
-heads-kind kind a b = by-number (λ i. So (asksHeads (kindOf i)) → (i ≡ 4) ⊎ (i ≡ 6)) kind a b
+pub heads-kind : (kind : ℕ) → 1 ≤ kind → kind ≤ 8 → So (asksNoHead (kindOf kind)) → HeadsKind kind
+heads-kind kind a b = by-number (λ i. So (asksNoHead (kindOf i)) → (i ≡ 4) ⊎ (i ≡ 6)) kind a b
     (λ _ u. absurd (false≢true u)) (λ _ u. absurd (false≢true u)) (λ _ u. absurd (false≢true u)) (λ _ u. inl refl)
     (λ _ u. absurd (false≢true u)) (λ _ u. inr refl) (λ _ u. absurd (false≢true u)) (λ _ u. absurd (false≢true u))

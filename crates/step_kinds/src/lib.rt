@@ -2,7 +2,7 @@
 ghost use mathlib.Core.Path.{_≡_};
 ghost use Prim.Native.Nat.{_≤_};
 ghost use Rattle.rewriting.specs.Kinds.{usesPartner, kindOf, usesAtom};
-ghost use Rattle.rewriting.specs.Uses.{asksHeads, asksReach, drops};
+ghost use Rattle.rewriting.specs.Uses.{asksNoHead, asksHeads, asksReach, drops};
 ghost use mathlib.Core.Bool.{cond};
 ghost use Rattle.step_kinds.specs.Kinds.{PartnerKind, walkedPart, targetPart};
 use step_parts::Part;
@@ -21,6 +21,18 @@ pub fn uses_partner(kind: u16) -> bool
     kind == 8
 }
 
+// Whether the kind asks for an atom in no kept head.
+pub fn asks_no_head(kind: u16) -> bool
+    requires { ⌜ (1 ≤ kind) × (kind ≤ 8) ⌝ }
+    ensures { λ r. ⌜ r ≡ asksNoHead (kindOf kind) ⌝ }
+{
+    match kind {
+        4 => true,
+        6 => true,
+        _ => false,
+    }
+}
+
 // Whether the kind asks for the kept heads.
 pub fn asks_heads(kind: u16) -> bool
     requires { ⌜ (1 ≤ kind) × (kind ≤ 8) ⌝ }
@@ -29,6 +41,7 @@ pub fn asks_heads(kind: u16) -> bool
     match kind {
         4 => true,
         6 => true,
+        7 => true,
         _ => false,
     }
 }

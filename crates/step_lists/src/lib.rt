@@ -1,4 +1,4 @@
-// Checking a list of steps: questions 9, 11 to 16 and 29, and the marks that the list leaves.
+// Checking a list of steps: questions 9, 11 to 16, 29 and 32, and the marks that the list leaves.
 ghost use mathlib.Core.Path.{_≡_};
 ghost use Prim.Native.Nat.{_+_, _*_, _/_, _≤_, _<_};
 ghost use lib.ListN.{length, getD};

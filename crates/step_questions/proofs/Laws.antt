@@ -1,23 +1,25 @@
 -- Laws of a step: its questions in order, and what is known from step to step.
 use mathlib.Core.Path.{_≡_, refl, sym, ap, subst, _∙_}
-use mathlib.Core.Bool.{Bool, true, false, not, cond, _&&_, So, true≢false}
+use mathlib.Core.Logic.{by-cases}
+use mathlib.Core.Bool.{Bool, true, false, not, cond, _&&_, So, false≢true, true≢false}
 use mathlib.Core.List.{List}
 use Prim.Native.Nat.{ℕ, _≤_, _<_}
 use native.Mathlib.Omega.{arith}
+use native.Mathlib.Decide.{ℕ-discrete}
 use lib.Dec.{eqb, ltb, leb}
 use lib.ListN.{length, getD, List·getD-eq-default}
 use borrow.Author.Tests.{le-leb, lt-leb, leb-true, eq-eqb, ne-eqb}
-use Rattle.semantics.proofs.Tests.{and-iff}
+use Rattle.semantics.proofs.Tests.{and-iff, not-so}
 use Rattle.rewriting.specs.Marked.{Marked, gone, entry, left}
-use Rattle.rewriting.specs.Steps.{targetKept, partnerKept, atomKnown, atomMatches, condition, conditionHolds, applies}
-use Rattle.rewriting.specs.Kinds.{Kind, number, kindOf, usesPartner, usesAtom}
-use Rattle.rewriting.specs.Uses.{asksHeads, asksReach, drops}
+use Rattle.rewriting.specs.Steps.{inNoHead, targetKept, partnerKept, atomKnown, atomMatches, atomHeaded, condition, conditionHolds, applies}
+use Rattle.rewriting.specs.Kinds.{number, kindOf, usesPartner, usesAtom}
+use Rattle.rewriting.specs.Uses.{drops, asksHeads}
 use Rattle.rewriting.proofs.Left.{kept-lt}
-use Rattle.rewriting.proofs.Rows.{one-scope}
+use Rattle.rewriting.proofs.Effect.{target-kept}
 use Rattle.step_kinds.proofs.Numbers.{kind-number}
 use Rattle.rewriting.proofs.Search.{partner-lt}
 use Rattle.answers.specs.declared.StepQuestion.{StepQuestion}
-use Rattle.answers.specs.declared.StepQuestion.the-variants.{KindKnown, TargetKept, PartnerKept, AtomKnown, AtomMatches, ConditionHolds}
+use Rattle.answers.specs.declared.StepQuestion.the-variants.{KindKnown, TargetKept, PartnerKept, AtomKnown, AtomMatches, AtomHeaded, ConditionHolds}
 use Rattle.table.specs.View.{view}
 use Rattle.table.specs.Effects.{marksAfter}
 use Rattle.table.proofs.View.{length-view}
@@ -25,9 +27,10 @@ use Rattle.step_parts.specs.declared.Single.the-variants.{One, Other}
 use Rattle.step_parts.specs.Parts.{singleOf, Ready}
 use Rattle.step_reach.specs.Bytes.{Reached}
 use Rattle.step_conditions.specs.declared.Step.{Step}
-use Rattle.step_conditions.specs.Known.{stepOf, Heads}
-use Rattle.step_conditions.proofs.Drops.{heads-stay, reached-stays}
-use Rattle.step_conditions.proofs.Tests.{single-one, single-other}
+use Rattle.step_conditions.specs.Known.{stepOf, Heads, Tallied, Known}
+use Rattle.step_conditions.proofs.After.{heads-stay, heads-lowered, reached-stays, reached-idle}
+use Rattle.step_conditions.proofs.Heads.{no-head-is}
+use Rattle.step_conditions.proofs.Tests.{single-one, single-other, step-fits}
 use Rattle.step_questions.specs.declared.Verdict.{Verdict}
 use Rattle.step_questions.specs.declared.Verdict.the-variants.{Fine, No}
 use Rattle.step_questions.specs.declared.Memo.{Memo}
@@ -35,8 +38,8 @@ use Rattle.step_questions.specs.declared.Taken.the-variants.{Made, Not}
 use Rattle.answers.specs.Answers.{ask}
 use Rattle.answers.proofs.Asked.{ask-both}
 use Rattle.rewriting.specs.Steps as steps
-use Rattle.step_questions.specs.Questions.{kindKnown, shapeQuestions, stepQuestions}
-use Rattle.step_questions.specs.Verdicts.{shapeOf, verdictAt, Shaped, Holding, Ready-for, Step-taken}
+use Rattle.step_questions.specs.Questions.{kindKnown, shapeQuestions, conditionQuestions, stepQuestions}
+use Rattle.step_questions.specs.Verdicts.{shapeOf, conditionOf, verdictAt, Shaped, Counted, Found, Holding, Ready-for, Reach-stays, Step-taken}
 
 -- ---- kinds by their numbers
 
@@ -163,15 +166,43 @@ module _ (n : ℕ) (P : Marked) (s : Step) where
   unfolding stepQuestions
   verdict-no q e = shape-no q _ e
 
-  verdict-16 : Shaped n P s → conditionHolds P (stepOf s) ≡ false → No ConditionHolds ≡ verdictAt n P s
-  unfolding stepQuestions ask
-  verdict-16 h c = (rw c) ∙ shape-on h (ask No (conditionHolds P (stepOf s)) ConditionHolds Fine)
+  -- 32 and 16 have the last word
+  verdict-last : Shaped n P s → (v : Verdict) → v ≡ conditionOf P s → v ≡ verdictAt n P s
+  unfolding stepQuestions
+  verdict-last h v e = e ∙ shape-on h (conditionOf P s)
 
-  verdict-fine : Shaped n P s → conditionHolds P (stepOf s) ≡ true → Fine ≡ verdictAt n P s
-  unfolding stepQuestions ask
-  verdict-fine h c = (rw c) ∙ shape-on h (ask No (conditionHolds P (stepOf s)) ConditionHolds Fine)
+-- ---- questions 32 and 16
 
--- ---- question 16
+module _ (P : Marked) (s : Step) where
+  pub condition-32 : atomHeaded P (stepOf s) ≡ false → No AtomHeaded ≡ conditionOf P s
+  unfolding conditionQuestions ask
+  condition-32 a = rw a
+
+  pub condition-16 : atomHeaded P (stepOf s) ≡ true → conditionHolds P (stepOf s) ≡ false → No ConditionHolds ≡ conditionOf P s
+  unfolding conditionQuestions ask
+  condition-16 a b = rw (a, b)
+
+  pub condition-fine : atomHeaded P (stepOf s) ≡ true → conditionHolds P (stepOf s) ≡ true → Fine ≡ conditionOf P s
+  unfolding conditionQuestions ask
+  condition-fine a b = rw (a, b)
+
+  pub condition-inv : Fine ≡ conditionOf P s → conditionHolds P (stepOf s) ≡ true
+  unfolding conditionQuestions
+  condition-inv e = ask-inv (conditionHolds P (stepOf s)) ConditionHolds Fine (ask-inv (atomHeaded P (stepOf s)) AtomHeaded _ (sym e) .1) .0
+
+-- 32 by the count of the kept heads, which kind 7 asks for
+pub headed-is : (ws ms hs rs : List ℕ) (s : Step) (r : Bool) → 1 ≤ s .kind → s .kind ≤ 8 → Known (kindOf (s .kind)) ws ms hs rs → r ≡ not (eqb (s .kind) 7 && eqb (getD hs (s .atom) 0) 0) → r ≡ atomHeaded (view ws ms) (stepOf s)
+unfolding atomHeaded
+headed-is ws ms hs rs s r l h k e = e ∙ by-cases (ℕ-discrete (s .kind) 7) at-seven other
+  where
+    bare : Bool
+    bare = inNoHead (left (view ws ms)) (s .atom)
+
+    at-seven : s .kind ≡ 7 → not (eqb (s .kind) 7 && eqb (getD hs (s .atom) 0) 0) ≡ not (eqb (number (kindOf (s .kind))) 7 && bare)
+    at-seven q = rw q (ap not (no-head-is (left (view ws ms)) (s .atom) (getD hs (s .atom) 0) (k .heads (rw q refl) .is (s .atom))))
+
+    other : (s .kind ≡ 7 → ⊥) → not (eqb (s .kind) 7 && eqb (getD hs (s .atom) 0) 0) ≡ not (eqb (number (kindOf (s .kind))) 7 && bare)
+    other d = rw (kind-number (s .kind) l h, ne-eqb (s .kind) 7 d)
 
 pub shape-fits : (n : ℕ) (ws ms : List ℕ) (s : Step) → Shaped n (view ws ms) s → (s .target < getD ws 1 0) × (s .partner < getD ws 1 0)
 shape-fits n ws ms s h =
@@ -188,31 +219,39 @@ holds-is P s t p r a b e = e ∙ rw (a, b)
 
 -- ---- what is known from step to step
 
-module _ (k : ℕ) (ws ms hs rs : List ℕ) (m : Memo) (h : Holding ws ms hs rs m) where
-  pub heads-known : asksHeads (kindOf k) ≡ true → m .heads ≡ true → Ready-for k ws ms hs rs m
-  heads-known a e = record { holding = h; known = record { heads = λ _. h .heads e; reached = λ r. absurd (one-scope (kindOf k) a r) } }
+pub none-asked : {A : Type 0} (b : Bool) → b ≡ false → (false ≡ true → A) × (So b → false ≡ true)
+none-asked b e = (λ x. absurd (false≢true x), λ x. absurd (true≢false (sym x ∙ e)))
 
-  pub heads-new : (hs′ : List ℕ) → asksHeads (kindOf k) ≡ true → Heads ws ms hs′ → Ready-for k ws ms hs′ rs (record { heads = true; reached = m .reached })
-  heads-new hs′ a e = record { holding = record { heads = λ _. e; reached = h .reached }; known = record { heads = λ _. e; reached = λ r. absurd (one-scope (kindOf k) a r) } }
+pub ready-for : (k : ℕ) (ws ms hs rs : List ℕ) (a b : Bool) → Counted k ws ms hs a → Found k ws ms rs b → Ready-for k ws ms hs rs (record { heads = a; reached = b })
+ready-for k ws ms hs rs a b h r = record { holding = record { heads = h .0; reached = r .0 }; known = record { heads = λ x. h .0 (h .1 x); reached = λ x. r .0 (r .1 x) } }
 
-  pub reach-known : asksHeads (kindOf k) ≡ false → m .reached ≡ true → Ready-for k ws ms hs rs m
-  reach-known a e = record { holding = h; known = record { heads = λ r. absurd (true≢false (sym r ∙ a)); reached = λ _. h .reached e } }
+-- what a step leaves known, and the marks after it
+abbrev Left-known : List ℕ → List ℕ → Step → Memo → List ℕ → List ℕ → Memo → Type 0
+Left-known ws ms s m ms′ hs′ m′ = (ms′ ≡ marksAfter ws ms (stepOf s)) × ((m′ .heads ≡ true → Heads ws ms′ hs′) × Reach-stays ws ms ms′ m m′)
 
-  pub reach-new : (rs′ : List ℕ) → asksHeads (kindOf k) ≡ false → Reached ws ms rs′ → Ready-for k ws ms hs rs′ (record { heads = m .heads; reached = true })
-  reach-new rs′ a e = record { holding = record { heads = h .heads; reached = λ _. e }; known = record { heads = λ r. absurd (true≢false (sym r ∙ a)); reached = λ _. e } }
+module _ (ws ms index : List ℕ) (r : Ready ws ms index) (s : Step) (ok : So (applies (getD ws 0 0) (view ws ms) (stepOf s))) where
+  pub target-fits : (t : ℕ) → t ≡ s .target → (t < getD ws 1 0) × So (entry (view ws ms) t .kept)
+  target-fits t e = rw e (step-fits (getD ws 0 0) ws ms (stepOf s) ok .0, target-kept (getD ws 0 0) (view ws ms) (stepOf s) ok)
 
-  pub none-asked : asksHeads (kindOf k) ≡ false → asksReach (kindOf k) ≡ false → Ready-for k ws ms hs rs m
-  none-asked a b = record { holding = h; known = record { heads = λ r. absurd (true≢false (sym r ∙ a)); reached = λ r. absurd (true≢false (sym r ∙ b)) } }
+  module _ (ms′ hs : List ℕ) (m : Memo) (e : ms′ ≡ marksAfter ws ms (stepOf s)) (k : m .heads ≡ true → Heads ws ms hs) where
+    pub after-drop : drops (kindOf (s .kind)) ≡ true → Left-known ws ms s m ms′ hs m
+    after-drop d = (
+      e,
+      (
+        λ q. rw e (heads-stay ws ms (r .placed .passed) (r .marks) (getD ws 0 0) (stepOf s) ok d hs (k q)),
+        record { stays = λ rs g q. rw e (reached-stays ws ms (r .placed .passed) (r .marks) (getD ws 0 0) (stepOf s) ok d rs (g q)) },
+      ),
+    )
 
--- after a drop and after a deletion
-abbrev pub memoAfter : Kind → Memo → Memo
-memoAfter k m = record { heads = drops k && m .heads; reached = drops k && m .reached }
+    module _ (t : ℕ) (z : t ≡ s .target) (d : drops (kindOf (s .kind)) ≡ false) (hs′ : List ℕ) (f : m .heads ≡ true → Tallied (entry (view ws ms) t .clause .head) hs′ hs) where
+      lowered : m .heads ≡ true → Heads ws ms′ hs′
+      lowered q = rw e (heads-lowered ws ms (r .placed .passed) (r .marks) (getD ws 0 0) (stepOf s) ok (not-so d) hs hs′ (k q) (subst (λ i. Tallied (entry (view ws ms) i .clause .head) hs′ hs) z (f q)))
 
-pub memo-kept : (k : Kind) (m : Memo) → drops k ≡ true → m ≡ memoAfter k m
-memo-kept k m d = rw d
+      pub after-idle : asksHeads (kindOf (s .kind)) ≡ true → Left-known ws ms s m ms′ hs′ m
+      after-idle x = (e, (lowered, record { stays = λ rs g q. rw e (reached-idle ws ms (r .placed .passed) (r .marks) (getD ws 0 0) (stepOf s) ok (not-so d) x rs (g q)) }))
 
-pub memo-none : (k : Kind) (m : Memo) → drops k ≡ false → record { heads = false; reached = false } ≡ memoAfter k m
-memo-none k m d = rw d
+      pub after-deletion : Left-known ws ms s m ms′ hs′ (record { heads = m .heads; reached = false })
+      after-deletion = (e, (lowered, record { stays = λ rs g q. absurd (false≢true q) }))
 
 -- ---- a step
 
@@ -226,20 +265,12 @@ module _ (ws ms index : List ℕ) (r : Ready ws ms index) (s : Step) where
   pub not-shaped : (hs rs : List ℕ) (q : StepQuestion) → No q ≡ shapeOf n P s Fine → Step-taken ws ms ms hs rs s (Not q)
   not-shaped hs rs q e = record { verdict = verdict-no n P s q e; marks = refl; holding = λ m z. let y : _≡_ {A = ℕ} 0 1 = cc in absurd (omega arith) }
 
-  pub not-holding : (hs rs : List ℕ) → Shaped n P s → conditionHolds P (stepOf s) ≡ false → Step-taken ws ms ms hs rs s (Not ConditionHolds)
-  not-holding hs rs h c = record { verdict = verdict-16 n P s h c; marks = refl; holding = λ m z. let y : _≡_ {A = ℕ} 0 1 = cc in absurd (omega arith) }
+  pub not-holding : (hs rs : List ℕ) (q : StepQuestion) → Shaped n P s → No q ≡ conditionOf P s → Step-taken ws ms ms hs rs s (Not q)
+  not-holding hs rs q h c = record { verdict = verdict-last n P s h (No q) c; marks = refl; holding = λ m z. let y : _≡_ {A = ℕ} 0 1 = cc in absurd (omega arith) }
 
-  pub made : (ms′ hs rs : List ℕ) (m m′ : Memo) → Shaped n P s → conditionHolds P (stepOf s) ≡ true → ms′ ≡ marksAfter ws ms (stepOf s) → Holding ws ms hs rs m → m′ ≡ memoAfter (kindOf (s .kind)) m → Step-taken ws ms ms′ hs rs s (Made m′)
-  made ms′ hs rs m m′ h c e k d = record { verdict = verdict-fine n P s h c; marks = e; holding = λ x z. let y : x ≡ m′ = cc in subst (Holding ws ms′ hs rs) (sym (y ∙ d)) holds }
-    where
-      ok : So (applies n P (stepOf s))
-      ok = applies-of n P s h c
-
-      holds : Holding ws ms′ hs rs (memoAfter (kindOf (s .kind)) m)
-      holds = record {
-        heads = λ q. let w = and-iff (drops (kindOf (s .kind))) (m .heads) .0 q in rw e (heads-stay ws ms (r .placed .passed) (r .marks) n (stepOf s) ok (w .0) hs (k .heads (w .1)));
-        reached = λ q. let w = and-iff (drops (kindOf (s .kind))) (m .reached) .0 q in rw e (reached-stays ws ms (r .placed .passed) (r .marks) n (stepOf s) ok (w .0) rs (k .reached (w .1)));
-      }
+  pub made : (ms′ hs′ rs : List ℕ) (m m′ : Memo) → Shaped n P s → Fine ≡ conditionOf P s → ms′ ≡ marksAfter ws ms (stepOf s)
+      → (m .reached ≡ true → Reached ws ms rs) → (m′ .heads ≡ true → Heads ws ms′ hs′) → Reach-stays ws ms ms′ m m′ → Step-taken ws ms ms′ hs′ rs s (Made m′)
+  made ms′ hs′ rs m m′ h c e k f g = record { verdict = verdict-last n P s h Fine c; marks = e; holding = λ x z. let y : x ≡ m′ = cc in subst (Holding ws ms′ hs′ rs) (sym y) (record { heads = f; reached = g .stays rs k }) }
 
 -- ---- a verdict, whatever follows the questions
 
@@ -258,16 +289,18 @@ module _ {A : Type 0} (stop : StepQuestion → A) (go : A) where
   ask-verdict false q v = refl
 
   pub by-verdict : (n : ℕ) (P : Marked) (s : Step) → stepQuestions stop n P (s .kind) (stepOf s) go ≡ onVerdict (verdictAt n P s)
-  unfolding stepQuestions shapeQuestions
+  unfolding stepQuestions shapeQuestions conditionQuestions
   by-verdict n P s =
       let k = kindKnown (s .kind) in
       let t = targetKept P (stepOf s) in
       let p = partnerKept P (stepOf s) in
       let a = atomKnown n (stepOf s) in
       let b = atomMatches P (stepOf s) in
+      let d = atomHeaded P (stepOf s) in
       let c = conditionHolds P (stepOf s) in
-      ap (λ x. ask stop k KindKnown (ask stop t TargetKept (ask stop p PartnerKept (ask stop a AtomKnown (ask stop b AtomMatches (ask stop c ConditionHolds x)))))) on-go
-      ∙ ap (λ x. ask stop k KindKnown (ask stop t TargetKept (ask stop p PartnerKept (ask stop a AtomKnown (ask stop b AtomMatches x))))) (ask-verdict c ConditionHolds Fine)
+      ap (λ x. ask stop k KindKnown (ask stop t TargetKept (ask stop p PartnerKept (ask stop a AtomKnown (ask stop b AtomMatches (ask stop d AtomHeaded (ask stop c ConditionHolds x))))))) on-go
+      ∙ ap (λ x. ask stop k KindKnown (ask stop t TargetKept (ask stop p PartnerKept (ask stop a AtomKnown (ask stop b AtomMatches (ask stop d AtomHeaded x)))))) (ask-verdict c ConditionHolds Fine)
+      ∙ ap (λ x. ask stop k KindKnown (ask stop t TargetKept (ask stop p PartnerKept (ask stop a AtomKnown (ask stop b AtomMatches x))))) (ask-verdict d AtomHeaded _)
       ∙ ap (λ x. ask stop k KindKnown (ask stop t TargetKept (ask stop p PartnerKept (ask stop a AtomKnown x)))) (ask-verdict b AtomMatches _)
       ∙ ap (λ x. ask stop k KindKnown (ask stop t TargetKept (ask stop p PartnerKept x))) (ask-verdict a AtomKnown _)
       ∙ ap (λ x. ask stop k KindKnown (ask stop t TargetKept x)) (ask-verdict p PartnerKept _)
@@ -284,16 +317,17 @@ module _ {A : Type 0} (stop : StepQuestion → A) (go : A) where
 
 -- what holds of every refusal and of what follows
 pub questions-all : {A : Type 0} (S : A → Type 0) (stop : StepQuestion → A) (n : ℕ) (P : Marked) (k : ℕ) (s : steps.Step) (go : A) → ((q : StepQuestion) → S (stop q)) → S go → S (stepQuestions stop n P k s go)
-unfolding stepQuestions shapeQuestions
+unfolding stepQuestions shapeQuestions conditionQuestions
 questions-all S stop n P k s go h g =
     ask-both S stop (kindKnown k) KindKnown _ (h KindKnown)
     (ask-both S stop (targetKept P s) TargetKept _ (h TargetKept)
     (ask-both S stop (partnerKept P s) PartnerKept _ (h PartnerKept)
     (ask-both S stop (atomKnown n s) AtomKnown _ (h AtomKnown)
     (ask-both S stop (atomMatches P s) AtomMatches _ (h AtomMatches)
-    (ask-both S stop (conditionHolds P s) ConditionHolds _ (h ConditionHolds) g)))))
+    (ask-both S stop (atomHeaded P s) AtomHeaded _ (h AtomHeaded)
+    (ask-both S stop (conditionHolds P s) ConditionHolds _ (h ConditionHolds) g))))))
 
 -- A step that no question is answered no of is applicable.
 pub fine-applies : (n : ℕ) (P : Marked) (s : Step) → Fine ≡ verdictAt n P s → So (applies n P (stepOf s))
 unfolding stepQuestions
-fine-applies n P s e = let w = shape-both n P s (ask No (conditionHolds P (stepOf s)) ConditionHolds Fine) e in applies-of n P s (w .0) (ask-inv (conditionHolds P (stepOf s)) ConditionHolds Fine (w .1) .0)
+fine-applies n P s e = let w = shape-both n P s (conditionOf P s) e in applies-of n P s (w .0) (condition-inv P s (sym (w .1)))

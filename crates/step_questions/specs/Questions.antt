@@ -1,11 +1,11 @@
--- One step: questions 12 to 16 of document 01, with 29 of slip 1, in their order.
+-- One step: questions 12 to 16 of document 01, with 29 of slip 1 and 32 of slip 6, in their order.
 use mathlib.Core.Bool.{Bool, _&&_}
 use Prim.Native.Nat.{ℕ}
 use lib.Dec.{leb}
 use Rattle.rewriting.specs.Marked.{Marked}
-use Rattle.rewriting.specs.Steps.{Step, targetKept, partnerKept, atomKnown, atomMatches, conditionHolds}
+use Rattle.rewriting.specs.Steps.{Step, targetKept, partnerKept, atomKnown, atomMatches, atomHeaded, conditionHolds}
 use Rattle.answers.specs.declared.StepQuestion.{StepQuestion}
-use Rattle.answers.specs.declared.StepQuestion.the-variants.{KindKnown, TargetKept, PartnerKept, AtomKnown, AtomMatches, ConditionHolds}
+use Rattle.answers.specs.declared.StepQuestion.the-variants.{KindKnown, TargetKept, PartnerKept, AtomKnown, AtomMatches, AtomHeaded, ConditionHolds}
 use Rattle.answers.specs.Answers.{ask}
 
 -- "12 Is the kind 1 to 8?"
@@ -24,7 +24,13 @@ module _ {A : Type 0} where
       (ask stop (atomKnown n s) AtomKnown
       (ask stop (atomMatches P s) AtomMatches go))))
 
-  -- "16 Does the kind's condition hold?"
+  -- Slip 6: "Such steps get 32, asked after 29 and before 16." "16 Does the kind's condition hold?"
+  unfoldable pub conditionQuestions : (StepQuestion → A) → Marked → Step → A → A
+  unfolding ask
+  conditionQuestions stop P s go =
+      ask stop (atomHeaded P s) AtomHeaded
+      (ask stop (conditionHolds P s) ConditionHolds go)
+
   unfoldable pub stepQuestions : (StepQuestion → A) → ℕ → Marked → ℕ → Step → A → A
-  unfolding ask shapeQuestions
-  stepQuestions stop n P k s go = shapeQuestions stop n P k s (ask stop (conditionHolds P s) ConditionHolds go)
+  unfolding shapeQuestions conditionQuestions
+  stepQuestions stop n P k s go = shapeQuestions stop n P k s (conditionQuestions stop P s go)

@@ -1,17 +1,19 @@
-// One step of a list: questions 12 to 16 with 29 before 16, then the step made; what is known of the program is kept from step to step.
+// One step of a list: questions 12 to 16 with 29 and 32 before 16, then the step made; what is known of the program is kept from step to step.
 ghost use mathlib.Core.Path.{_≡_};
-ghost use mathlib.Core.Bool.{_&&_};
-ghost use Prim.Native.Nat.{_≤_};
+ghost use mathlib.Core.Bool.{true, not, _&&_};
+ghost use Prim.Native.Nat.{_≤_, _<_};
+ghost use lib.Dec.{eqb};
 ghost use lib.ListN.{length, getD};
 ghost use mathlib.Core.Bool.{So};
-ghost use Rattle.rewriting.specs.Steps.{partnerKept, atomKnown, atomMatches, conditionHolds};
+ghost use Rattle.rewriting.specs.Steps.{partnerKept, atomKnown, atomMatches, conditionHolds, applies};
 ghost use Rattle.rewriting.specs.Kinds.{kindOf};
-ghost use Rattle.rewriting.specs.Uses.{drops};
 ghost use Rattle.rewriting.specs.Marked.{entry};
 ghost use Rattle.table.specs.View.{view};
+ghost use Rattle.table.specs.Effects.{marksAfter};
 ghost use Rattle.step_parts.specs.Parts.{Ready};
-ghost use Rattle.step_conditions.specs.Known.{stepOf, Known};
-ghost use Rattle.step_questions.specs.Verdicts.{shapeOf, Shaped, Holding, Ready-for, Step-taken};
+ghost use Rattle.step_reach.specs.Bytes.{Reached};
+ghost use Rattle.step_conditions.specs.Known.{stepOf, Heads, Tallied, Known};
+ghost use Rattle.step_questions.specs.Verdicts.{shapeOf, conditionOf, Shaped, Counted, Found, Holding, Ready-for, Reach-stays, Step-taken};
 ghost use Rattle.step_questions.specs.declared.Verdict.the-variants.{Fine};
 use answers::StepQuestion;
 use step_conditions::Step;
@@ -119,6 +121,50 @@ fn shape(words: &[u16], marks: &[u8], index: &[u16], s: Step) -> Verdict
 
 // ---- what is known from step to step
 
+// Whether the kept heads are known: they are counted anew where the kind asks for them and they are not.
+fn know_heads(
+    words: &[u16],
+    marks: &[u8],
+    index: &[u16],
+    heads: &mut [u16],
+    known: bool,
+    kind: u16,
+) -> bool
+    requires { ⌜ (Ready (now words) (now marks) (now index)) × ((getD (now words) 0 0 ≤ length (now heads)) × (((1 ≤ kind) × (kind ≤ 8)) × (known ≡ true → Heads (now words) (now marks) (now heads)))) ⌝ }
+    ensures { λ r. ⌜ Counted kind (now (words .entry)) (now (marks .entry)) (now (heads .exit)) r ⌝ }
+{
+    if known {
+        return true;
+    }
+    if !step_kinds::asks_heads(kind) {
+        return false;
+    }
+    step_conditions::count_heads(words, marks, index, heads);
+    true
+}
+
+// Whether the reach is known, in the same way.
+fn know_reach(
+    words: &[u16],
+    marks: &[u8],
+    index: &[u16],
+    reached: &mut [u8],
+    known: bool,
+    kind: u16,
+) -> bool
+    requires { ⌜ (Ready (now words) (now marks) (now index)) × ((getD (now words) 0 0 ≤ length (now reached)) × (((1 ≤ kind) × (kind ≤ 8)) × (known ≡ true → Reached (now words) (now marks) (now reached)))) ⌝ }
+    ensures { λ r. ⌜ Found kind (now (words .entry)) (now (marks .entry)) (now (reached .exit)) r ⌝ }
+{
+    if known {
+        return true;
+    }
+    if !step_kinds::asks_reach(kind) {
+        return false;
+    }
+    step_reach::find_reach(words, marks, index, reached);
+    true
+}
+
 // What the kind asks for is found anew, unless it is known.
 fn refresh(
     words: &[u16],
@@ -132,44 +178,68 @@ fn refresh(
     requires { ⌜ (Ready (now words) (now marks) (now index)) × (((getD (now words) 0 0 ≤ length (now heads)) × (getD (now words) 0 0 ≤ length (now reached))) × (((1 ≤ kind) × (kind ≤ 8)) × (Holding (now words) (now marks) (now heads) (now reached) memo))) ⌝ }
     ensures { λ r. ⌜ Ready-for kind (now (words .entry)) (now (marks .entry)) (now (heads .exit)) (now (reached .exit)) r ⌝ }
 {
-    if step_kinds::asks_heads(kind) {
-        if memo.heads {
-            return memo;
-        }
-        step_conditions::count_heads(words, marks, index, heads);
-        return Memo {
-            heads: true,
-            reached: memo.reached,
-        };
+    Memo {
+        heads: know_heads(words, marks, index, heads, memo.heads, kind),
+        reached: know_reach(words, marks, index, reached, memo.reached, kind),
     }
-    if step_kinds::asks_reach(kind) {
-        if memo.reached {
-            return memo;
-        }
-        step_reach::find_reach(words, marks, index, reached);
-        return Memo {
-            heads: memo.heads,
-            reached: true,
-        };
-    }
-    memo
 }
 
-// After a drop everything known stays known, and after a deletion nothing.
-fn known_after(memo: Memo, kind: u16) -> Memo
-    requires { ⌜ (1 ≤ kind) × (kind ≤ 8) ⌝ }
-    ensures { λ r. ⌜ r ≡ record { heads = drops (kindOf kind) && memo .heads; reached = drops (kindOf kind) && memo .reached } ⌝ }
+// The kept heads, where they are known, without those of clause t, which is about to be deleted.
+fn lose_heads(words: &[u16], marks: &[u8], index: &[u16], heads: &mut [u16], known: bool, t: usize)
+    requires { ⌜ (Ready (now words) (now marks) (now index)) × ((t < getD (now words) 1 0) × ((known ≡ true → Heads (now words) (now marks) (now heads)) × So (entry (view (now words) (now marks)) t .kept))) ⌝ }
+    ensures { λ _. ⌜ (known ≡ true → Tallied (entry (view (now (words .entry)) (now (marks .entry))) t .clause .head) (now (heads .exit)) (now (heads .entry))) ⌝ }
 {
-    if step_kinds::drops_literal(kind) {
+    if known {
+        step_conditions::lower_heads(words, marks, index, t, heads);
+    }
+}
+
+// The step is made. What is known stays known, but for the reach where a deletion can change it.
+fn make(
+    words: &[u16],
+    marks: &mut [u8],
+    index: &[u16],
+    heads: &mut [u16],
+    memo: Memo,
+    s: Step,
+) -> Memo
+    requires { ⌜ (Ready (now words) (now marks) (now index)) × (((1 ≤ s .kind) × (s .kind ≤ 8)) × ((So (applies (getD (now words) 0 0) (view (now words) (now marks)) (stepOf s))) × (memo .heads ≡ true → Heads (now words) (now marks) (now heads)))) ⌝ }
+    ensures { λ r. ⌜ (now (marks .exit) ≡ marksAfter (now (words .entry)) (now (marks .entry)) (stepOf s)) × ((r .heads ≡ true → Heads (now (words .entry)) (now (marks .exit)) (now (heads .exit))) × Reach-stays (now (words .entry)) (now (marks .entry)) (now (marks .exit)) memo r) ⌝ }
+{
+    if step_kinds::drops_literal(s.kind) {
+        step_conditions::make_step(words, marks, index, s);
+        return memo;
+    }
+    lose_heads(
+        words,
+        marks,
+        index,
+        heads,
+        memo.heads,
+        table::wide(s.target),
+    );
+    step_conditions::make_step(words, marks, index, s);
+    // The clause that a failure or a loop step deletes did not fire, so that the reach stays.
+    if step_kinds::asks_heads(s.kind) {
         return memo;
     }
     Memo {
-        heads: false,
+        heads: memo.heads,
         reached: false,
     }
 }
 
-// ---- a step
+// ---- questions 32 and 16
+
+// Question 32: for kind 7, whether a kept head has the atom.
+fn atom_headed(heads: &[u16], s: Step) -> bool
+    ensures { λ r. ⌜ r ≡ not (eqb (s .kind) 7 && eqb (getD (now (heads .entry)) (s .atom) 0) 0) ⌝ }
+{
+    if s.kind != 7 {
+        return true;
+    }
+    !step_conditions::no_head(heads, s.atom)
+}
 
 // Question 16, once 12 to 15 and 29 are answered yes.
 fn condition_holds(
@@ -196,6 +266,29 @@ fn condition_holds(
     )
 }
 
+// Questions 32 and 16, once 12 to 15 and 29 are answered yes.
+fn condition(
+    words: &[u16],
+    marks: &[u8],
+    index: &[u16],
+    heads: &[u16],
+    reached: &[u8],
+    s: Step,
+) -> Verdict
+    requires { ⌜ (Ready (now words) (now marks) (now index)) × ((Shaped (getD (now words) 0 0) (view (now words) (now marks)) s) × (Known (kindOf (s .kind)) (now words) (now marks) (now heads) (now reached))) ⌝ }
+    ensures { λ r. ⌜ r ≡ conditionOf (view (now (words .entry)) (now (marks .entry))) s ⌝ }
+{
+    if !atom_headed(heads, s) {
+        return Verdict::No(StepQuestion::AtomHeaded);
+    }
+    if !condition_holds(words, marks, index, heads, reached, s) {
+        return Verdict::No(StepQuestion::ConditionHolds);
+    }
+    Verdict::Fine
+}
+
+// ---- a step
+
 // A step is asked, and made if no question is answered no.
 pub fn take_step(
     words: &[u16],
@@ -216,9 +309,11 @@ pub fn take_step(
         Verdict::Fine => {}
     }
     let known = refresh(words, marks, index, heads, reached, memo, s.kind);
-    if !condition_holds(words, marks, index, heads, reached, s) {
-        return Taken::Not(StepQuestion::ConditionHolds);
+    match condition(words, marks, index, heads, reached, s) {
+        Verdict::No(q) => {
+            return Taken::Not(q);
+        }
+        Verdict::Fine => {}
     }
-    step_conditions::make_step(words, marks, index, s);
-    Taken::Made(known_after(known, s.kind))
+    Taken::Made(make(words, marks, index, heads, known, s))
 }

@@ -1,4 +1,4 @@
--- Number times 2^48 plus place fits, since the number is at most 31 and the place at most 65,536.
+-- Number times 2^48 plus place fits, since the number is at most 32 and the place at most 65,536.
 use borrow.Author.Needs.{needs}
 use native.Mathlib.Omega.{arith}
 use Rattle.answers.proofs.Numbers.{number-range}

@@ -12,8 +12,10 @@ headless-requires c κs = (c .before .before .before .before .before .before .pr
 headless-requires-2 : tie.Need-headless-requires-2
 headless-requires-2 c κs = (c .before .before .before .before .before .before .pre .0, (c .before .before .before .before .before .before .pre .1 .0 .0, c .before .before .before .before .before .before .pre .1 .1 .1 .heads (rw (c .match .keys6) refl)))
 
-unreached-requires : tie.Need-unreached-requires
-unreached-requires c κs = (c .before .before .before .before .before .before .pre .0, (c .before .before .before .before .before .before .pre .1 .0 .0, c .before .before .before .before .before .before .pre .1 .1 .1 .reached (rw (c .match .keys7) refl)))
+loop-holds-requires : tie.Need-loop-holds-requires
+loop-holds-requires c κs =
+    let p = c .before .before .before .before .before .before .pre in
+    (p .0, (p .1 .0 .0, (p .1 .1 .1 .heads (rw (c .match .keys7) refl), p .1 .1 .1 .reached (rw (c .match .keys7) refl))))
 
 returns : tie.Need-returns
 unfolding condition
@@ -38,8 +40,7 @@ unfolding condition
 returns-6 c = rw (c .before .match .keys6) (c .headless2 .ensures)
 
 returns-7 : tie.Need-returns-7
-unfolding condition
-returns-7 c = rw (c .before .match .keys7) (c .unreached .ensures)
+returns-7 c = rw (c .before .match .keys7) (c .loop-holds .ensures _)
 
 returns-8 : tie.Need-returns-8
 returns-8 c =
@@ -50,4 +51,4 @@ returns-8 c =
 pub holds-spec : {M : Type 1} → statement M
 holds-spec =
     tie.close
-    (tie.spec (λ c κs. search needs) (λ c κs. search needs) (λ c κs. search needs) headless-requires (λ c κs. search needs) headless-requires-2 unreached-requires (λ c κs. search needs) returns returns-2 returns-3 returns-4 returns-5 returns-6 returns-7 returns-8)
+    (tie.spec (λ c κs. search needs) (λ c κs. search needs) (λ c κs. search needs) headless-requires (λ c κs. search needs) headless-requires-2 loop-holds-requires (λ c κs. search needs) returns returns-2 returns-3 returns-4 returns-5 returns-6 returns-7 returns-8)

@@ -14,7 +14,10 @@ returns-2 : tie.Need-returns-2
 returns-2 c = rw (c .match .keys2)
 
 returns-3 : tie.Need-returns-3
-returns-3 c = by-number (λ k. false ≡ asksHeads (kindOf k)) (c .before .args .kind) (c .before .pre .0) (c .before .pre .1) (λ _. refl) (λ _. refl) (λ _. refl) (λ e. absurd (c .match .rest .0 .1 e)) (λ _. refl) (λ e. absurd (c .match .rest .1 e)) (λ _. refl) (λ _. refl)
+returns-3 c = rw (c .match .keys3)
+
+returns-4 : tie.Need-returns-4
+returns-4 c = by-number (λ k. false ≡ asksHeads (kindOf k)) (c .before .args .kind) (c .before .pre .0) (c .before .pre .1) (λ _. refl) (λ _. refl) (λ _. refl) (λ e. absurd (c .match .rest .0 .0 .1 e)) (λ _. refl) (λ e. absurd (c .match .rest .0 .1 e)) (λ e. absurd (c .match .rest .1 e)) (λ _. refl)
 
 pub asks-heads-spec : {M : Type 1} → statement M
-asks-heads-spec = tie.close (tie.spec returns returns-2 returns-3)
+asks-heads-spec = tie.close (tie.spec returns returns-2 returns-3 returns-4)
