@@ -54,7 +54,7 @@ extern "C" {
 
 /* ---- Version --------------------------------------------------------------------------------------------------------- */
 
-#define GAMBROLT_VERSION "4.0.0"
+#define GAMBROLT_VERSION "5.0.0"
 
 static inline const char *gambrolt_version(void)
 {
@@ -81,7 +81,7 @@ enum gambrolt_kind {
     GAMBROLT_NO_HEAD       = 4, /* atom: in the negative body and in no head; the literal is dropped */
     GAMBROLT_BLOCKED       = 5, /* partner: a fact whose head is within the negative body; the clause is deleted */
     GAMBROLT_FAILURE       = 6, /* atom: in the positive body and in no head; the clause is deleted */
-    GAMBROLT_LOOP          = 7, /* atom: in the positive body and underivable; the clause is deleted */
+    GAMBROLT_LOOP          = 7, /* atom: in the positive body and in a head, but underivable; the clause is deleted */
     GAMBROLT_SUBSUMED      = 8  /* partner: each part within the target's same part; the clause is deleted */
 };
 
@@ -133,7 +133,7 @@ enum gambrolt_question {
     GAMBROLT_MARKS_LENGTH    = 9,  /* are there at least as many marks as words? */
     GAMBROLT_MARK_ALLOWED    = 10, /* is each mark 0 or 1, and 0 only where a step can clear it? place of the first not */
     GAMBROLT_LIST_LENGTH     = 11, /* is the list's length a multiple of 4, at most 32760? */
-    GAMBROLT_KIND_KNOWN      = 12, /* is the kind 1 to 8? 12 to 16 and 29: place of the step, from 0 */
+    GAMBROLT_KIND_KNOWN      = 12, /* is the kind 1 to 8? 12 to 16, 29 and 32: place of the step, from 0 */
     GAMBROLT_TARGET_KEPT     = 13, /* is the target below m and kept? */
     GAMBROLT_PARTNER_KEPT    = 14, /* is the partner below m, kept and another clause, or 0 where unused? */
     GAMBROLT_ATOM_KNOWN      = 15, /* is the atom below n, or 0 where unused? */
@@ -152,7 +152,8 @@ enum gambrolt_question {
     GAMBROLT_TEXT_ROOM       = 28, /* does the text fit? */
     GAMBROLT_ATOM_MATCHES    = 29, /* kind 3, after 15: where the partner has exactly one head atom, is it the atom? */
     GAMBROLT_FEW_ATOMS       = 30, /* are there at most 16 atoms? */
-    GAMBROLT_MODELS_ROOM     = 31  /* does the list of stable models fit? */
+    GAMBROLT_MODELS_ROOM     = 31, /* does the list of stable models fit? */
+    GAMBROLT_ATOM_HEADED     = 32  /* kind 7, after 29: is the atom in the head of a kept clause? */
 };
 
 /* What a refusal number says, in words. */
@@ -191,6 +192,7 @@ static inline const char *gambrolt_message(unsigned number)
     case GAMBROLT_ATOM_MATCHES: return "the atom of a success step is not the one head atom of its partner";
     case GAMBROLT_FEW_ATOMS: return "there are more than 16 atoms";
     case GAMBROLT_MODELS_ROOM: return "the list of stable models does not fit";
+    case GAMBROLT_ATOM_HEADED: return "the atom of a loop step is in no kept head; a failure is kind 6";
     default: return "no such refusal";
     }
 }
@@ -204,10 +206,10 @@ uint64_t gambrolt_check_table(const uint16_t *table, size_t table_len);
 
 /*
  * Checks a list of steps, each asked and made on what the steps before it left, from all marks 1: 9, 11,
- * then for each step 12, 13, 14, 15, 29, 16.
+ * then for each step 12, 13, 14, 15, 29, 32, 16.
  * Value: the number of steps.
- * marks (at least table_len, of any values): those after the steps; of a list refused at step k (12 to 16, 29), those
- * after steps 0 to k-1.
+ * marks (at least table_len, of any values): those after the steps; of a list refused at step k (12 to 16, 29, 32),
+ * those after steps 0 to k-1.
  */
 uint64_t gambrolt_check(const uint16_t *table, size_t table_len, uint8_t *marks, size_t marks_len,
                         const uint16_t *list, size_t list_len);

@@ -37,6 +37,7 @@ refuses "a target" 'steps=2\nstep=1,2,0,3\nstep=1,2,0,3\n' "list, line 3: step 1
 refuses "a partner" 'steps=1\nstep=8,1,1,0\n' "refused=14,0"
 refuses "an atom" 'steps=1\nstep=6,3,0,4\n' "refused=15,0"
 refuses "the atom of a success" 'steps=1\nstep=3,1,0,2\n' "list, line 2: step 0, 3,1,0,2: the atom of a success step is not the one head atom of its partner (refused=29,0)"
+refuses "a failure as a loop" 'steps=2\nstep=1,2,0,3\nstep=7,3,0,3\n' "list, line 3: step 1, 7,3,0,3: the atom of a loop step is in no kept head; a failure is kind 6 (refused=32,1)"
 refuses "a condition" 'steps=1\nstep=6,3,0,3\n' "the condition of a step does not hold (refused=16,0)"
 for list in '' 'steps\n' 'steps=\n' 'steps=8191\n' 'steps=1x\n' ' steps=0\n' '{"steps": 1\n'; do
     refuses "no number: $list" "$list" "list, line 1: not the number of steps, at most 8190"
@@ -61,6 +62,29 @@ expect "a success's sentence" same "$tmp/want" "$tmp/told"
 build/gambrolt --text "--steps=$tmp/list.json" --dry-run <"$tmp/in"
 expect "a success's object" grep -qF '{"step": [3, 1, 0, 1], "kind": "success", "rule": 1, "line": 6, "partner_rule": 0, "partner_line": 3, "atom": 1, "name": "a(1)"}' "$tmp/list.json"
 refuses "a success without its atom" 'steps=1\nstep=3,1,0,0\n' "step 0, 3,1,0,0: the atom of a success step is not the one head atom of its partner (refused=29,0)"
+
+# 0 <- 1. 1 <- 0.: the reducer names the loop by 7 and the failure behind it by 6; the failure by 7 is refused, in both forms
+printf 'atoms=2\nclauses=2\nhead=0\npos=1\nneg=\nhead=1\npos=0\nneg=\n' >"$tmp/in"
+build/gambrolt --text "--steps=$tmp/list" "--explain=$tmp/told" --dry-run <"$tmp/in"
+printf 'steps=2\nstep=7,0,0,1\nstep=6,1,0,0\n' >"$tmp/want"
+expect "a loop's and a failure's line" same "$tmp/want" "$tmp/list"
+says "a loop's and a failure's line" 0 "yes: the list's 2 steps" --text "--check=$tmp/list"
+cat >"$tmp/want" <<'END'
+clause 0, `a(0) :- a(1).`: deleted, since it needs `a(1)`, which is derived only in a circle: `a(1)` needs `a(0)`, `a(0)` needs `a(1)`
+clause 1, `a(1) :- a(0).`: deleted, since it needs `a(0)`, which no clause can derive
+END
+expect "a loop's and a failure's sentence" same "$tmp/want" "$tmp/told"
+refuses "a failure named by 7" 'steps=2\nstep=7,0,0,1\nstep=7,1,0,0\n' "list, line 3: step 1, 7,1,0,0: the atom of a loop step is in no kept head; a failure is kind 6 (refused=32,1)"
+refuses "a failure named by 7, in JSON" '{"steps": 2, "list": [\n {"step": [7, 1, 0, 0]},\n {"step": [7, 0, 0, 1]}]}\n' "list, line 3: step 1, 7,0,0,1: the atom of a loop step is in no kept head; a failure is kind 6 (refused=32,1)"
+refuses "a loop step whose atom is in a head" 'steps=1\nstep=7,0,0,0\n' "step 0, 7,0,0,0: the condition of a step does not hold (refused=16,0)"
+
+# 0 <- 1. with an atom more: a failure at step 0, and an atom that is in no clause
+printf 'atoms=3\nclauses=1\nhead=0\npos=1\nneg=\n' >"$tmp/in"
+build/gambrolt --text "--steps=$tmp/list.json" --dry-run <"$tmp/in"
+expect "a failure's object" grep -qF '{"step": [6, 0, 0, 1], "kind": "failure", "rule": 0, "line": 3, "atom": 1, "name": "a(1)"}' "$tmp/list.json"
+refuses "a failure named by 7 at step 0" 'steps=1\nstep=7,0,0,1\n' "step 0, 7,0,0,1: the atom of a loop step is in no kept head; a failure is kind 6 (refused=32,0)"
+refuses "a loop step whose atom is in no clause" 'steps=1\nstep=7,0,0,2\n' "refused=32,0"
+refuses "a failure whose atom is in no clause" 'steps=1\nstep=6,0,0,2\n' "refused=16,0"
 
 # aspif with choices and guards: the list of the reducer's own run, in both forms; another order's is refused
 for order in mixed bins theory; do

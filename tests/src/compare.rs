@@ -1,24 +1,94 @@
 //! One call of the library beside document 01: the same answer, and the same memory afterwards.
+use crate::independent::steps::Left;
+use crate::independent::table::Table;
 use crate::independent::{self, Answer, Refused};
 use crate::library;
 use std::fmt::Debug;
+use std::ops::{Deref, DerefMut};
 
-/// How many calls were compared, how often each question refused one, how many steps of each kind were made, how many
-/// programs had which circles, what the lists of stable models were, and what the texts were that were read.
+/// The greatest number of a question.
+pub const LAST: usize = 32;
+
+/// How many calls were compared, how often each question refused one, how many steps of each kind were made, which loop steps
+/// were refused, how many programs had which circles, what the lists of stable models were, and what the texts were that were
+/// read.
+#[derive(Default)]
 pub struct Tally {
     pub cases: u64,
-    pub met: [u64; 32],
+    pub met: Met,
     pub made: [u64; 9],
+    pub loops: Loops,
     pub circles: Circles,
     pub listed: Listed,
     pub texts: Texts,
+}
+
+/// How often each question refused a call, under its number.
+#[derive(Debug)]
+pub struct Met([u64; LAST + 1]);
+
+impl Default for Met {
+    fn default() -> Met {
+        Met([0; LAST + 1])
+    }
+}
+
+impl Deref for Met {
+    type Target = [u64];
+
+    fn deref(&self) -> &[u64] {
+        &self.0
+    }
+}
+
+impl DerefMut for Met {
+    fn deref_mut(&mut self) -> &mut [u64] {
+        &mut self.0
+    }
+}
+
+/// Loop steps that lists were refused at. By 32, as the atom is in no kept head: how many were failures, with the atom in the
+/// target's positive body, and how many not; how many of them stood behind another step, and how many before one; and how many
+/// had an atom that lost its last head to the steps before. By 16, as it is in one: how many had the atom in the target's
+/// positive body, and so in the reach, and how many not.
+#[derive(Debug, Default)]
+pub struct Loops {
+    pub failures: u64,
+    pub in_no_body: u64,
+    pub behind: u64,
+    pub before: u64,
+    pub head_gone: u64,
+    pub reached: u64,
+    pub headed_in_no_body: u64,
+}
+
+impl Loops {
+    /// A list that is refused by 32 or 16 at a step; the steps before it leave these marks.
+    fn count(&mut self, table: &[u16], marks: &[u8], list: &[u16], place: u64) {
+        let place = 4 * place as usize;
+        let &[7, target, _, atom] = &list[place..place + 4] else { return };
+        let table = Table::read(table).unwrap();
+        let (given, left) = (Left::new(&table, &vec![1; marks.len()]), Left::new(&table, marks));
+        let in_body = left.kept(target).unwrap().pos.contains(&atom);
+        match (left.in_no_head(atom), in_body) {
+            (true, true) => self.failures += 1,
+            (true, false) => self.in_no_body += 1,
+            (false, true) => self.reached += 1,
+            (false, false) => self.headed_in_no_body += 1,
+        }
+        if left.in_no_head(atom) {
+            self.behind += u64::from(place > 0);
+            self.before += u64::from(place + 4 < list.len());
+            self.head_gone += u64::from(!given.in_no_head(atom));
+        }
+    }
 }
 
 /// Texts that were read: how often the library refused one by each question; how many of those taken were canonical, and how
 /// many not; and how many pairs of them gave one table, and how many two.
 #[derive(Debug, Default)]
 pub struct Texts {
-    pub met: [u64; 32],
+    pub met: Met,
     pub canonical: u64,
     pub unordered: u64,
     pub one_table: u64,
@@ -38,8 +108,8 @@ pub struct Circles {
 /// programs were listed again after some step.
 #[derive(Debug, Default)]
 pub struct Listed {
-    pub met: [u64; 32],
-    pub met_above: [u64; 32],
+    pub met: Met,
+    pub met_above: Met,
     pub none: u64,
     pub one: u64,
     pub several: u64,
@@ -71,8 +141,7 @@ fn code(answer: Answer) -> u64 {
 
 impl Tally {
     pub fn new() -> Tally {
-        let (circles, listed, texts) = (Circles::default(), Listed::default(), Texts::default());
-        Tally { cases: 0, met: [0; 32], made: [0; 9], circles, listed, texts }
+        Tally::default()
     }
 
     /// Compares what a call gave with what document 01 says, both with all memory that was lent for writing.
@@ -113,9 +182,12 @@ impl Tally {
         let (answer, after) = independent::list::check(table, marks, list);
         let (given, bytes) = library::check(table, marks, list);
         match answer {
-            Err(Refused { number: 12..=16 | 29, place }) => self.count(list, place),
+            Err(Refused { number: 12..=16 | 29 | 32, place }) => self.count(list, place),
             Err(_) => {}
             Ok(steps) => self.count(list, steps),
+        }
+        if let Err(Refused { number: 16 | 32, place }) = answer {
+            self.loops.count(table, &after, list, place);
         }
         (self.same(&("check", table, marks, list), answer, &after, given, &bytes), after)
     }
@@ -167,11 +239,5 @@ impl Tally {
         let (answer, after) = independent::text::write_text(table, out);
         let (given, bytes) = library::write_text(table, out);
         (self.same(&("write_text", table, out.len()), answer, &after, given, &bytes), after)
-    }
-}
-
-impl Default for Tally {
-    fn default() -> Tally {
-        Tally::new()
     }
 }

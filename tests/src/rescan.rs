@@ -58,6 +58,7 @@ impl Reducer {
             .or_else(|| self.by_fact(5, |c| &c.neg, |_| true))
             .or_else(|| atom_of(6, &|c| first(&c.pos, &in_no_head)))
             .or_else(|| {
+                // no failure is left, so every atom of a positive body is in some head
                 let reach = self.reach();
                 atom_of(7, &|c| first(&c.pos, &|atom| !reach[usize::from(atom)]))
             })

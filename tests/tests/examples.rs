@@ -109,6 +109,28 @@ fn successes_name_their_atoms() {
     assert_eq!(check(3, "0|1. 2 <- 0.", &[3, 1, 0, 2]), refused(16, 0), "two head atoms pass 29");
 }
 
+/// Slip 6 of document 02.
+#[test]
+fn failures_are_no_loops() {
+    assert_eq!(steps(&table(2, "0 <- 1.")), [[6, 0, 0, 1]]);
+    assert_eq!(steps(&table(2, "0 <- 1. 1 <- 0.")), [[7, 0, 0, 1], [6, 1, 0, 0]]);
+    let check = |atoms: u16, program: &str, list: &[u16]| check(&table(atoms, program), list);
+    assert_eq!(check(2, "0 <- 1.", &[7, 0, 0, 1]), refused(32, 0));
+    assert_eq!(check(2, "0 <- 1.", &[6, 0, 0, 1]), Ok(1));
+    assert_eq!(check(2, "0 <- 1.", &[7, 0, 0, 0]), refused(16, 0), "in a head, and not in the body");
+    assert_eq!(check(3, "0 <- 1.", &[7, 0, 0, 2]), refused(32, 0), "in no head, and not in the body");
+    assert_eq!(check(3, "0 <- 1.", &[6, 0, 0, 2]), refused(16, 0), "32 is asked of kind 7 alone");
+    assert_eq!(check(2, "1. 0 <- 1.", &[7, 1, 0, 1]), refused(16, 0), "in a head, and in the reach");
+    assert_eq!(check(2, "0 <- 1. 1 <- 0.", &[7, 0, 0, 1, 7, 1, 0, 0]), refused(32, 1), "the head of clause 0 is gone");
+    assert_eq!(check(2, "0 <- 1. 1 <- 0.", &[7, 0, 0, 1, 6, 1, 0, 0]), Ok(2));
+    // rings of two, each taken apart by a loop and the failure behind it
+    let rings = table(600, &(0..300).map(|i| format!("{0} <- {1}. {1} <- {0}.", 2 * i, 2 * i + 1)).collect::<String>());
+    let ring = |i: u16, kind: u16| [7, 2 * i, 0, 2 * i + 1, kind, 2 * i + 1, 0, 2 * i];
+    let rings_with = |last: u16| (0..300).flat_map(|i| ring(i, if i == 299 { last } else { 6 })).collect::<Vec<_>>();
+    assert_eq!(self::check(&rings, &rings_with(6)), Ok(600));
+    assert_eq!(self::check(&rings, &rings_with(7)), refused(32, 599));
+}
+
 #[test]
 fn limits() {
     let mut tally = Tally::new();
@@ -154,7 +176,7 @@ fn small_programs() {
     assert_eq!(steps(&table(2, "0. 0.")), [[8, 0, 1, 0]]);
     assert_eq!(steps(&table(2, "0 <- ~0.")), [[0; 4]; 0]);
     let check = |program: &str, list: &[u16]| Tally::new().check(&table(2, program), &[7; 20], list).0;
-    assert_eq!(check("0 <- 1.", &[7, 0, 0, 1]), Ok(1));
+    assert_eq!(check("0 <- 1.", &[7, 0, 0, 1]), refused(32, 0));
     assert_eq!(check("0.", &[8, 0, 0, 0]), refused(14, 0));
     assert_eq!(check("<- .", &[5, 0, 0, 0]), refused(14, 0));
     let test = |program: &str, set: &[u16]| Tally::new().test(&table(2, program), set);

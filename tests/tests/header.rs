@@ -87,12 +87,13 @@ fn of_texts() -> Vec<(&'static str, u64)> {
 
 /// Those of document 02, in the order of their numbers.
 fn of_requests() -> Vec<(&'static str, u64)> {
-    let success = words(&parse(2, "1. 0 <- 1."));
+    let (success, failure) = (words(&parse(2, "1. 0 <- 1.")), words(&parse(2, "0 <- 1.")));
     let models = |table: &[u16], room: usize| number(Tally::new().models(table, &vec![0; room]).0);
     vec![
         ("ATOM_MATCHES", number(Tally::new().check(&success, &[1; 11], &[3, 1, 0, 0]).0)),
         ("FEW_ATOMS", models(&[17, 0], 1)),
         ("MODELS_ROOM", models(&[16, 0], 0)),
+        ("ATOM_HEADED", number(Tally::new().check(&failure, &[1; 7], &[7, 0, 0, 1]).0)),
     ]
 }
 
@@ -100,7 +101,7 @@ fn of_requests() -> Vec<(&'static str, u64)> {
 fn questions() {
     let expected = named(&[of_tables(), of_steps_and_sets(), of_texts(), of_requests()].concat());
     assert_eq!(values("gambrolt_question"), expected);
-    assert!(expected.iter().map(|(_, number)| *number).eq(1..=31), "a number is missing or stands twice");
+    assert!(expected.iter().map(|(_, number)| *number).eq(1..=32), "a number is missing or stands twice");
 }
 
 /// Each question has one message, and no message is said twice.
@@ -114,7 +115,7 @@ fn messages() {
     }
     said.sort_unstable();
     said.dedup();
-    assert_eq!(said.len(), 31);
+    assert_eq!(said.len(), 32);
 }
 
 /// The kind of the first step on a program.

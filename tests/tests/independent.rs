@@ -121,7 +121,7 @@ fn traps() {
 
 #[test]
 fn checked_lists() {
-    assert_eq!(check(2, "0 <- 1.", &[7, 0, 0, 1]), Ok(1));
+    assert_eq!(check(2, "0 <- 1.", &[7, 0, 0, 1]), refused(32, 0));
     assert_eq!(check(2, "0.", &[8, 0, 0, 0]), refused(14, 0));
     assert_eq!(check(2, "<- .", &[5, 0, 0, 0]), refused(14, 0));
     assert_eq!(check(2, "0 <- 1. 1 <- 0.", &[7, 0, 0, 1, 6, 1, 0, 0]), Ok(2));
@@ -152,6 +152,28 @@ fn a_success_names_its_atom() {
     assert_eq!(check(2, "1. 0 <- ~1.", &[5, 1, 0, 0]), Ok(1), "29 is asked of kind 3 only");
 }
 
+/// Slip 6 of document 02: an atom in a kept head or not, in the target's positive body or not; a head that goes. 14 and 15 come
+/// before 32, and 32 before 16.
+#[test]
+fn a_failure_is_no_loop() {
+    assert_eq!(check(2, "0 <- 1.", &[7, 0, 0, 1]), refused(32, 0));
+    assert_eq!(check(2, "0 <- 1.", &[6, 0, 0, 1]), Ok(1));
+    assert_eq!(check(2, "0 <- 1.", &[7, 0, 0, 0]), refused(16, 0), "in a head, and not in the body");
+    assert_eq!(check(3, "0 <- 1.", &[7, 0, 0, 2]), refused(32, 0), "in no head, and not in the body");
+    assert_eq!(check(3, "0 <- 1.", &[6, 0, 0, 2]), refused(16, 0), "32 is asked of kind 7 alone");
+    assert_eq!(check(3, "0 <- 1.", &[1, 0, 0, 2]), refused(16, 0), "32 is asked of kind 7 alone");
+    assert_eq!(check(2, "0 <- 1.", &[7, 0, 0, 2]), refused(15, 0));
+    assert_eq!(check(2, "0 <- 1.", &[7, 0, 1, 1]), refused(14, 0));
+    assert_eq!(check(2, "0 <- 1.", &[7, 1, 0, 1]), refused(13, 0));
+    assert_eq!(check(2, "1. 0 <- 1.", &[7, 1, 0, 1]), refused(16, 0), "in a head, and in the reach");
+    assert_eq!(check(1, "0 <- 0.", &[7, 0, 0, 0]), Ok(1), "the target's own head is a kept head");
+    assert_eq!(check(2, "0 <- 1. 1 <- 0.", &[7, 0, 0, 1, 7, 1, 0, 0]), refused(32, 1), "the head of clause 0 is gone");
+    assert_eq!(check(2, "0 <- 1. 1 <- 0.", &[7, 0, 0, 1, 6, 1, 0, 0]), Ok(2));
+    assert_eq!(check(2, "0 <- ~1.", &[7, 0, 0, 1]), refused(32, 0), "in no positive body");
+    assert_eq!(check(1, "<- 0.", &[7, 0, 0, 0]), refused(32, 0), "a constraint");
+    assert_eq!(check(1, "<- .", &[7, 0, 0, 0]), refused(32, 0), "the empty clause");
+}
+
 /// The steps that the reducer chooses among are those that the questions let through, of all four words near the program's.
 #[test]
 fn choices_are_all_that_pass() {
@@ -160,6 +182,7 @@ fn choices_are_all_that_pass() {
         "0. 0 <- 0, 1, ~2. 1 <- ~0. 2 <- 2.",
         "<- 1. 1 <- 2, ~1. 2 <- 1. 2.",
         "0|2. 1 <- 0, 2. 0 <- 1.",
+        "0 <- 1. 1 <- 0. 0 <- 2. <- 1, 2.",
     ] {
         let words = words(&parse(3, program));
         let table = table::Table::read(&words).unwrap();

@@ -20,7 +20,7 @@ fn compared(shape: &Shape, size: usize) -> u64 {
     assert!(library::check(&table, &fresh, made) == (steps, marks.clone()), "{name}: the list is not accepted");
     for more in steps_more(&table, made) {
         let (answer, left) = library::check(&table, &fresh, &[made, &more].concat());
-        assert!(matches!(answer >> 48, 12..=16 | 29), "{name}: {more:?} behind the list is taken");
+        assert!(matches!(answer >> 48, 12..=16 | 29 | 32), "{name}: {more:?} behind the list is taken");
         assert_eq!(answer & 0xffff_ffff_ffff, steps, "{name}: {more:?} behind the list is refused at another step");
         assert!(left == marks, "{name}: {more:?} behind the list changes marks");
     }

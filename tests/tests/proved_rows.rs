@@ -252,6 +252,40 @@ fn text_lists() {
     assert_eq!(reads(&clause(3, &after(8187), "", "")), no(26, 18));
 }
 
+/// `Requests.antt`, slip 6.
+#[test]
+fn failures() {
+    let check = |words: &[u16], list: &[u16]| Tally::new().check(words, &vec![1; words.len()], list).0;
+    let rule = [2, 1, 1, 1, 0, 0, 1];
+    assert_eq!(check(&rule, &[7, 0, 0, 1]), no(32, 0));
+    assert_eq!(check(&rule, &[6, 0, 0, 1]), Ok(1));
+    writes(&rule, &[6, 0, 0, 1]);
+    assert_eq!(check(&rule, &[7, 0, 0, 0]), no(16, 0));
+    let three_atoms = [3, 1, 1, 1, 0, 0, 1];
+    assert_eq!(check(&three_atoms, &[7, 0, 0, 2]), no(32, 0));
+    assert_eq!(check(&three_atoms, &[7, 0, 0, 3]), no(15, 0));
+    assert_eq!(check(&three_atoms, &[7, 0, 1, 1]), no(14, 0));
+    assert_eq!(check(&three_atoms, &[7, 1, 0, 1]), no(13, 0));
+    assert_eq!(check(&three_atoms, &[6, 0, 0, 2]), no(16, 0));
+    assert_eq!(check(&three_atoms, &[1, 0, 0, 2]), no(16, 0));
+    let ring = [2, 2, 1, 1, 0, 0, 1, 1, 1, 0, 1, 0];
+    assert_eq!(check(&ring, &[7, 0, 0, 1, 7, 1, 0, 0]), no(32, 1));
+    assert_eq!(check(&ring, &[7, 0, 0, 1, 6, 1, 0, 0]), Ok(2));
+    assert_eq!(check(&ring, &[7, 1, 0, 0, 7, 0, 0, 1]), no(32, 1));
+    writes(&ring, &[7, 0, 0, 1, 6, 1, 0, 0]);
+    assert_eq!(check(&[2, 2, 1, 0, 0, 1, 1, 1, 0, 0, 1], &[7, 1, 0, 1]), no(16, 0));
+    let itself = [1, 1, 1, 1, 0, 0, 0];
+    assert_eq!(check(&itself, &[7, 0, 0, 0]), Ok(1));
+    writes(&itself, &[1, 0, 0, 0]);
+    let negative = [2, 1, 1, 0, 1, 0, 1];
+    assert_eq!(check(&negative, &[4, 0, 0, 1]), Ok(1));
+    assert_eq!(check(&negative, &[7, 0, 0, 1]), no(32, 0));
+    let two_heads = [3, 2, 2, 1, 0, 0, 1, 2, 1, 1, 0, 2, 0];
+    assert_eq!(check(&two_heads, &[7, 0, 0, 2]), Ok(1));
+    assert_eq!(check(&two_heads, &[7, 1, 0, 0]), Ok(1));
+    assert_eq!(check(&two_heads, &[7, 0, 0, 2, 7, 1, 0, 0]), no(32, 1));
+}
+
 /// `OpenSteps.antt`: the lists that the reducer has to write.
 #[test]
 fn open_steps() {

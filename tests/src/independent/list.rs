@@ -1,16 +1,24 @@
-//! Checking a list: 9, 11, then 12 to 15, 29 and 16 step by step.
+//! Checking a list: 9, 11, then 12 to 15, 29, 32 and 16 step by step.
 use super::steps::{has_atom, has_partner, Left, Step};
 use super::table::Table;
 use super::{ask, Answer, Refused};
 
+/// What is asked of one step, whose number is the place.
+pub type Questions = fn(&Left, Step, usize) -> Result<(), Refused>;
+
 /// The answer, and the marks afterwards.
 pub fn check(words: &[u16], marks: &[u8], list: &[u16]) -> (Answer, Vec<u8>) {
+    check_by(questions, words, marks, list)
+}
+
+/// The same with these questions of each step.
+pub fn check_by(questions: Questions, words: &[u16], marks: &[u8], list: &[u16]) -> (Answer, Vec<u8>) {
     let mut after = marks.to_vec();
-    let answer = check_on(words, &mut after, list);
+    let answer = check_on(questions, words, &mut after, list);
     (answer, after)
 }
 
-fn check_on(words: &[u16], marks: &mut [u8], list: &[u16]) -> Answer {
+fn check_on(questions: Questions, words: &[u16], marks: &mut [u8], list: &[u16]) -> Answer {
     let table = Table::read(words)?;
     ask(marks.len() >= words.len(), 9, 0)?;
     ask(list.len().is_multiple_of(4) && list.len() <= 32760, 11, 0)?;
@@ -24,8 +32,15 @@ fn check_on(words: &[u16], marks: &mut [u8], list: &[u16]) -> Answer {
     Ok(list.len() as u64 / 4)
 }
 
-/// Questions 12 to 15, 29 and 16 of one step.
+/// Questions 12 to 15, 29, 32 and 16 of one step. Slip 6: "Such steps get 32, asked after 29 and before 16."
 pub fn questions(left: &Left, step: Step, number: usize) -> Result<(), Refused> {
+    first_questions(left, step, number)?;
+    ask(left.atom_headed(step), 32, number)?;
+    ask(left.condition(step), 16, number)
+}
+
+/// Questions 12 to 15 and 29 of one step.
+pub fn first_questions(left: &Left, step: Step, number: usize) -> Result<(), Refused> {
     ask((1..=8).contains(&step.kind), 12, number)?;
     ask(left.kept(step.target).is_some(), 13, number)?;
     let partner_is_right = match has_partner(step.kind) {
@@ -38,6 +53,5 @@ pub fn questions(left: &Left, step: Step, number: usize) -> Result<(), Refused> 
         false => step.atom == 0,
     };
     ask(atom_is_right, 15, number)?;
-    ask(left.atom_matches(step), 29, number)?;
-    ask(left.condition(step), 16, number)
+    ask(left.atom_matches(step), 29, number)
 }

@@ -27,18 +27,20 @@ fn reduce_on(words: &[u16], marks: &mut [u8], list: &mut [u16]) -> Answer {
 
 /// "the applicable step that is smallest by kind, then target, partner, atom"
 pub fn smallest(left: &Left) -> Option<Step> {
-    let clauses = left.clauses.len() as u16;
-    (1..=8).find_map(|kind| (0..clauses).find_map(|target| smallest_of(left, kind, target)))
+    smallest_by(Left::applies, left)
 }
 
-fn smallest_of(left: &Left, kind: u16, target: u16) -> Option<Step> {
-    left.kept(target)?;
-    left.choices(kind, target).into_iter().find(|&step| left.condition(step))
+/// The smallest of the steps that are said to apply.
+pub fn smallest_by(applies: fn(&Left, Step) -> bool, left: &Left) -> Option<Step> {
+    let clauses = left.clauses.len() as u16;
+    let of = |kind: u16, target: u16| left.choices(kind, target).into_iter().find(|&step| applies(left, step));
+    let kept = (0..clauses).filter(|&target| left.kept(target).is_some());
+    (1..=8).find_map(|kind| kept.clone().find_map(|target| of(kind, target)))
 }
 
 /// Every applicable step.
 pub fn applicable(left: &Left) -> Vec<Step> {
     let clauses = left.clauses.len() as u16;
     let steps = (1..=8).flat_map(|kind| (0..clauses).flat_map(move |target| left.choices(kind, target)));
-    steps.filter(|&step| left.condition(step)).collect()
+    steps.filter(|&step| left.applies(step)).collect()
 }

@@ -49,7 +49,7 @@ impl Left {
     }
 
     /// Whether an atom is "in the head of no kept clause".
-    fn in_no_head(&self, atom: u16) -> bool {
+    pub fn in_no_head(&self, atom: u16) -> bool {
         let heads = || self.clauses.iter().flatten().flat_map(|clause| clause.head.iter().copied()).collect();
         !self.heads.get_or_init(heads).contains(&atom)
     }
@@ -98,6 +98,17 @@ impl Left {
     pub fn atom_matches(&self, step: Step) -> bool {
         let differs = |partner: &Clause| partner.head.len() == 1 && !partner.head.contains(&step.atom);
         step.kind != 3 || !self.kept(step.partner).is_some_and(differs)
+    }
+
+    /// Slip 6, question 32: a no for "A step of kind 7 whose atom is in no kept head, in the target's body or not".
+    pub fn atom_headed(&self, step: Step) -> bool {
+        step.kind != 7 || !self.in_no_head(step.atom)
+    }
+
+    /// Whether a step applies, of those whose target and partner are kept, different clauses: its condition holds, and slip 6
+    /// doesn't turn it down.
+    pub fn applies(&self, step: Step) -> bool {
+        self.condition(step) && self.atom_headed(step)
     }
 
     /// The words that may stand behind kind and target. A success names an atom of its partner's head.

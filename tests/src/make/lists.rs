@@ -48,12 +48,49 @@ fn renamed(random: &mut Random, left: &Left) -> Option<Step> {
     Some(Step { atom, ..random.pick(&successes) })
 }
 
-/// Steps that apply, each picked among all or the smallest; then, at times, one that is off by a word, and more.
-fn half_right(random: &mut Random, table: &Table) -> Vec<u16> {
+/// A loop step on a kept target. Its atom is in no kept head, be it in the target's positive body, or lost to steps before, or
+/// any; or it is in one, be it in that body or not.
+fn loop_step(random: &mut Random, table: &Table, left: &Left) -> Option<Step> {
+    let given = Left::new(table, &vec![1; table.words.len()]);
+    let targets = (0..left.clauses.len() as u16).filter(|&target| left.kept(target).is_some());
+    let all: Vec<Step> =
+        targets.flat_map(|target| (0..left.atoms).map(move |atom| Step::new(7, target, 0, atom))).collect();
+    let in_body = |step: &Step| left.kept(step.target).unwrap().pos.contains(&step.atom);
+    let groups: [&dyn Fn(&Step) -> bool; 5] = [
+        &|step| left.in_no_head(step.atom) && in_body(step),
+        &|step| left.in_no_head(step.atom) && !given.in_no_head(step.atom),
+        &|step| left.in_no_head(step.atom),
+        &|step| !left.in_no_head(step.atom) && in_body(step),
+        &|step| !left.in_no_head(step.atom) && !in_body(step),
+    ];
+    let group = random.pick(&groups);
+    let steps: Vec<Step> = all.into_iter().filter(group).collect();
+    (!steps.is_empty()).then(|| random.pick(&steps))
+}
+
+/// Steps that apply, then such a loop step, where there is one, then at times more; and that step's number.
+pub fn around_loop(random: &mut Random, table: &Table) -> Option<(Vec<u16>, usize)> {
+    let (mut list, marks) = right(random, table, 8);
+    let place = list.len() / 4;
+    list.extend(loop_step(random, table, &Left::new(table, &marks))?.words());
+    list.extend(right(random, table, 3).0);
+    Some((list, place))
+}
+
+/// One of the list's failures is named a loop.
+fn failure_as_loop(random: &mut Random, list: &mut [u16]) {
+    let failures: Vec<usize> = (0..list.len()).step_by(4).filter(|&place| list[place] == 6).collect();
+    if !failures.is_empty() {
+        list[random.pick(&failures)] = 7;
+    }
+}
+
+/// At most so many steps that apply, each picked among all or the smallest; and the marks that they leave.
+fn right(random: &mut Random, table: &Table, most: usize) -> (Vec<u16>, Vec<u8>) {
     let mut marks = vec![1; table.words.len()];
     let mut list = Vec::new();
     let smallest_only = random.once_in(4);
-    for _ in 0..random.upto(12) {
+    for _ in 0..random.upto(most) {
         let left = Left::new(table, &marks);
         let open = if smallest_only { smallest(&left).into_iter().collect() } else { applicable(&left) };
         if open.is_empty() {
@@ -63,13 +100,22 @@ fn half_right(random: &mut Random, table: &Table) -> Vec<u16> {
         marks[left.cleared(table, step)] = 0;
         list.extend(step.words());
     }
-    match random.upto(4) {
+    (list, marks)
+}
+
+/// Steps that apply; then, at times, one that is off by a word, or one more.
+fn half_right(random: &mut Random, table: &Table) -> Vec<u16> {
+    let (mut list, marks) = right(random, table, 12);
+    let left = Left::new(table, &marks);
+    match random.upto(7) {
         0 => list.extend(any_step(random, table.words).words()),
-        2 => list.extend(renamed(random, &Left::new(table, &marks)).iter().flat_map(Step::words)),
         1 if !list.is_empty() => {
             let place = random.upto(list.len() - 1);
             list[place] = random.pick(&[list[place].wrapping_add(1), list[place].wrapping_sub(1), 0, 1, 65535]);
         }
+        2 => list.extend(renamed(random, &left).iter().flat_map(Step::words)),
+        3 => list.extend(loop_step(random, table, &left).iter().flat_map(Step::words)),
+        4 => failure_as_loop(random, &mut list),
         _ => {}
     }
     list

@@ -32,6 +32,17 @@ pub fn program(random: &mut Random, size: Size) -> Program {
     program
 }
 
+/// Every program of so many atoms and clauses. A number's bits say of each atom whether it is in a part.
+pub fn every(atoms: u16, clauses: u16) -> impl Iterator<Item = Program> {
+    let part = move |number: u64, first: u16| (0..atoms).filter(|atom| number >> (first + atom) & 1 == 1).collect();
+    let clause = move |number: u64, first: u16| {
+        let part = |skipped: u16| part(number, first + skipped * atoms);
+        Clause { head: part(0), pos: part(1), neg: part(2) }
+    };
+    let program = move |number: u64| (0..clauses).map(|i| clause(number, 3 * atoms * i)).collect();
+    (0..1u64 << (3 * atoms * clauses)).map(move |number| Program { atoms, clauses: program(number) })
+}
+
 /// The program with one clause varied, two exchanged, or an atom more.
 pub fn near(random: &mut Random, program: &Program) -> Program {
     let (mut near, clauses) = (program.clone(), program.clauses.len());
@@ -63,6 +74,20 @@ pub fn choices(random: &mut Random, size: Size) -> Program {
         }
     }
     program
+}
+
+/// A program that often has circles outside the reach: short positive bodies, and few facts.
+pub fn circular(random: &mut Random, size: Size) -> Program {
+    let atoms = 1 + random.upto(size.atoms - 1) as u16;
+    let ring = (1, 1, 0);
+    let clause = |random: &mut Random| {
+        let counts =
+            random.pick(&[ring, ring, ring, ring, ring, (1, 2, 0), (2, 1, 0), (1, 1, 1), (0, 1, 1), (2, 0, 1)]);
+        let mut of = |count: usize| part(random, atoms, count);
+        Clause { head: of(counts.0), pos: of(counts.1), neg: of(counts.2) }
+    };
+    let clauses = (0..=random.upto(size.clauses)).map(|_| clause(random)).collect();
+    Program { atoms, clauses }
 }
 
 /// A disjunctive fact of each so many of the atoms: a set that satisfies them lacks fewer than so many.

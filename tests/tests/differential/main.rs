@@ -9,7 +9,7 @@ mod steps;
 mod tables;
 mod texts;
 
-use gambrolt_tests::compare::{Circles, Listed, Tally, Texts};
+use gambrolt_tests::compare::{Circles, Listed, Loops, Tally, Texts, LAST};
 use gambrolt_tests::make::shapes::SHAPES;
 use gambrolt_tests::random::Random;
 use std::time::Instant;
@@ -17,7 +17,7 @@ use std::time::Instant;
 /// A group of cases: its name, how many draws it makes, and what one draw compares.
 type Group = (&'static str, u64, fn(&mut Random, &mut Tally));
 
-const GROUPS: [Group; 23] = [
+const GROUPS: [Group; 24] = [
     ("tables", 120_000, tables::damaged),
     ("lists", 100_000, steps::checked),
     ("reducing", 60_000, steps::reduced),
@@ -41,6 +41,7 @@ const GROUPS: [Group; 23] = [
     ("texts read, lists in any order", 10_000, texts::in_any_order),
     ("texts read, two of one program or of two", 20_000, texts::two),
     ("texts read, refused late", 4_000, texts::late),
+    ("lists with a loop step", 30_000, steps::loops),
 ];
 
 fn main() {
@@ -76,20 +77,29 @@ fn report(tally: &Tally) {
     }
     println!("steps made by kind: {:?}", &tally.made[1..]);
     assert!(tally.made[1..].iter().all(|&steps| steps > 0), "a kind of step was never made");
+    loops(&tally.loops);
     println!("{:?}", tally.circles);
     let Circles { positive, negative, none } = tally.circles;
     assert!(positive.min(negative).min(none) > 1_000, "too few circles, or programs without");
     lists(&tally.listed);
     texts_read(&tally.texts);
-    let never: Vec<usize> = (1..=31).filter(|&number| tally.met[number] == 0).collect();
+    let never: Vec<usize> = (1..=LAST).filter(|&number| tally.met[number] == 0).collect();
     assert!(never.is_empty(), "questions never met: {never:?}");
     assert!(tally.cases >= 200_000, "too few cases");
     println!("differential tests: ok");
 }
 
+/// Fails where loop steps were refused too seldom for some reason.
+fn loops(refused: &Loops) {
+    println!("lists refused at a loop step: {refused:?}");
+    let Loops { failures, in_no_body, behind, before, head_gone, reached, headed_in_no_body } = refused;
+    let by_32 = failures.min(in_no_body).min(behind).min(before).min(head_gone);
+    assert!(by_32.min(reached).min(headed_in_no_body) > &1_000, "too few loop steps of a kind");
+}
+
 /// Fails where the lists of stable models were refused too seldom by some question, or were too much alike.
 fn lists(listed: &Listed) {
-    let refused = [&listed.met[1..=8], &listed.met[30..]].concat();
+    let refused = [&listed.met[1..=8], &listed.met[30..=31]].concat();
     println!("lists of stable models refused by 1 to 8, 30 and 31: {refused:?}");
     assert!(refused.iter().all(|&times| times > 100), "a question was met too seldom");
     let many_atoms = [&listed.met_above[1..=8], &[listed.too_short]].concat();

@@ -1,6 +1,8 @@
 //! Lists of steps: checked, and made by the reducer.
 use gambrolt_tests::compare::Tally;
+use gambrolt_tests::independent::steps::Left;
 use gambrolt_tests::independent::table::Table;
+use gambrolt_tests::independent::Refused;
 use gambrolt_tests::make::programs::{any_size, Size, MIDDLE};
 use gambrolt_tests::make::{lists, marks, tables};
 use gambrolt_tests::random::Random;
@@ -11,6 +13,27 @@ pub fn checked(random: &mut Random, tally: &mut Tally) {
     let marks = marks::any(random, table.len());
     let list = lists::list(random, &table);
     tally.check(&table, &marks, &list);
+}
+
+/// A loop step behind steps and before others. Slip 6: it is refused by 32 exactly where its atom is in no kept head; and then it is
+/// taken as a failure where the atom is in the target's positive body, and else refused by 16.
+pub fn loops(random: &mut Random, tally: &mut Tally) {
+    let size = any_size(random);
+    let table = if random.once_in(2) { tables::circular(random, size) } else { tables::table(random, size) };
+    let read = Table::read(&table).unwrap();
+    let Some((mut list, place)) = lists::around_loop(random, &read) else { return };
+    let marks = random.bytes(table.len());
+    let no = |number: u64| Err(Refused { number, place: place as u64 });
+    let (_, left) = tally.check(&table, &marks, &list[..4 * place]);
+    let (left, target, atom) = (Left::new(&read, &left), list[4 * place + 1], list[4 * place + 3]);
+    let (answer, _) = tally.check(&table, &marks, &list);
+    assert_eq!(answer == no(32), left.in_no_head(atom), "{table:?}, {list:?}");
+    if left.in_no_head(atom) {
+        list.truncate(4 * place + 4);
+        list[4 * place] = 6;
+        let expected = if left.kept(target).unwrap().pos.contains(&atom) { Ok(place as u64 + 1) } else { no(16) };
+        assert_eq!(tally.check(&table, &marks, &list).0, expected, "{table:?}, {list:?}");
+    }
 }
 
 pub fn reduced(random: &mut Random, tally: &mut Tally) {
