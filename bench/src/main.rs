@@ -25,10 +25,16 @@ fn main() {
     }
     println!();
     print!("| shape | library, ms | plain C, ms | library / plain C | tuned C, ms | library / tuned C ");
-    println!("| rescanning, ms | rescanning / library | checking the list, ms |");
-    println!("|---|---|---|---|---|---|---|---|---|");
+    println!("| rescanning, ms | rescanning / library |");
+    println!("|---|---|---|---|---|---|---|---|");
     for shape in &SHAPES {
         reduction(shape);
+    }
+    println!();
+    println!("| shape | reducing, ms | checking the list, ms | checking / reducing |");
+    println!("|---|---|---|---|");
+    for shape in &SHAPES {
+        checking(shape);
     }
     println!();
     println!("| call | ms |");
@@ -59,7 +65,7 @@ fn contents(shape: &Shape) {
     println!("| {} | {} | {steps} | {} |", shape.name, table.len(), kinds.map(|count| count.to_string()).join(" "));
 }
 
-/// One line: reducing a table of a shape in four ways, which have to give the same list, and checking it.
+/// One line: reducing a table of a shape in four ways, which have to give the same list.
 fn reduction(shape: &Shape) {
     let (name, table) = (shape.name, shape.table(shape.full));
     let fresh = (vec![0; table.len()], vec![0; 32768]);
@@ -72,17 +78,30 @@ fn reduction(shape: &Shape) {
             &mut || incremental::tuned(&table, &mut by_tuned.0, &mut by_tuned.1),
         ],
     );
-    let (mut marks, list) = (by_library.0, &by_library.1[..4 * steps]);
+    let (marks, list) = (by_library.0, &by_library.1[..4 * steps]);
     for (c, c_steps, (c_marks, c_list)) in [("plain", plain_steps, by_plain), ("tuned", tuned_steps, by_tuned)] {
         assert_eq!(list, &c_list[..4 * c_steps], "{name}: the lists of the library and {c} C differ");
         assert_eq!(marks, c_marks, "{name}: the marks of the library and {c} C differ");
     }
     let (rescanning, rescanned) = once(|| Reducer::new(&(shape.program)(shape.full)).run());
     assert_eq!(list, rescanned.concat(), "{name}: the lists of the library and the rescanning reducer differ");
-    let (checking, _) = best(5, || calls::check(&table, &mut marks, list));
     let (to_plain, to_tuned, to_library) = (library / plain, library / tuned, rescanning / library);
     print!("| {name} | {library:.2} | {plain:.2} | {to_plain:.1} | {tuned:.3} | {to_tuned:.1} ");
-    println!("| {rescanning:.0} | {to_library:.0} | {checking:.1} |");
+    println!("| {rescanning:.0} | {to_library:.0} |");
+}
+
+/// One line: reducing a table of a shape, and checking the list, by turns.
+fn checking(shape: &Shape) {
+    let (name, table) = (shape.name, shape.table(shape.full));
+    let (mut marks, mut list) = (vec![0; table.len()], vec![0; 32768]);
+    let steps = calls::reduce(&table, &mut marks, &mut list);
+    let (own, mut checked) = (list[..4 * steps].to_vec(), vec![0; table.len()]);
+    let [(reducing, _), (checking, taken)] = best_by_turns(
+        TURNS,
+        [&mut || calls::reduce(&table, &mut marks, &mut list), &mut || calls::check(&table, &mut checked, &own)],
+    );
+    assert_eq!((taken, &checked), (steps, &marks), "{name}: the checker does not follow the reducer's list");
+    println!("| {name} | {reducing:.2} | {checking:.3} | {:.2} |", checking / reducing);
 }
 
 /// Sixteen entries, and as many clauses as there is room for that every smaller set satisfies, before those that it fails.
