@@ -4,7 +4,7 @@ ghost use Prim.Native.Nat.{_≤_, _<_};
 ghost use lib.ListN.{length, getD};
 ghost use Rattle.search_flags.specs.Flags.{flagAt, allFlags};
 ghost use mathlib.Core.Bool.{true};
-ghost use Rattle.step_kinds.specs.Kinds.{PartnerKind, HeadsKind};
+ghost use Rattle.step_kinds.specs.Kinds.{PartnerKind, NoHeadKind};
 ghost use Rattle.search_keys.specs.State.{Subsumer, KeySpread, KeyPassed, State, Settled, Prepared};
 ghost use Rattle.search_spreads.specs.Spreads.{Spread, PartnerSpread};
 
@@ -86,7 +86,7 @@ fn spread_atom(
     kind: u16,
     atom: u16,
 )
-    requires { ⌜ (State (now words) (now marks) (now index) (now heads) (now reach) (now flags)) × ((0 < getD (now words) 1 0) × ((atom < 1024) × HeadsKind kind)) ⌝ }
+    requires { ⌜ (State (now words) (now marks) (now index) (now heads) (now reach) (now flags)) × ((0 < getD (now words) 1 0) × ((atom < 1024) × NoHeadKind kind)) ⌝ }
     ensures { λ _. ⌜ Spread (now (words .entry)) (now (marks .entry)) (now (flags .entry)) (now (flags .exit)) kind 0 atom ⌝ }
 {
     if !step_conditions::no_head(heads, atom) {

@@ -27,7 +27,7 @@ use Rattle.step_parts.proofs.Index.{stands-in, stands-clause, stands-small, kep
 use Rattle.step_conditions.specs.Known.{Heads}
 use Rattle.step_conditions.proofs.Heads.{no-head-is}
 use Rattle.search_flags.specs.Flags.{Covered, Raising}
-use Rattle.step_kinds.specs.Kinds.{PartnerKind, HeadsKind, walkedPart, targetPart}
+use Rattle.step_kinds.specs.Kinds.{PartnerKind, NoHeadKind, walkedPart, targetPart}
 use Rattle.step_kinds.proofs.Numbers.{partner-number, no-atom}
 use Rattle.search_spreads.specs.Spreads.{Clue, NoPartner, Spread, PartnerSpread}
 use Rattle.search_flags.proofs.Flags.{raising-none, raising-more, raising-below}
@@ -97,21 +97,21 @@ clue-neg ws ms x e t h =
     within-iff _ _ .0 (and-iff (within (d .pos) (c .pos)) (within (d .neg) (c .neg)) .0 w .1) (getD (d .neg) 0 0) (first-in (d .neg) e)
 
 -- kinds 4 and 6: the atom itself, which is in no kept head
-heads-asked : (kind : ℕ) (cs : List Clause) (c d : Clause) (a : ℕ) → HeadsKind kind → So (condition (kindOf kind) cs c d a) → (a ∈ partOf (walkedPart kind) c) × So (inNoHead cs a)
+no-head-asked : (kind : ℕ) (cs : List Clause) (c d : Clause) (a : ℕ) → NoHeadKind kind → So (condition (kindOf kind) cs c d a) → (a ∈ partOf (walkedPart kind) c) × So (inNoHead cs a)
 unfolding condition
-heads-asked kind cs c d a (inl e) h = let w = subst (λ k. So (condition (kindOf k) cs c d a)) e h in let v = and-iff (mem a (c .neg)) (inNoHead cs a) .0 w in
+no-head-asked kind cs c d a (inl e) h = let w = subst (λ k. So (condition (kindOf k) cs c d a)) e h in let v = and-iff (mem a (c .neg)) (inNoHead cs a) .0 w in
     (subst (λ k. a ∈ partOf (walkedPart k) c) (sym e) (mem-iff _ _ .0 (v .0)), v .1)
-heads-asked kind cs c d a (inr e) h = let w = subst (λ k. So (condition (kindOf k) cs c d a)) e h in let v = and-iff (mem a (c .pos)) (inNoHead cs a) .0 w in
+no-head-asked kind cs c d a (inr e) h = let w = subst (λ k. So (condition (kindOf k) cs c d a)) e h in let v = and-iff (mem a (c .pos)) (inNoHead cs a) .0 w in
     (subst (λ k. a ∈ partOf (walkedPart k) c) (sym e) (mem-iff _ _ .0 (v .0)), v .1)
 
-pub clue-atom : (ws ms : List ℕ) (kind a : ℕ) → HeadsKind kind → Clue ws ms kind 0 a (walkedPart kind) a
-clue-atom ws ms kind a k t h = heads-asked kind (left (view ws ms)) (entry (view ws ms) t .clause) (entry (view ws ms) 0 .clause) a k (asked-of ws ms kind t 0 a h) .0
+pub clue-atom : (ws ms : List ℕ) (kind a : ℕ) → NoHeadKind kind → Clue ws ms kind 0 a (walkedPart kind) a
+clue-atom ws ms kind a k t h = no-head-asked kind (left (view ws ms)) (entry (view ws ms) t .clause) (entry (view ws ms) 0 .clause) a k (asked-of ws ms kind t 0 a h) .0
 
 -- an atom in a kept head has no step
-pub spread-headed : (ws ms hs flags : List ℕ) (kind a : ℕ) → HeadsKind kind → Heads ws ms hs → eqb (getD hs a 0) 0 ≡ false → Spread ws ms flags flags kind 0 a
+pub spread-headed : (ws ms hs flags : List ℕ) (kind a : ℕ) → NoHeadKind kind → Heads ws ms hs → eqb (getD hs a 0) 0 ≡ false → Spread ws ms flags flags kind 0 a
 spread-headed ws ms hs flags kind a k h e = record {
   raising = raising-none flags kind (getD ws 1 0);
-  flagged = λ t y. absurd (not-so (sym (no-head-is (left (view ws ms)) a (getD hs a 0) (h .is a)) ∙ e) (heads-asked kind (left (view ws ms)) (entry (view ws ms) t .clause) (entry (view ws ms) 0 .clause) a k (asked-of ws ms kind t 0 a y) .1));
+  flagged = λ t y. absurd (not-so (sym (no-head-is (left (view ws ms)) a (getD hs a 0) (h .is a)) ∙ e) (no-head-asked kind (left (view ws ms)) (entry (view ws ms) t .clause) (entry (view ws ms) 0 .clause) a k (asked-of ws ms kind t 0 a y) .1));
 }
 
 -- ---- the walk

@@ -58,7 +58,7 @@ fn passes(
         return step_parts::has(words, marks, index, t, Part::Neg, atom);
     }
     if kind == 7 {
-        return step_conditions::unfounded(heads, reach, atom);
+        return step_conditions::loop_atom(heads, reach, atom);
     }
     step_conditions::no_head(heads, atom)
 }

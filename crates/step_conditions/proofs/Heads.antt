@@ -46,9 +46,9 @@ pub no-head-is : (cs : List Clause) (a k : ℕ) → k ≡ headCount cs a → eqb
 no-head-is cs a k e = so-ext (eqb k 0) (inNoHead cs a) (λ h. no-head-count cs a .1 (sym e ∙ eqb-true _ _ h)) (λ h. eq-eqb _ _ (e ∙ no-head-count cs a .0 h))
 
 -- in a kept head and outside the reach, by the count and the byte
-pub unfounded-is : (ws ms hs rs : List ℕ) (a : ℕ) → Heads ws ms hs → Reached ws ms rs
+pub loop-atom-is : (ws ms hs rs : List ℕ) (a : ℕ) → Heads ws ms hs → Reached ws ms rs
     → (not (eqb (getD hs a 0) 0) && not (inBytes rs a)) ≡ (headed loop (left (view ws ms)) a && not (reach (left (view ws ms)) a))
-unfounded-is ws ms hs rs a h r = ap (λ x. not x && not (inBytes rs a)) (no-head-is (left (view ws ms)) a (getD hs a 0) (h .is a)) ∙ ap (λ x. not (inNoHead (left (view ws ms)) a) && not x) (r .is a)
+loop-atom-is ws ms hs rs a h r = ap (λ x. not x && not (inBytes rs a)) (no-head-is (left (view ws ms)) a (getD hs a 0) (h .is a)) ∙ ap (λ x. not (inNoHead (left (view ws ms)) a) && not x) (r .is a)
 
 -- ---- one part, atom by atom
 

@@ -193,7 +193,7 @@ pub fn headless(
 }
 
 // Whether the atom is in a kept head and outside the reach: kind 7.
-pub fn unfounded(heads: &[u16], reached: &[u8], atom: u16) -> bool
+pub fn loop_atom(heads: &[u16], reached: &[u8], atom: u16) -> bool
     ensures { λ r. ⌜ r ≡ (not (eqb (getD (now (heads .entry)) atom 0) 0) && not (inBytes (now (reached .entry)) atom)) ⌝ }
 {
     if no_head(heads, atom) {
@@ -218,7 +218,7 @@ pub fn loop_holds(
     if !step_parts::has(words, marks, index, t, Part::Pos, atom) {
         return false;
     }
-    unfounded(heads, reached, atom)
+    loop_atom(heads, reached, atom)
 }
 
 // Whether clause t is a fact.

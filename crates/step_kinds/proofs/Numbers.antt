@@ -8,15 +8,15 @@ use lib.Dec.{eqb}
 use Rattle.rewriting.specs.Kinds.{kindOf, usesPartner, usesAtom, number}
 use Rattle.rewriting.specs.Uses.{asksNoHead}
 use Rattle.rewriting.proofs.Rows.{number-kindOf}
-use Rattle.step_kinds.specs.Kinds.{PartnerKind, AtomKind, HeadsKind}
+use Rattle.step_kinds.specs.Kinds.{PartnerKind, AtomKind, NoHeadKind}
 
-pub heads-alone : (kind : ℕ) → HeadsKind kind → usesPartner (kindOf kind) ≡ false
-heads-alone kind (inl e) = subst (λ k. usesPartner (kindOf k) ≡ false) (sym e) refl
-heads-alone kind (inr e) = subst (λ k. usesPartner (kindOf k) ≡ false) (sym e) refl
+pub no-head-alone : (kind : ℕ) → NoHeadKind kind → usesPartner (kindOf kind) ≡ false
+no-head-alone kind (inl e) = subst (λ k. usesPartner (kindOf k) ≡ false) (sym e) refl
+no-head-alone kind (inr e) = subst (λ k. usesPartner (kindOf k) ≡ false) (sym e) refl
 
-pub heads-bounds : (kind : ℕ) → HeadsKind kind → (1 ≤ kind) × (kind ≤ 8)
-heads-bounds kind (inl e) = (omega arith, omega arith)
-heads-bounds kind (inr e) = (omega arith, omega arith)
+pub no-head-bounds : (kind : ℕ) → NoHeadKind kind → (1 ≤ kind) × (kind ≤ 8)
+no-head-bounds kind (inl e) = (omega arith, omega arith)
+no-head-bounds kind (inr e) = (omega arith, omega arith)
 
 pub partner-kind : (kind : ℕ) → 1 ≤ kind → kind ≤ 8 → usesPartner (kindOf kind) ≡ true → PartnerKind kind
 partner-kind kind a b u = record { low = a; high = b; uses = u }
@@ -58,7 +58,7 @@ is-five kind k = partner-number (λ i. i ≢ 3 → i ≢ 8 → i ≡ 5) kind k (
 pub no-atom : (kind : ℕ) → PartnerKind kind → kind ≢ 3 → usesAtom (kindOf kind) ≡ false
 no-atom kind k = partner-number (λ i. i ≢ 3 → usesAtom (kindOf i) ≡ false) kind k (λ a. absurd (a refl)) (λ a. refl) (λ a. refl)
 
-pub heads-kind : (kind : ℕ) → 1 ≤ kind → kind ≤ 8 → So (asksNoHead (kindOf kind)) → HeadsKind kind
-heads-kind kind a b = by-number (λ i. So (asksNoHead (kindOf i)) → (i ≡ 4) ⊎ (i ≡ 6)) kind a b
+pub no-head-kind : (kind : ℕ) → 1 ≤ kind → kind ≤ 8 → So (asksNoHead (kindOf kind)) → NoHeadKind kind
+no-head-kind kind a b = by-number (λ i. So (asksNoHead (kindOf i)) → (i ≡ 4) ⊎ (i ≡ 6)) kind a b
     (λ _ u. absurd (false≢true u)) (λ _ u. absurd (false≢true u)) (λ _ u. absurd (false≢true u)) (λ _ u. inl refl)
     (λ _ u. absurd (false≢true u)) (λ _ u. inr refl) (λ _ u. absurd (false≢true u)) (λ _ u. absurd (false≢true u))

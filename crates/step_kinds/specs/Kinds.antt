@@ -20,8 +20,8 @@ pub record AtomKind (kind : ℕ) : Type 0 where
   pub alone : usesPartner (kindOf kind) ≡ false
 
 -- kinds 4 and 6 ask for atoms "in the head of no kept clause"
-abbrev pub HeadsKind : ℕ → Type 0
-HeadsKind kind = (kind ≡ 4) ⊎ (kind ≡ 6)
+abbrev pub NoHeadKind : ℕ → Type 0
+NoHeadKind kind = (kind ≡ 4) ⊎ (kind ≡ 6)
 
 -- the part in which a target of kind 3, 5 or 8 has the partner's head atoms
 abbrev pub targetPart : ℕ → Part

@@ -2,7 +2,7 @@
 use mathlib.Core.Path.{sym, subst, _∙_}
 use borrow.Author.Tests.{not-true}
 use Rattle.search_spreads.specs.Spreads.{Clue}
-use Rattle.step_kinds.proofs.Numbers.{heads-bounds}
+use Rattle.step_kinds.proofs.Numbers.{no-head-bounds}
 use Rattle.search_spreads.proofs.Known.{heads-known}
 use Rattle.search_spreads.proofs.Clues.{clue-atom, spread-headed}
 use borrow.Author.Needs.{needs}
@@ -20,7 +20,7 @@ spread-along-requires c κs =
       (
         p .1 .0,
         (
-          heads-bounds _ k,
+          no-head-bounds _ k,
           (
             heads-known _ _ _ _ _ k (p .0 .counted),
             (

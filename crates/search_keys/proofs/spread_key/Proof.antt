@@ -5,7 +5,7 @@ use borrow.Author.Tests.{not-true, not-false}
 use Rattle.search_flags.specs.Flags.{AllFlagged, Raising}
 use Rattle.search_spreads.specs.Spreads.{Spread}
 use Rattle.search_keys.proofs.States.{few-clauses}
-use Rattle.step_kinds.proofs.Numbers.{partner-kind, heads-alone, heads-kind}
+use Rattle.step_kinds.proofs.Numbers.{partner-kind, no-head-alone, no-head-kind}
 use Rattle.search_keys.proofs.Keys.{key-partner, key-none, key-all}
 use Rattle.search_keys.proofs.Keys.{key-atom, key-without, key-empty, key-past}
 use borrow.Author.Needs.{needs}
@@ -44,13 +44,13 @@ returns-5 : tie.Need-returns-5
 returns-5 c = key-empty _ _ _ _ _ (sym (c .before .before .before .before .before .before .before .before .before .before .before .pre .1 .0) ∙ c .if5 .taken)
 
 returns-6 : tie.Need-returns-6
-returns-6 c = key-past _ _ _ _ _ (c .before .before .before .before .before .before .before .before .before .before .before .before .pre .0 .ready .placed .passed) (heads-alone _ (heads-kind _ (c .before .before .before .before .before .before .before .before .before .before .before .before .pre .1 .1 .0 .0) (c .before .before .before .before .before .before .before .before .before .before .before .before .pre .1 .1 .0 .1) (sym (c .before .before .before .asks-no-head .ensures) ∙ not-false _ (c .before .before .if4 .left)))) (c .if6 .taken)
+returns-6 c = key-past _ _ _ _ _ (c .before .before .before .before .before .before .before .before .before .before .before .before .pre .0 .ready .placed .passed) (no-head-alone _ (no-head-kind _ (c .before .before .before .before .before .before .before .before .before .before .before .before .pre .1 .1 .0 .0) (c .before .before .before .before .before .before .before .before .before .before .before .before .pre .1 .1 .0 .1) (sym (c .before .before .before .asks-no-head .ensures) ∙ not-false _ (c .before .before .if4 .left)))) (c .if6 .taken)
 
 spread-atom-requires : tie.Need-spread-atom-requires
-spread-atom-requires c κs = (c .before .before .before .before .before .before .before .before .before .before .before .before .before .before .pre .0, (omega (arith, c .before .before .before .if5 .left, c .before .before .before .before .before .before .before .before .before .before .before .before .before .before .pre .1 .0), (omega (arith, c .narrow .ensures, c .before .before .if6 .left), heads-kind _ (c .before .before .before .before .before .before .before .before .before .before .before .before .before .before .pre .1 .1 .0 .0) (c .before .before .before .before .before .before .before .before .before .before .before .before .before .before .pre .1 .1 .0 .1) (sym (c .before .before .before .before .before .asks-no-head .ensures) ∙ not-false _ (c .before .before .before .before .if4 .left)))))
+spread-atom-requires c κs = (c .before .before .before .before .before .before .before .before .before .before .before .before .before .before .pre .0, (omega (arith, c .before .before .before .if5 .left, c .before .before .before .before .before .before .before .before .before .before .before .before .before .before .pre .1 .0), (omega (arith, c .narrow .ensures, c .before .before .if6 .left), no-head-kind _ (c .before .before .before .before .before .before .before .before .before .before .before .before .before .before .pre .1 .1 .0 .0) (c .before .before .before .before .before .before .before .before .before .before .before .before .before .before .pre .1 .1 .0 .1) (sym (c .before .before .before .before .before .asks-no-head .ensures) ∙ not-false _ (c .before .before .before .before .if4 .left)))))
 
 returns-7 : tie.Need-returns-7
-returns-7 c = key-atom _ _ _ _ _ _ (heads-alone _ (heads-kind _ (c .before .before .before .before .before .before .before .before .before .before .before .before .before .before .before .before .before .pre .1 .1 .0 .0) (c .before .before .before .before .before .before .before .before .before .before .before .before .before .before .before .before .before .pre .1 .1 .0 .1) (sym (c .before .before .before .before .before .before .before .before .asks-no-head .ensures) ∙ not-false _ (c .before .before .before .before .before .before .before .if4 .left)))) (subst (λ a. Spread (c .before .before .before .before .before .before .before .before .before .before .before .before .before .before .before .before .before .args .words .now) (c .before .before .before .before .before .before .before .before .before .before .before .before .before .before .before .before .before .args .marks .now) (c .before .before .before .before .before .before .before .before .before .before .before .before .before .before .before .before .before .args .flags .now) (c .before .before .spread-atom .last .1 .1 .1 .1 .1 .0) (c .before .before .before .before .before .before .before .before .before .before .before .before .before .before .before .before .before .args .kind) 0 a) (c .before .before .before .narrow .ensures) (c .before .before .spread-atom .ensures))
+returns-7 c = key-atom _ _ _ _ _ _ (no-head-alone _ (no-head-kind _ (c .before .before .before .before .before .before .before .before .before .before .before .before .before .before .before .before .before .pre .1 .1 .0 .0) (c .before .before .before .before .before .before .before .before .before .before .before .before .before .before .before .before .before .pre .1 .1 .0 .1) (sym (c .before .before .before .before .before .before .before .before .asks-no-head .ensures) ∙ not-false _ (c .before .before .before .before .before .before .before .if4 .left)))) (subst (λ a. Spread (c .before .before .before .before .before .before .before .before .before .before .before .before .before .before .before .before .before .args .words .now) (c .before .before .before .before .before .before .before .before .before .before .before .before .before .before .before .before .before .args .marks .now) (c .before .before .before .before .before .before .before .before .before .before .before .before .before .before .before .before .before .args .flags .now) (c .before .before .spread-atom .last .1 .1 .1 .1 .1 .0) (c .before .before .before .before .before .before .before .before .before .before .before .before .before .before .before .before .before .args .kind) 0 a) (c .before .before .before .narrow .ensures) (c .before .before .spread-atom .ensures))
 
 pub spread-key-spec : {M : Type 1} → statement M
 spread-key-spec =

@@ -1,6 +1,6 @@
 -- `passes`: by the kind.
 use mathlib.Core.Path.{sym, _∙_}
-use Rattle.step_conditions.proofs.Heads.{no-head-is, unfounded-is}
+use Rattle.step_conditions.proofs.Heads.{no-head-is, loop-atom-is}
 use Rattle.search_targets.proofs.Walks.{asked-heads}
 use borrow.Author.Needs.{needs}
 use Rattle.search_targets.proofs.passes.Statement.{statement}
@@ -19,7 +19,7 @@ returns-2 : tie.Need-returns-2
 returns-2 c = rw (c .before .if2 .taken) (c .has2 .ensures)
 
 returns-3 : tie.Need-returns-3
-returns-3 c = rw (c .before .if3 .taken) (c .unfounded .ensures ∙ unfounded-is _ _ _ _ _ (c .before .before .before .before .before .before .before .before .before .pre .0 .counted) (c .before .before .before .before .before .before .before .before .before .pre .0 .reached (c .before .if3 .taken)))
+returns-3 c = rw (c .before .if3 .taken) (c .loop-atom .ensures ∙ loop-atom-is _ _ _ _ _ (c .before .before .before .before .before .before .before .before .before .pre .0 .counted) (c .before .before .before .before .before .before .before .before .before .pre .0 .reached (c .before .if3 .taken)))
 
 returns-4 : tie.Need-returns-4
 returns-4 c =
