@@ -1,7 +1,6 @@
 -- Laws of asking: a call that is taken had every question answered yes, and what is said of every answer holds through the questions.
 use Prim.Native.Nat.{ℕ, _≤_}
 use mathlib.Core.Path.{_≡_, refl}
-use mathlib.Core.Logic.{_⊎_, inl}
 use mathlib.Core.Bool.{Bool, true, false}
 use native.Mathlib.Omega.{arith}
 use Rattle.answers.specs.declared.Refusal.{Refusal}
@@ -11,24 +10,20 @@ use Rattle.answers.specs.Refusals.{refusalPlace}
 use Rattle.answers.specs.Answers.{ask, Small}
 
 module _ {Q A B : Type 0} where
+  -- two answers behind one question: they are related where it stops them, and where it lets them through
+  pub ask-pair : (R : A → B → Type 0) (f : Q → A) (g : Q → B) (t : Bool) (q : Q) (a : A) (b : B) → R (f q) (g q) → R a b → R (ask f t q a) (ask g t q b)
+  unfolding ask
+  ask-pair R f g true q a b h k = k
+  ask-pair R f g false q a b h k = h
+
   -- a part of what is answered
   pub ask-part : (g : A → B) (stop : Q → A) (t : Bool) (q : Q) (a : A) → g (ask stop t q a) ≡ ask (λ q. g (stop q)) t q (g a)
-  unfolding ask
-  ask-part g stop true q a = refl
-  ask-part g stop false q a = refl
+  ask-part g stop t q a = ask-pair (λ x y. g x ≡ y) stop (λ q. g (stop q)) t q a (g a) refl refl
 
 module _ {Q A : Type 0} where
   -- what holds of both holds of the answer
   pub ask-both : (S : A → Type 0) (stop : Q → A) (t : Bool) (q : Q) (a : A) → S (stop q) → S a → S (ask stop t q a)
-  unfolding ask
-  ask-both S stop true q a h k = k
-  ask-both S stop false q a h k = h
-
-  -- two answers behind one question: they come to the same, or the first is what X says
-  pub ask-same : (X : A → Type 0) (stop : Q → A) (t : Bool) (q : Q) (a b : A) → (a ≡ b) ⊎ X a → (ask stop t q a ≡ ask stop t q b) ⊎ X (ask stop t q a)
-  unfolding ask
-  ask-same X stop true q a b h = h
-  ask-same X stop false q a b h = inl refl
+  ask-both S stop t q a h k = ask-pair (λ x y. S x) stop stop t q a a h k
 
 -- a refusal is no value
 pub refused-taken : (r : Refusal) (k : ℕ) → Refused r ≡ Accepted k → ⊥

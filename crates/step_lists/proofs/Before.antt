@@ -19,7 +19,7 @@ use Rattle.answers.specs.declared.Answer.{Answer}
 use Rattle.answers.specs.declared.Answer.the-variants.{Accepted, Refused}
 use Rattle.answers.specs.Refusals.{refusalNumber}
 use Rattle.answers.specs.Answers.{ask}
-use Rattle.answers.proofs.Asked.{ask-both, ask-same}
+use Rattle.answers.proofs.Asked.{ask-pair, ask-both}
 use Rattle.table.specs.declared.Checked.{Checked}
 use Rattle.table.specs.declared.Checked.the-variants as checked
 use Rattle.table.specs.Questions.{tableOf, onTable}
@@ -28,6 +28,7 @@ use Rattle.table.specs.View.{view, allKept}
 use Rattle.table.specs.Effects.{marksAfter}
 use Rattle.table.proofs.Refused.{table-refused}
 use Rattle.step_questions.specs.Questions.{kindKnown, shapeQuestions, conditionQuestions, stepQuestions}
+use Rattle.step_questions.proofs.Laws.{shape-pair}
 use Rattle.step_lists.specs.Lists.{Outcome, leaving, stepsFrom, listFits, checkList}
 
 -- ---- the definition that was there
@@ -58,29 +59,28 @@ checkBefore ws ms ls =
 abbrev pub At32 : Outcome → Type 0
 At32 o = (k : ℕ) × (o .answer ≡ Refused (Step AtomHeaded k))
 
-module _ (n : ℕ) (P : Marked) (s : steps.Step) (ms : List ℕ) (k : ℕ) (a b : Outcome) (h : (a ≡ b) ⊎ At32 a) where
+-- what is answered now, beside what was answered
+abbrev Now : Outcome → Outcome → Type 0
+Now a b = (a ≡ b) ⊎ At32 a
+
+module _ (n : ℕ) (P : Marked) (s : steps.Step) (ms : List ℕ) (k : ℕ) (a b : Outcome) (h : Now a b) where
   abbrev stop : StepQuestion → Outcome
   stop q = leaving ms (Step q k)
 
   -- 32 and 16, with what follows them
-  condition-on : (x : Bool) → atomHeaded P s ≡ x → (conditionQuestions stop P s a ≡ ask stop (conditionBefore P s) ConditionHolds b) ⊎ At32 (conditionQuestions stop P s a)
+  condition-on : (x : Bool) → atomHeaded P s ≡ x → Now (conditionQuestions stop P s a) (ask stop (conditionBefore P s) ConditionHolds b)
   unfolding conditionQuestions ask
   condition-on true e =
       let q = ap (λ x. ask stop x AtomHeaded (ask stop (conditionHolds P s) ConditionHolds a)) e in
       ⊎-elim (λ r. inl (q ∙ r ∙ ap (λ c. ask stop c ConditionHolds b) (condition-same P s e))) (λ (j, r). inr (j, ap (λ o. o .answer) q ∙ r))
-      (ask-same At32 stop (conditionHolds P s) ConditionHolds a b h)
+      (ask-pair Now stop stop (conditionHolds P s) ConditionHolds a b (inl refl) h)
   condition-on false e = inr (k, ap (λ x. ask stop x AtomHeaded (ask stop (conditionHolds P s) ConditionHolds a) .answer) e)
 
-  step-on : (j : ℕ) → (stepQuestions stop n P j s a ≡ questionsBefore stop n P j s b) ⊎ At32 (stepQuestions stop n P j s a)
-  unfolding stepQuestions shapeQuestions questionsBefore
-  step-on j =
-      ask-same At32 stop (kindKnown j) KindKnown _ _
-      (ask-same At32 stop (targetKept P s) TargetKept _ _
-      (ask-same At32 stop (partnerKept P s) PartnerKept _ _
-      (ask-same At32 stop (atomKnown n s) AtomKnown _ _
-      (ask-same At32 stop (atomMatches P s) AtomMatches _ _ (condition-on (atomHeaded P s) refl)))))
+  step-on : (j : ℕ) → Now (stepQuestions stop n P j s a) (questionsBefore stop n P j s b)
+  unfolding stepQuestions questionsBefore
+  step-on j = shape-pair Now stop stop (λ q. inl refl) n P j s _ _ (condition-on (atomHeaded P s) refl)
 
-steps-on : (ws ls : List ℕ) (left k : ℕ) (ms : List ℕ) → (stepsFrom ws ms ls k left ≡ stepsBefore ws ms ls k left) ⊎ At32 (stepsFrom ws ms ls k left)
+steps-on : (ws ls : List ℕ) (left k : ℕ) (ms : List ℕ) → Now (stepsFrom ws ms ls k left) (stepsBefore ws ms ls k left)
 unfolding stepsFrom stepsBefore
 steps-on ws ls zero k ms = inl refl
 steps-on ws ls (suc left) k ms = step-on (getD ws 0 0) (view ws ms) (stepAt ls k) ms k _ _ (steps-on ws ls left (k + 1) (marksAfter ws ms (stepAt ls k))) (kindAt ls k)
@@ -89,10 +89,10 @@ steps-on ws ls (suc left) k ms = step-on (getD ws 0 0) (view ws ms) (stepAt ls k
 pub checked-on : (ws ms ls : List ℕ) → (checkList ws ms ls ≡ checkBefore ws ms ls) ⊎ At32 (checkList ws ms ls)
 unfolding checkList checkBefore onTable
 checked-on ws ms ls = table (tableOf ws)
-    (ask-same At32 (leaving ms) (leb (length ws) (length ms)) (Call MarksLength) _ _
-    (ask-same At32 (leaving ms) (listFits ls) (Call ListLength) _ _ (steps-on ws ls (length ls / 4) 0 (allKept ws ms))))
+    (ask-pair Now (leaving ms) (leaving ms) (leb (length ws) (length ms)) (Call MarksLength) _ _ (inl refl)
+    (ask-pair Now (leaving ms) (leaving ms) (listFits ls) (Call ListLength) _ _ (inl refl) (steps-on ws ls (length ls / 4) 0 (allKept ws ms))))
   where
-    table : (c : Checked) {a b : Outcome} → (a ≡ b) ⊎ At32 a → (onTable (leaving ms) c a ≡ onTable (leaving ms) c b) ⊎ At32 (onTable (leaving ms) c a)
+    table : (c : Checked) {a b : Outcome} → Now a b → Now (onTable (leaving ms) c a) (onTable (leaving ms) c b)
     table (checked.Valid t) h = h
     table (checked.Refused r) h = inl refl
 

@@ -1,7 +1,7 @@
--- Laws of a step: its questions in order, and what is known from step to step.
+-- Laws of a step: its questions in their order, and what they come to.
 use mathlib.Core.Path.{_≡_, refl, sym, ap, subst, _∙_}
 use mathlib.Core.Logic.{by-cases}
-use mathlib.Core.Bool.{Bool, true, false, not, cond, _&&_, So, false≢true, true≢false}
+use mathlib.Core.Bool.{Bool, true, false, not, cond, _&&_, So}
 use mathlib.Core.List.{List}
 use Prim.Native.Nat.{ℕ, _≤_, _<_}
 use native.Mathlib.Omega.{arith}
@@ -9,13 +9,11 @@ use native.Mathlib.Decide.{ℕ-discrete}
 use lib.Dec.{eqb, ltb, leb}
 use lib.ListN.{length, getD, List·getD-eq-default}
 use borrow.Author.Tests.{le-leb, lt-leb, leb-true, eq-eqb, ne-eqb}
-use Rattle.semantics.proofs.Tests.{and-iff, not-so}
+use Rattle.semantics.proofs.Tests.{and-iff}
 use Rattle.rewriting.specs.Marked.{Marked, gone, entry, left}
 use Rattle.rewriting.specs.Steps.{inNoHead, targetKept, partnerKept, atomKnown, atomMatches, atomHeaded, condition, conditionHolds, applies}
 use Rattle.rewriting.specs.Kinds.{number, kindOf, usesPartner, usesAtom}
-use Rattle.rewriting.specs.Uses.{drops, asksHeads}
 use Rattle.rewriting.proofs.Left.{kept-lt}
-use Rattle.rewriting.proofs.Effect.{target-kept}
 use Rattle.step_kinds.proofs.Numbers.{kind-number}
 use Rattle.rewriting.proofs.Search.{partner-lt}
 use Rattle.answers.specs.declared.StepQuestion.{StepQuestion}
@@ -24,22 +22,40 @@ use Rattle.table.specs.View.{view}
 use Rattle.table.specs.Effects.{marksAfter}
 use Rattle.table.proofs.View.{length-view}
 use Rattle.step_parts.specs.declared.Single.the-variants.{One, Other}
-use Rattle.step_parts.specs.Parts.{singleOf, Ready}
+use Rattle.step_parts.specs.Parts.{singleOf}
 use Rattle.step_reach.specs.Bytes.{Reached}
 use Rattle.step_conditions.specs.declared.Step.{Step}
-use Rattle.step_conditions.specs.Known.{stepOf, Heads, Tallied, Known}
-use Rattle.step_conditions.proofs.After.{heads-stay, heads-lowered, reached-stays, reached-idle}
+use Rattle.step_conditions.specs.Known.{stepOf, Heads, Known}
 use Rattle.step_conditions.proofs.Heads.{no-head-is}
-use Rattle.step_conditions.proofs.Tests.{single-one, single-other, step-fits}
+use Rattle.step_conditions.proofs.Tests.{single-one, single-other}
 use Rattle.step_questions.specs.declared.Verdict.{Verdict}
 use Rattle.step_questions.specs.declared.Verdict.the-variants.{Fine, No}
 use Rattle.step_questions.specs.declared.Memo.{Memo}
 use Rattle.step_questions.specs.declared.Taken.the-variants.{Made, Not}
 use Rattle.answers.specs.Answers.{ask}
-use Rattle.answers.proofs.Asked.{ask-both}
+use Rattle.answers.proofs.Asked.{ask-pair}
 use Rattle.rewriting.specs.Steps as steps
 use Rattle.step_questions.specs.Questions.{kindKnown, shapeQuestions, conditionQuestions, stepQuestions}
-use Rattle.step_questions.specs.Verdicts.{shapeOf, conditionOf, verdictAt, Shaped, Counted, Found, Holding, Ready-for, Reach-stays, Step-taken}
+use Rattle.step_questions.specs.Verdicts.{shapeOf, conditionOf, verdictAt, Shaped, Holding, Reach-stays, Step-taken}
+
+-- ---- two answers to one step
+
+-- What relates them wherever a question stops them, and in what follows, relates them.
+module _ {A B : Type 0} (R : A → B → Type 0) (f : StepQuestion → A) (g : StepQuestion → B) (h : (q : StepQuestion) → R (f q) (g q)) (n : ℕ) (P : Marked) (k : ℕ) (s : steps.Step) where
+  pub shape-pair : (a : A) (b : B) → R a b → R (shapeQuestions f n P k s a) (shapeQuestions g n P k s b)
+  unfolding shapeQuestions
+  shape-pair a b x =
+      ask-pair R f g (kindKnown k) KindKnown _ _ (h KindKnown)
+      (ask-pair R f g (targetKept P s) TargetKept _ _ (h TargetKept)
+      (ask-pair R f g (partnerKept P s) PartnerKept _ _ (h PartnerKept)
+      (ask-pair R f g (atomKnown n s) AtomKnown _ _ (h AtomKnown)
+      (ask-pair R f g (atomMatches P s) AtomMatches a b (h AtomMatches) x))))
+
+  pub questions-pair : (a : A) (b : B) → R a b → R (stepQuestions f n P k s a) (stepQuestions g n P k s b)
+  unfolding stepQuestions conditionQuestions
+  questions-pair a b x = shape-pair _ _
+      (ask-pair R f g (atomHeaded P s) AtomHeaded _ _ (h AtomHeaded)
+      (ask-pair R f g (conditionHolds P s) ConditionHolds a b (h ConditionHolds) x))
 
 -- ---- kinds by their numbers
 
@@ -130,11 +146,6 @@ unfolding ask
 ask-inv true q v e = (refl, e)
 ask-inv false q v e = let z : _≡_ {A = ℕ} 0 1 = cc in absurd (omega arith)
 
-ask-no : (b : Bool) (q r : StepQuestion) (v w : Verdict) → (No r ≡ v → No r ≡ w) → No r ≡ ask No b q v → No r ≡ ask No b q w
-unfolding ask
-ask-no true q r v w f e = f e
-ask-no false q r v w f e = e
-
 module _ (n : ℕ) (P : Marked) (s : Step) where
   pub shape-both : (v : Verdict) → Fine ≡ shapeOf n P s v → Shaped n P s × (v ≡ Fine)
   unfolding shapeQuestions
@@ -151,8 +162,7 @@ module _ (n : ℕ) (P : Marked) (s : Step) where
   shape-inv e = shape-both Fine e .0
 
   shape-no : (q : StepQuestion) (v : Verdict) → No q ≡ shapeOf n P s Fine → No q ≡ shapeOf n P s v
-  unfolding shapeQuestions
-  shape-no q v e = ask-no (kindKnown (s .kind)) KindKnown q _ _ (ask-no (targetKept P (stepOf s)) TargetKept q _ _ (ask-no (partnerKept P (stepOf s)) PartnerKept q _ _ (ask-no (atomKnown n (stepOf s)) AtomKnown q _ _ (ask-no (atomMatches P (stepOf s)) AtomMatches q Fine v (λ z. let y : _≡_ {A = ℕ} 0 1 = cc in absurd (omega arith)))))) e
+  shape-no q v = shape-pair (λ x y. No q ≡ x → No q ≡ y) No No (λ r e. e) n P (s .kind) (stepOf s) Fine v (λ e. let z : _≡_ {A = ℕ} 0 1 = cc in absurd (omega arith))
 
   shape-on : Shaped n P s → (v : Verdict) → v ≡ shapeOf n P s v
   shape-on h v = shape-fine n P s v (known-kind (s .kind) (h .low) (h .high)) (h .target) (h .partner) (h .atom) (h .matches)
@@ -217,45 +227,9 @@ pub holds-is : (P : Marked) (s : Step) (t p : ℕ) (r : Bool) → t ≡ s .targe
 unfolding conditionHolds
 holds-is P s t p r a b e = e ∙ rw (a, b)
 
--- ---- what is known from step to step
-
-pub none-asked : {A : Type 0} (b : Bool) → b ≡ false → (false ≡ true → A) × (So b → false ≡ true)
-none-asked b e = (λ x. absurd (false≢true x), λ x. absurd (true≢false (sym x ∙ e)))
-
-pub ready-for : (k : ℕ) (ws ms hs rs : List ℕ) (a b : Bool) → Counted k ws ms hs a → Found k ws ms rs b → Ready-for k ws ms hs rs (record { heads = a; reached = b })
-ready-for k ws ms hs rs a b h r = record { holding = record { heads = h .0; reached = r .0 }; known = record { heads = λ x. h .0 (h .1 x); reached = λ x. r .0 (r .1 x) } }
-
--- what a step leaves known, and the marks after it
-abbrev Left-known : List ℕ → List ℕ → Step → Memo → List ℕ → List ℕ → Memo → Type 0
-Left-known ws ms s m ms′ hs′ m′ = (ms′ ≡ marksAfter ws ms (stepOf s)) × ((m′ .heads ≡ true → Heads ws ms′ hs′) × Reach-stays ws ms ms′ m m′)
-
-module _ (ws ms index : List ℕ) (r : Ready ws ms index) (s : Step) (ok : So (applies (getD ws 0 0) (view ws ms) (stepOf s))) where
-  pub target-fits : (t : ℕ) → t ≡ s .target → (t < getD ws 1 0) × So (entry (view ws ms) t .kept)
-  target-fits t e = rw e (step-fits (getD ws 0 0) ws ms (stepOf s) ok .0, target-kept (getD ws 0 0) (view ws ms) (stepOf s) ok)
-
-  module _ (ms′ hs : List ℕ) (m : Memo) (e : ms′ ≡ marksAfter ws ms (stepOf s)) (k : m .heads ≡ true → Heads ws ms hs) where
-    pub after-drop : drops (kindOf (s .kind)) ≡ true → Left-known ws ms s m ms′ hs m
-    after-drop d = (
-      e,
-      (
-        λ q. rw e (heads-stay ws ms (r .placed .passed) (r .marks) (getD ws 0 0) (stepOf s) ok d hs (k q)),
-        record { stays = λ rs g q. rw e (reached-stays ws ms (r .placed .passed) (r .marks) (getD ws 0 0) (stepOf s) ok d rs (g q)) },
-      ),
-    )
-
-    module _ (t : ℕ) (z : t ≡ s .target) (d : drops (kindOf (s .kind)) ≡ false) (hs′ : List ℕ) (f : m .heads ≡ true → Tallied (entry (view ws ms) t .clause .head) hs′ hs) where
-      lowered : m .heads ≡ true → Heads ws ms′ hs′
-      lowered q = rw e (heads-lowered ws ms (r .placed .passed) (r .marks) (getD ws 0 0) (stepOf s) ok (not-so d) hs hs′ (k q) (subst (λ i. Tallied (entry (view ws ms) i .clause .head) hs′ hs) z (f q)))
-
-      pub after-idle : asksHeads (kindOf (s .kind)) ≡ true → Left-known ws ms s m ms′ hs′ m
-      after-idle x = (e, (lowered, record { stays = λ rs g q. rw e (reached-idle ws ms (r .placed .passed) (r .marks) (getD ws 0 0) (stepOf s) ok (not-so d) x rs (g q)) }))
-
-      pub after-deletion : Left-known ws ms s m ms′ hs′ (record { heads = m .heads; reached = false })
-      after-deletion = (e, (lowered, record { stays = λ rs g q. absurd (false≢true q) }))
-
 -- ---- a step
 
-module _ (ws ms index : List ℕ) (r : Ready ws ms index) (s : Step) where
+module _ (ws ms : List ℕ) (s : Step) where
   abbrev P : Marked
   P = view ws ms
 
@@ -279,33 +253,9 @@ module _ {A : Type 0} (stop : StepQuestion → A) (go : A) where
   onVerdict Fine = go
   onVerdict (No q) = stop q
 
-  on-go : go ≡ onVerdict Fine
-  unfolding onVerdict
-  on-go = refl
-
-  ask-verdict : (b : Bool) (q : StepQuestion) (v : Verdict) → ask stop b q (onVerdict v) ≡ onVerdict (ask No b q v)
-  unfolding ask onVerdict
-  ask-verdict true q v = refl
-  ask-verdict false q v = refl
-
   pub by-verdict : (n : ℕ) (P : Marked) (s : Step) → stepQuestions stop n P (s .kind) (stepOf s) go ≡ onVerdict (verdictAt n P s)
-  unfolding stepQuestions shapeQuestions conditionQuestions
-  by-verdict n P s =
-      let k = kindKnown (s .kind) in
-      let t = targetKept P (stepOf s) in
-      let p = partnerKept P (stepOf s) in
-      let a = atomKnown n (stepOf s) in
-      let b = atomMatches P (stepOf s) in
-      let d = atomHeaded P (stepOf s) in
-      let c = conditionHolds P (stepOf s) in
-      ap (λ x. ask stop k KindKnown (ask stop t TargetKept (ask stop p PartnerKept (ask stop a AtomKnown (ask stop b AtomMatches (ask stop d AtomHeaded (ask stop c ConditionHolds x))))))) on-go
-      ∙ ap (λ x. ask stop k KindKnown (ask stop t TargetKept (ask stop p PartnerKept (ask stop a AtomKnown (ask stop b AtomMatches (ask stop d AtomHeaded x)))))) (ask-verdict c ConditionHolds Fine)
-      ∙ ap (λ x. ask stop k KindKnown (ask stop t TargetKept (ask stop p PartnerKept (ask stop a AtomKnown (ask stop b AtomMatches x))))) (ask-verdict d AtomHeaded _)
-      ∙ ap (λ x. ask stop k KindKnown (ask stop t TargetKept (ask stop p PartnerKept (ask stop a AtomKnown x)))) (ask-verdict b AtomMatches _)
-      ∙ ap (λ x. ask stop k KindKnown (ask stop t TargetKept (ask stop p PartnerKept x))) (ask-verdict a AtomKnown _)
-      ∙ ap (λ x. ask stop k KindKnown (ask stop t TargetKept x)) (ask-verdict p PartnerKept _)
-      ∙ ap (ask stop k KindKnown) (ask-verdict t TargetKept _)
-      ∙ ask-verdict k KindKnown _
+  unfolding onVerdict
+  by-verdict n P s = questions-pair (λ x v. x ≡ onVerdict v) stop No (λ q. refl) n P (s .kind) (stepOf s) go Fine refl
 
   pub on-fine : (n : ℕ) (P : Marked) (s : Step) → verdictAt n P s ≡ Fine → stepQuestions stop n P (s .kind) (stepOf s) go ≡ go
   unfolding onVerdict
@@ -317,15 +267,7 @@ module _ {A : Type 0} (stop : StepQuestion → A) (go : A) where
 
 -- what holds of every refusal and of what follows
 pub questions-all : {A : Type 0} (S : A → Type 0) (stop : StepQuestion → A) (n : ℕ) (P : Marked) (k : ℕ) (s : steps.Step) (go : A) → ((q : StepQuestion) → S (stop q)) → S go → S (stepQuestions stop n P k s go)
-unfolding stepQuestions shapeQuestions conditionQuestions
-questions-all S stop n P k s go h g =
-    ask-both S stop (kindKnown k) KindKnown _ (h KindKnown)
-    (ask-both S stop (targetKept P s) TargetKept _ (h TargetKept)
-    (ask-both S stop (partnerKept P s) PartnerKept _ (h PartnerKept)
-    (ask-both S stop (atomKnown n s) AtomKnown _ (h AtomKnown)
-    (ask-both S stop (atomMatches P s) AtomMatches _ (h AtomMatches)
-    (ask-both S stop (atomHeaded P s) AtomHeaded _ (h AtomHeaded)
-    (ask-both S stop (conditionHolds P s) ConditionHolds _ (h ConditionHolds) g))))))
+questions-all S stop n P k s go h = questions-pair (λ x y. S x) stop stop h n P k s go go
 
 -- A step that no question is answered no of is applicable.
 pub fine-applies : (n : ℕ) (P : Marked) (s : Step) → Fine ≡ verdictAt n P s → So (applies n P (stepOf s))

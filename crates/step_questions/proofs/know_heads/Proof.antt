@@ -1,7 +1,7 @@
 -- `step_questions::know_heads` meets its contract.
 use mathlib.Core.Path.{refl, sym, _∙_}
 use borrow.Author.Tests.{not-true}
-use Rattle.step_questions.proofs.Laws.{none-asked}
+use Rattle.step_questions.proofs.Known.{none-asked}
 use borrow.Author.Needs.{needs}
 use Rattle.step_questions.proofs.know_heads.Statement.{statement}
 use Rattle.step_questions.proofs.know_heads.Tie as tie

@@ -1,6 +1,6 @@
 -- `step_questions::make` meets its contract: what is known after a drop, after a failure or a loop step, and after another deletion.
 use mathlib.Core.Path.{sym, _∙_}
-use Rattle.step_questions.proofs.Laws.{target-fits, after-drop, after-idle, after-deletion}
+use Rattle.step_questions.proofs.Known.{target-fits, after-drop, after-idle, after-deletion}
 use borrow.Author.Needs.{needs}
 use Rattle.step_questions.proofs.make.Statement.{statement}
 use Rattle.step_questions.proofs.make.Tie as tie

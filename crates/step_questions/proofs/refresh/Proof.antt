@@ -1,5 +1,5 @@
 -- `step_questions::refresh` meets its contract.
-use Rattle.step_questions.proofs.Laws.{ready-for}
+use Rattle.step_questions.proofs.Known.{ready-for}
 use borrow.Author.Needs.{needs}
 use Rattle.step_questions.proofs.refresh.Statement.{statement}
 use Rattle.step_questions.proofs.refresh.Tie as tie
