@@ -38,24 +38,17 @@ use Rattle.rewriting.specs.Steps as steps
 use Rattle.step_questions.specs.Questions.{kindKnown, shapeQuestions, conditionQuestions, stepQuestions}
 use Rattle.step_questions.specs.Verdicts.{shapeOf, conditionOf, verdictAt, Shaped, Holding, Reach-stays, Step-taken}
 
--- ---- two answers to one step
+-- ---- two answers to one step: what relates them wherever a question stops them, and in what follows, relates them
 
--- What relates them wherever a question stops them, and in what follows, relates them.
-module _ {A B : Type 0} (R : A → B → Type 0) (f : StepQuestion → A) (g : StepQuestion → B) (h : (q : StepQuestion) → R (f q) (g q)) (n : ℕ) (P : Marked) (k : ℕ) (s : steps.Step) where
-  pub shape-pair : (a : A) (b : B) → R a b → R (shapeQuestions f n P k s a) (shapeQuestions g n P k s b)
-  unfolding shapeQuestions
-  shape-pair a b x =
-      ask-pair R f g (kindKnown k) KindKnown _ _ (h KindKnown)
-      (ask-pair R f g (targetKept P s) TargetKept _ _ (h TargetKept)
-      (ask-pair R f g (partnerKept P s) PartnerKept _ _ (h PartnerKept)
-      (ask-pair R f g (atomKnown n s) AtomKnown _ _ (h AtomKnown)
-      (ask-pair R f g (atomMatches P s) AtomMatches a b (h AtomMatches) x))))
-
-  pub questions-pair : (a : A) (b : B) → R a b → R (stepQuestions f n P k s a) (stepQuestions g n P k s b)
-  unfolding stepQuestions conditionQuestions
-  questions-pair a b x = shape-pair _ _
-      (ask-pair R f g (atomHeaded P s) AtomHeaded _ _ (h AtomHeaded)
-      (ask-pair R f g (conditionHolds P s) ConditionHolds a b (h ConditionHolds) x))
+pub shape-pair : {A B : Type 0} (R : A → B → Type 0) (f : StepQuestion → A) (g : StepQuestion → B) → ((q : StepQuestion) → R (f q) (g q))
+    → (n : ℕ) (P : Marked) (k : ℕ) (s : steps.Step) (a : A) (b : B) → R a b → R (shapeQuestions f n P k s a) (shapeQuestions g n P k s b)
+unfolding shapeQuestions
+shape-pair R f g h n P k s a b x =
+    ask-pair R f g (kindKnown k) KindKnown _ _ (h KindKnown)
+    (ask-pair R f g (targetKept P s) TargetKept _ _ (h TargetKept)
+    (ask-pair R f g (partnerKept P s) PartnerKept _ _ (h PartnerKept)
+    (ask-pair R f g (atomKnown n s) AtomKnown _ _ (h AtomKnown)
+    (ask-pair R f g (atomMatches P s) AtomMatches a b (h AtomMatches) x))))
 
 -- ---- kinds by their numbers
 
@@ -247,6 +240,14 @@ module _ (ws ms : List ℕ) (s : Step) where
   made ms′ hs′ rs m m′ h c e k f g = record { verdict = verdict-last n P s h Fine c; marks = e; holding = λ x z. let y : x ≡ m′ = cc in subst (Holding ws ms′ hs′ rs) (sym y) (record { heads = f; reached = g .stays rs k }) }
 
 -- ---- a verdict, whatever follows the questions
+
+-- the whole of the questions, as `shape-pair` has those before 32
+pub questions-pair : {A B : Type 0} (R : A → B → Type 0) (f : StepQuestion → A) (g : StepQuestion → B) → ((q : StepQuestion) → R (f q) (g q))
+    → (n : ℕ) (P : Marked) (k : ℕ) (s : steps.Step) (a : A) (b : B) → R a b → R (stepQuestions f n P k s a) (stepQuestions g n P k s b)
+unfolding stepQuestions conditionQuestions
+questions-pair R f g h n P k s a b x = shape-pair R f g h n P k s _ _
+    (ask-pair R f g (atomHeaded P s) AtomHeaded _ _ (h AtomHeaded)
+    (ask-pair R f g (conditionHolds P s) ConditionHolds a b (h ConditionHolds) x))
 
 module _ {A : Type 0} (stop : StepQuestion → A) (go : A) where
   unfoldable pub onVerdict : Verdict → A
