@@ -12,7 +12,8 @@ use Rattle.semantics.proofs.Decide.{test-iff}
 use Rattle.table.specs.Encoding.{Ordered}
 use Rattle.sorting.specs.Sorting.{below}
 use Rattle.models_words.specs.Words.{word, setOfWord, entriesOf, stableWord, modelsOf}
-use Rattle.sorting.proofs.Ascending.{keep-ascends, ascending-same, below-in, below-lt, below-ascends}
+use Rattle.semantics.proofs.Ascending.{ascending-same}
+use Rattle.sorting.proofs.Ascending.{keep-ascends, below-in, below-lt, below-ascends}
 use Rattle.models_words.proofs.Sets.{entries-word, among-entries, set-inj, word-of-set}
 
 module _ (P : Program) where

@@ -10,7 +10,7 @@ use native.Mathlib.Numerals.{one-add}
 use lib.ListN.{length}
 use lib.Pow.{pow-mono, mod-pow-add}
 use borrow.Author.Tests.{eqb-true}
-use Rattle.semantics.specs.Lists.{bit, _∈_, keep, ascending}
+use Rattle.semantics.specs.Lists.{bit, _∈_, keep}
 use Rattle.semantics.specs.Programs.{Atoms, among}
 use Rattle.semantics.proofs.Tests.{mem-iff, keep-iff}
 use Rattle.semantics.proofs.Decide.{keep-is}
@@ -18,7 +18,8 @@ use Rattle.table.specs.Encoding.{Ordered}
 use Rattle.models_masks.specs.Masks.{maskOf}
 use Rattle.models_masks.proofs.Bits.{bit-odd, mask-bound, mask-inj}
 use Rattle.sorting.specs.Sorting.{below}
-use Rattle.sorting.proofs.Ascending.{keep-ascends, ascending-same, below-in, below-lt, below-ascends, length-below, keep-append}
+use Rattle.semantics.proofs.Ascending.{ascending-same}
+use Rattle.sorting.proofs.Ascending.{keep-ascends, below-in, below-lt, below-ascends, length-below, keep-append}
 use Rattle.models_words.specs.Words.{word, setOfWord, entriesOf}
 
 mask-last : (l : List ℕ) (a : ℕ) (M : Atoms) → maskOf (l ++ a ∷ []) M ≡ maskOf l M + bit (M a) * 2 ^ length l

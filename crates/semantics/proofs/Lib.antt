@@ -1,3 +1,4 @@
 pub mod Tests
+pub mod Ascending
 pub mod Models
 pub mod Decide

@@ -2,13 +2,13 @@
 use mathlib.Core.Path.{_≡_, refl, sym, ap, subst, _∙_}
 use mathlib.Core.Logic.{_↔_, _≢_, _⊎_, inl, inr}
 use mathlib.Core.Bool.{Bool, true, false, not, cond, _&&_, _||_, So, true≢false, false≢true}
-use mathlib.Core.List.{List, [], _∷_, List·Memᴰ·head, List·Memᴰ·tail, List·Memᴰ·cases-cons, Memᴰ·cast, cons≢nil}
+use mathlib.Core.List.{List, [], _∷_, List·Memᴰ·head, List·Memᴰ·tail, List·Memᴰ·cases-cons, Memᴰ·cast, nil≢cons, cons≢nil, cons-eq-cons}
 use Prim.Native.Nat.{ℕ, suc, _≤_, _<_}
 use native.Mathlib.Omega.{arith}
 use lib.Dec.{eqb, ltb}
 use lib.ListN.{length}
 use borrow.Author.Tests.{eqb-true, eq-eqb, ne-eqb, ltb-true}
-use Rattle.semantics.specs.Lists.{bit, _∈_, any, all, null, keep, count, mem, within, without, ascending}
+use Rattle.semantics.specs.Lists.{bit, _∈_, any, all, null, keep, count, mem, within, without, same, ascending}
 
 -- ---- tests
 
@@ -143,6 +143,16 @@ pub null-iff : {A : Type 0} (l : List A) → So (null l) ↔ (l ≡ [])
 null-iff [] = (λ h. refl, λ h. refl)
 null-iff (x ∷ l) = (λ h. absurd (false≢true h), λ h. absurd (cons≢nil h))
 
+pub same-iff : (k l : List ℕ) → So (same k l) ↔ (k ≡ l)
+unfolding same
+same-iff [] [] = (λ h. refl, λ e. refl)
+same-iff [] (y ∷ l) = (λ h. absurd (false≢true h), λ e. absurd (nil≢cons e))
+same-iff (x ∷ k) [] = (λ h. absurd (false≢true h), λ e. absurd (cons≢nil e))
+same-iff (x ∷ k) (y ∷ l) = (
+  λ h. let w = and-iff (eqb x y) (same k l) .0 h in cons-eq-cons .1 (eqb-true x y (w .0), same-iff k l .0 (w .1)),
+  λ e. let w = cons-eq-cons .0 e in and-iff (eqb x y) (same k l) .1 (eq-eqb x y (w .0), same-iff k l .1 (w .1)),
+)
+
 -- ---- a number taken out of a list
 
 pub without-sub : (a b : ℕ) (l : List ℕ) → b ∈ without a l → b ∈ l
@@ -161,6 +171,14 @@ without-keeps a b (x ∷ l) m d = step (eqb a x) refl (λ k. without-keeps _ _ _
     step true q f (inr m) = f m
     step false q f (inl e) = List·Memᴰ·head e
     step false q f (inr m) = List·Memᴰ·tail (f m)
+
+pub without-out : (a : ℕ) (l : List ℕ) → ¬ (a ∈ without a l)
+without-out a (x ∷ l) m = step (eqb a x) refl (without-out a l) m
+  where
+    step : (t : Bool) → eqb a x ≡ t → ¬ (a ∈ without a l) → ¬ (a ∈ cond t (without a l) (x ∷ without a l))
+    step true q f m = f m
+    step false q f (List·Memᴰ·head e) = not-so q (eq-eqb _ _ e)
+    step false q f (List·Memᴰ·tail m) = f m
 
 pub without-none : (a : ℕ) (l : List ℕ) → ¬ (a ∈ l) → without a l ≡ l
 without-none a [] h = refl

@@ -50,6 +50,13 @@ abbrev pub without : ℕ → List ℕ → List ℕ
 without a [] = []
 without a (x ∷ l) = cond (eqb a x) (without a l) (x ∷ without a l)
 
+-- two lists have the same numbers in the same order
+unfoldable pub same : List ℕ → List ℕ → Bool
+same [] [] = true
+same [] (y ∷ l) = false
+same (x ∷ k) [] = false
+same (x ∷ k) (y ∷ l) = eqb x y && same k l
+
 -- each number is below all that follow it
 unfoldable pub ascending : List ℕ → Bool
 ascending [] = true
