@@ -86,7 +86,7 @@ pub record Demand3 (P : Program) (ms ls ks : List ℕ) : Type 0 where
   -- the call is taken: "Its result carries the number s of steps made"
   pub s : ℕ
   pub taken : call P ms ls .answer ≡ Accepted s
-  -- "The reducer always takes the applicable step that is smallest by kind, then target, partner, atom, until none applies."
+  -- "The reducer always takes the applicable step that is smallest by kind, then target, partner, atom, until none applies", but for those that slip 7 passes over
   pub steps : List Step
   pub order : Greedy (eligible (P .atoms)) (whole (P .clauses)) steps
   pub list : ownList P ms ls s ≡ wordsOf steps

@@ -3,10 +3,12 @@ use mathlib.Core.Path.{refl}
 use mathlib.Core.List.{List, [], _∷_}
 use lib.ListN.{replicate}
 use Rattle.semantics.specs.Programs.{satisfies, reduct, models}
+use Rattle.semantics.specs.Lists.{same}
 use Rattle.semantics.specs.Decide.{sublists, stableTest}
 use Rattle.rewriting.specs.Marked.{left}
 use Rattle.rewriting.specs.Reaches.{fire, reachFrom, reach}
 use Rattle.rewriting.specs.Steps.{inNoHead, condition, atomHeaded, conditionHolds, applies, effect}
+use Rattle.rewriting.specs.Reducer.{passedOver, eligible}
 use Rattle.rewriting.specs.Search.{least, firstAtom, firstPartner, firstTarget, firstStep, reduce}
 use Rattle.answers.specs.Answers.{ask}
 use Rattle.table.specs.StepWords.{wordsOf}
@@ -49,12 +51,12 @@ rows =
     ∷ row (said.checkCall (2 ∷ 1 ∷ 1 ∷ 0 ∷ 0 ∷ 0 ∷ []) (replicate 6 0) (8 ∷ 0 ∷ 0 ∷ 0 ∷ [])) (refusal 14 0)
     -- the empty clause alone: 5,0,0,0 likewise
     ∷ row (said.checkCall (2 ∷ 1 ∷ 0 ∷ 0 ∷ 0 ∷ []) (replicate 5 0) (5 ∷ 0 ∷ 0 ∷ 0 ∷ [])) (refusal 14 0)
-    -- 0. 0.: the reducer writes 8,0,1,0
-    ∷ writes (2 ∷ 2 ∷ 1 ∷ 0 ∷ 0 ∷ 0 ∷ 1 ∷ 0 ∷ 0 ∷ 0 ∷ []) (8 ∷ 0 ∷ 1 ∷ 0 ∷ [])
+    -- 0. 0.: "the reducer writes 8,0,1,0" in document 01; slip 7 of document 02: "The example 0. 0. gives 8,1,0,0."
+    ∷ writes (2 ∷ 2 ∷ 1 ∷ 0 ∷ 0 ∷ 0 ∷ 1 ∷ 0 ∷ 0 ∷ 0 ∷ []) (8 ∷ 1 ∷ 0 ∷ 0 ∷ [])
     -- 0 <- ~0.: no step
     ∷ writes (2 ∷ 1 ∷ 1 ∷ 0 ∷ 1 ∷ 0 ∷ 0 ∷ []) []
     ∷ []
 
 pub examples : AllSay rows
-unfolding satisfies reduct models sublists stableTest left fire reachFrom reach inNoHead condition atomHeaded conditionHolds applies effect least firstAtom firstPartner firstTarget firstStep reduce ask questions.atomsFrom questions.partsFrom questions.clauseFrom questions.clausesFrom questions.allUsed questions.tableOf startFrom clausesOf programOf part entryAt entriesFrom view find clears marksAfter sets.setOf sets.testOf turned leads cyclic cycles.cycleOf steps.shapeQuestions steps.conditionQuestions steps.stepQuestions lists.stepsFrom lists.checkList wordsOf reductions.bodyLiterals reductions.room reductions.stepsOf reductions.reduction marksAfterAll questions.onWalk questions.onTable
+unfolding satisfies reduct models sublists stableTest left fire reachFrom reach inNoHead condition atomHeaded conditionHolds applies effect same passedOver eligible least firstAtom firstPartner firstTarget firstStep reduce ask questions.atomsFrom questions.partsFrom questions.clauseFrom questions.clausesFrom questions.allUsed questions.tableOf startFrom clausesOf programOf part entryAt entriesFrom view find clears marksAfter sets.setOf sets.testOf turned leads cyclic cycles.cycleOf steps.shapeQuestions steps.conditionQuestions steps.stepQuestions lists.stepsFrom lists.checkList wordsOf reductions.bodyLiterals reductions.room reductions.stepsOf reductions.reduction marksAfterAll questions.onWalk questions.onTable
 examples = (refl, (refl, (refl, (refl, (refl, (refl, (refl, (refl, (refl, ((refl, refl), (refl, ((refl, refl), (refl, (refl, ((refl, refl), ((refl, refl), tt))))))))))))))))

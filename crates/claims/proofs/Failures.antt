@@ -19,7 +19,7 @@ use Rattle.rewriting.specs.Steps.{Step, targetKept, partnerKept, atomKnown, ato
 use Rattle.rewriting.proofs.Rows.{kindOf-number, Loops, loops, headed-no}
 use Rattle.rewriting.proofs.Reach.{inNoHead-iff, inHead-iff}
 use Rattle.rewriting.proofs.Effect.{asks}
-use Rattle.rewriting.proofs.Before.{appliesBefore, lists-as-before}
+use Rattle.rewriting.proofs.Before.{eligibleBefore, lists-as-before}
 use Rattle.rewriting.proofs.Greedy.{greedy-one}
 use Rattle.answers.specs.declared.Answer.the-variants.{Accepted, Refused}
 use Rattle.answers.specs.declared.Refusal.the-variants as refusal
@@ -137,11 +137,11 @@ loops-headed ws ms ls h k l e =
 
 -- ---- the reducer's list
 
--- "The reducer's lists already take 6 first": the list that takes the smallest step each time, of those that applied before, is one, and its words are the reducer's.
+-- "The reducer's lists already take 6 first": the list that takes the smallest step each time, of those that applied before and are not passed over, is one, and its words are the reducer's.
 pub record AsBefore (P : Program) (own : List ℕ) : Type 0 where
   pub steps : List Step
-  pub order : Greedy (appliesBefore (P .atoms)) (whole (P .clauses)) steps
-  pub only : (l : List Step) → Greedy (appliesBefore (P .atoms)) (whole (P .clauses)) l → l ≡ steps
+  pub order : Greedy (eligibleBefore (P .atoms)) (whole (P .clauses)) steps
+  pub only : (l : List Step) → Greedy (eligibleBefore (P .atoms)) (whole (P .clauses)) l → l ≡ steps
   pub words : own ≡ wordsOf steps
 
 pub list-as-before : (P : Program) → Within P → (ms ls : List ℕ) → length (encode P) ≤ length ms → 4 * room (encode P) ≤ length ls → (s : ℕ) → call P ms ls .answer ≡ Accepted s → AsBefore P (ownList P ms ls s)
@@ -149,4 +149,4 @@ list-as-before P w ms ls a b s h =
     let d = demand-3 P w ms ls ms a b a in
     let g = lists-as-before (P .atoms) (whole (P .clauses)) (d .steps) .0 (d .order) in
     let e : d .s ≡ s = let z = sym (d .taken) ∙ h in cc in
-    record { steps = d .steps; order = g; only = λ l f. greedy-one (appliesBefore (P .atoms)) f g; words = subst (λ i. ownList P ms ls i ≡ wordsOf (d .steps)) e (d .list) }
+    record { steps = d .steps; order = g; only = λ l f. greedy-one (eligibleBefore (P .atoms)) f g; words = subst (λ i. ownList P ms ls i ≡ wordsOf (d .steps)) e (d .list) }

@@ -9,6 +9,7 @@ pub mod Models
 pub mod Digits
 pub mod TextLists
 pub mod Failures
+pub mod EqualClauses
 pub mod OpenSteps
 pub mod Refusals
 pub mod Said

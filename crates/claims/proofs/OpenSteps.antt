@@ -2,9 +2,11 @@
 -- each worked out by hand: at each step the kinds in order, then targets, partners and atoms, on the clauses as left.
 use mathlib.Core.Path.{refl}
 use mathlib.Core.List.{List, [], _∷_}
+use Rattle.semantics.specs.Lists.{same}
 use Rattle.rewriting.specs.Marked.{left}
 use Rattle.rewriting.specs.Reaches.{fire, reachFrom, reach}
 use Rattle.rewriting.specs.Steps.{inNoHead, condition, conditionHolds, applies, effect}
+use Rattle.rewriting.specs.Reducer.{passedOver, eligible}
 use Rattle.rewriting.specs.Search.{least, firstAtom, firstPartner, firstTarget, firstStep, reduce}
 use Rattle.answers.specs.Answers.{ask}
 use Rattle.table.specs.StepWords.{wordsOf}
@@ -25,8 +27,8 @@ rows =
     ∷ writes (2 ∷ 3 ∷ 2 ∷ 0 ∷ 0 ∷ 0 ∷ 1 ∷ 0 ∷ 1 ∷ 0 ∷ 0 ∷ 0 ∷ 2 ∷ 0 ∷ 0 ∷ 1 ∷ []) (8 ∷ 2 ∷ 1 ∷ 0 ∷ [])
     -- 0. 1 <- 0. 2 <- ~1.: clause 1 becomes a fact by the first step, and then blocks clause 2
     ∷ writes (3 ∷ 3 ∷ 1 ∷ 0 ∷ 0 ∷ 0 ∷ 1 ∷ 1 ∷ 0 ∷ 1 ∷ 0 ∷ 1 ∷ 0 ∷ 1 ∷ 2 ∷ 1 ∷ []) (3 ∷ 1 ∷ 0 ∷ 0 ∷ 5 ∷ 2 ∷ 1 ∷ 0 ∷ [])
-    -- 1 <- 0. 0. 0.: of the two facts 0 the first is the partner; 3 comes before 8, which then takes clause 1 by clause 2
-    ∷ writes (2 ∷ 3 ∷ 1 ∷ 1 ∷ 0 ∷ 1 ∷ 0 ∷ 1 ∷ 0 ∷ 0 ∷ 0 ∷ 1 ∷ 0 ∷ 0 ∷ 0 ∷ []) (3 ∷ 0 ∷ 1 ∷ 0 ∷ 8 ∷ 1 ∷ 2 ∷ 0 ∷ [])
+    -- 1 <- 0. 0. 0.: of the two facts 0 the first is the partner; 3 comes before 8, which then takes clause 2 by clause 1, since of equal clauses the earlier stays
+    ∷ writes (2 ∷ 3 ∷ 1 ∷ 1 ∷ 0 ∷ 1 ∷ 0 ∷ 1 ∷ 0 ∷ 0 ∷ 0 ∷ 1 ∷ 0 ∷ 0 ∷ 0 ∷ []) (3 ∷ 0 ∷ 1 ∷ 0 ∷ 8 ∷ 2 ∷ 1 ∷ 0 ∷ [])
     -- 0 <- 1, 2.: both body atoms are in no head, and 1 is the smaller; 7 is not open, since an atom in no head makes a failure
     ∷ writes (3 ∷ 1 ∷ 1 ∷ 2 ∷ 0 ∷ 0 ∷ 1 ∷ 2 ∷ []) (6 ∷ 0 ∷ 0 ∷ 1 ∷ [])
     -- 0|1. 2 <- ~0, ~1.: a disjunctive fact blocks where all of its head atoms are negative there
@@ -38,5 +40,5 @@ rows =
     ∷ []
 
 pub open-steps : AllSay rows
-unfolding left fire reachFrom reach inNoHead condition conditionHolds applies effect least firstAtom firstPartner firstTarget firstStep reduce ask questions.atomsFrom questions.partsFrom questions.clauseFrom questions.clausesFrom questions.allUsed questions.tableOf startFrom clausesOf programOf part entryAt entriesFrom view find clears marksAfter marksAfterAll wordsOf reductions.bodyLiterals reductions.room reductions.stepsOf reductions.reduction questions.onWalk questions.onTable
+unfolding left fire reachFrom reach inNoHead condition conditionHolds applies effect same passedOver eligible least firstAtom firstPartner firstTarget firstStep reduce ask questions.atomsFrom questions.partsFrom questions.clauseFrom questions.clausesFrom questions.allUsed questions.tableOf startFrom clausesOf programOf part entryAt entriesFrom view find clears marksAfter marksAfterAll wordsOf reductions.bodyLiterals reductions.room reductions.stepsOf reductions.reduction questions.onWalk questions.onTable
 open-steps = ((refl, refl), ((refl, refl), ((refl, refl), ((refl, refl), ((refl, refl), ((refl, refl), ((refl, refl), ((refl, refl), tt))))))))

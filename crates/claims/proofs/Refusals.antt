@@ -6,10 +6,12 @@ use mathlib.Core.List.{List, [], _∷_, _++_}
 use Prim.Native.Nat.{ℕ, zero, suc, _+_}
 use lib.ListN.{replicate}
 use Rattle.semantics.specs.Programs.{Clause, satisfies, reduct, models}
+use Rattle.semantics.specs.Lists.{same}
 use Rattle.semantics.specs.Decide.{sublists, stableTest}
 use Rattle.rewriting.specs.Marked.{left}
 use Rattle.rewriting.specs.Reaches.{fire, reachFrom, reach}
 use Rattle.rewriting.specs.Steps.{inNoHead, condition, atomHeaded, conditionHolds, applies, effect}
+use Rattle.rewriting.specs.Reducer.{passedOver, eligible}
 use Rattle.rewriting.specs.Search.{least, firstAtom, firstPartner, firstTarget, firstStep}
 use Rattle.rewriting.specs.Search as search
 use Rattle.answers.specs.Answers.{ask}
@@ -171,5 +173,5 @@ rows =
     ∷ []
 
 pub refusals : AllSay rows
-unfolding satisfies reduct models sublists stableTest left fire reachFrom reach inNoHead condition atomHeaded conditionHolds applies effect least firstAtom firstPartner firstTarget firstStep search.reduce ask questions.atomsFrom questions.partsFrom questions.clauseFrom questions.clausesFrom questions.allUsed questions.tableOf startFrom clausesOf clausesWords encode programOf part entryAt entriesFrom view find clears marksAfter marksAfterAll clearableFrom marksFrom sets.setOf sets.testOf steps.shapeQuestions steps.conditionQuestions steps.stepQuestions lists.stepsFrom lists.checkList wordsOf reductions.bodyLiterals reductions.room reductions.stepsOf reductions.reduction compaction.markedAnswer compaction.reducedAnswer between width places digits others commas lineText clauseText clausesText render reader.then reader.starts reader.run reader.ended reader.spanAt reader.nextOf reader.scan reader.numbers reader.onSpan reader.valueOf reader.valueAt reader.numberAt reader.countAt insert sorted reader.listOf reader.listAt reader.clauseAt reader.clausesAt reader.restAt reader.programAt reader.readText reader.readAnswer writer.textOf writer.writeAnswer questions.onWalk questions.onTable
+unfolding satisfies reduct models sublists stableTest left fire reachFrom reach inNoHead condition atomHeaded conditionHolds applies effect same passedOver eligible least firstAtom firstPartner firstTarget firstStep search.reduce ask questions.atomsFrom questions.partsFrom questions.clauseFrom questions.clausesFrom questions.allUsed questions.tableOf startFrom clausesOf clausesWords encode programOf part entryAt entriesFrom view find clears marksAfter marksAfterAll clearableFrom marksFrom sets.setOf sets.testOf steps.shapeQuestions steps.conditionQuestions steps.stepQuestions lists.stepsFrom lists.checkList wordsOf reductions.bodyLiterals reductions.room reductions.stepsOf reductions.reduction compaction.markedAnswer compaction.reducedAnswer between width places digits others commas lineText clauseText clausesText render reader.then reader.starts reader.run reader.ended reader.spanAt reader.nextOf reader.scan reader.numbers reader.onSpan reader.valueOf reader.valueAt reader.numberAt reader.countAt insert sorted reader.listOf reader.listAt reader.clauseAt reader.clausesAt reader.restAt reader.programAt reader.readText reader.readAnswer writer.textOf writer.writeAnswer questions.onWalk questions.onTable
 refusals = (refl, (refl, (refl, (refl, (refl, (refl, (refl, (refl, (refl, (refl, (refl, (refl, (refl, (refl, (refl, (refl, (refl, (refl, (refl, (refl, (refl, (refl, (refl, (refl, (refl, (refl, (refl, (refl, (refl, (refl, (refl, (refl, (refl, (refl, (refl, (refl, (refl, (refl, (refl, (refl, (refl, (refl, (refl, (refl, (refl, (refl, (refl, (refl, (refl, (refl, (refl, (refl, (refl, (refl, (refl, (refl, (refl, (refl, (refl, (refl, (refl, (refl, (refl, (refl, (refl, (refl, (refl, (refl, (refl, tt)))))))))))))))))))))))))))))))))))))))))))))))))))))))))))))))))))))

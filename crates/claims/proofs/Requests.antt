@@ -5,10 +5,12 @@ use Prim.Native.Nat.{ℕ}
 use lib.ListN.{length, replicate}
 use Rattle.semantics.specs.Programs.{program}
 use Rattle.semantics.specs.Programs as programs
+use Rattle.semantics.specs.Lists.{same}
 use Rattle.semantics.specs.Decide.{sublists, stableTest}
 use Rattle.rewriting.specs.Marked.{left}
 use Rattle.rewriting.specs.Reaches.{fire, reachFrom, reach}
 use Rattle.rewriting.specs.Steps.{inNoHead, condition, atomHeaded, conditionHolds, applies, effect}
+use Rattle.rewriting.specs.Reducer.{passedOver, eligible}
 use Rattle.rewriting.specs.Search.{least, firstAtom, firstPartner, firstTarget, firstStep, reduce}
 use Rattle.answers.specs.Answers.{ask, writtenIf}
 use Rattle.table.specs.StepWords.{wordsOf}
@@ -71,6 +73,13 @@ circle = 2 ∷ 2 ∷ 1 ∷ 1 ∷ 0 ∷ 0 ∷ 1 ∷ 1 ∷ 1 ∷ 0 ∷ 1 ∷ 0 ∷
 -- 0|1 <- 2. 2 <- 0.
 abbrev either : List ℕ
 either = 3 ∷ 2 ∷ 2 ∷ 1 ∷ 0 ∷ 0 ∷ 1 ∷ 2 ∷ 1 ∷ 1 ∷ 0 ∷ 2 ∷ 0 ∷ []
+
+-- 0. 0.; two empty clauses
+abbrev twice : List ℕ
+twice = 2 ∷ 2 ∷ 1 ∷ 0 ∷ 0 ∷ 0 ∷ 1 ∷ 0 ∷ 0 ∷ 0 ∷ []
+
+abbrev empty : List ℕ
+empty = 0 ∷ 2 ∷ 0 ∷ 0 ∷ 0 ∷ 0 ∷ 0 ∷ 0 ∷ []
 
 -- the text of one clause over n atoms, its lists as they stand; "atoms=" with one digit and "clauses=1" have 18 bytes with their line feeds
 abbrev clauseOver : ℕ → List ℕ → List ℕ → List ℕ → List ℕ
@@ -217,8 +226,32 @@ rows =
     ∷ checks either (7 ∷ 0 ∷ 0 ∷ 2 ∷ []) (value 1)
     ∷ checks either (7 ∷ 1 ∷ 0 ∷ 0 ∷ []) (value 1)
     ∷ checks either (7 ∷ 0 ∷ 0 ∷ 2 ∷ 7 ∷ 1 ∷ 0 ∷ 0 ∷ []) (refusal 32 1)
+    -- Slip 7. "The example 0. 0. gives 8,1,0,0. The checker still takes either order."
+    ∷ writes twice (8 ∷ 1 ∷ 0 ∷ 0 ∷ [])
+    ∷ checks twice (8 ∷ 0 ∷ 1 ∷ 0 ∷ []) (value 1)
+    ∷ checks twice (8 ∷ 1 ∷ 0 ∷ 0 ∷ []) (value 1)
+    -- "the step of kind 5 or 8": two empty clauses, by 5 before 8
+    ∷ writes empty (5 ∷ 1 ∷ 0 ∷ 0 ∷ [])
+    ∷ checks empty (5 ∷ 0 ∷ 1 ∷ 0 ∷ []) (value 1)
+    ∷ checks empty (5 ∷ 1 ∷ 0 ∷ 0 ∷ []) (value 1)
+    ∷ checks empty (8 ∷ 0 ∷ 1 ∷ 0 ∷ []) (value 1)
+    ∷ checks empty (8 ∷ 1 ∷ 0 ∷ 0 ∷ []) (value 1)
+    -- three leave the first: 0. 0. 0., three empty clauses; 0. and then two empty clauses: the fact goes by the first of them, which is not equal to it
+    ∷ writes (1 ∷ 3 ∷ 1 ∷ 0 ∷ 0 ∷ 0 ∷ 1 ∷ 0 ∷ 0 ∷ 0 ∷ 1 ∷ 0 ∷ 0 ∷ 0 ∷ []) (8 ∷ 1 ∷ 0 ∷ 0 ∷ 8 ∷ 2 ∷ 0 ∷ 0 ∷ [])
+    ∷ writes (0 ∷ 3 ∷ 0 ∷ 0 ∷ 0 ∷ 0 ∷ 0 ∷ 0 ∷ 0 ∷ 0 ∷ 0 ∷ []) (5 ∷ 1 ∷ 0 ∷ 0 ∷ 5 ∷ 2 ∷ 0 ∷ 0 ∷ [])
+    ∷ writes (1 ∷ 3 ∷ 1 ∷ 0 ∷ 0 ∷ 0 ∷ 0 ∷ 0 ∷ 0 ∷ 0 ∷ 0 ∷ 0 ∷ []) (5 ∷ 0 ∷ 1 ∷ 0 ∷ 5 ∷ 2 ∷ 1 ∷ 0 ∷ [])
+    -- equal constraints: 0|1. <- 0. <- 0.
+    ∷ writes (2 ∷ 3 ∷ 2 ∷ 0 ∷ 0 ∷ 0 ∷ 1 ∷ 0 ∷ 1 ∷ 0 ∷ 0 ∷ 0 ∷ 1 ∷ 0 ∷ 0 ∷ []) (8 ∷ 2 ∷ 1 ∷ 0 ∷ [])
+    -- "as left": a drop makes the earlier of two equal facts, 0. 1 <- 0. 1., or the later, 1. 0. 1 <- 0.
+    ∷ writes (2 ∷ 3 ∷ 1 ∷ 0 ∷ 0 ∷ 0 ∷ 1 ∷ 1 ∷ 0 ∷ 1 ∷ 0 ∷ 1 ∷ 0 ∷ 0 ∷ 1 ∷ []) (3 ∷ 1 ∷ 0 ∷ 0 ∷ 8 ∷ 2 ∷ 1 ∷ 0 ∷ [])
+    ∷ writes (2 ∷ 3 ∷ 1 ∷ 0 ∷ 0 ∷ 1 ∷ 1 ∷ 0 ∷ 0 ∷ 0 ∷ 1 ∷ 1 ∷ 0 ∷ 1 ∷ 0 ∷ []) (3 ∷ 2 ∷ 1 ∷ 0 ∷ 8 ∷ 2 ∷ 0 ∷ 0 ∷ [])
+    -- "takes the smallest step of the rest": 0|1. twice around 0., which subsumes both, and before it, so that the first goes by clause 2 and not by its equal
+    ∷ writes (2 ∷ 3 ∷ 2 ∷ 0 ∷ 0 ∷ 0 ∷ 1 ∷ 1 ∷ 0 ∷ 0 ∷ 0 ∷ 2 ∷ 0 ∷ 0 ∷ 0 ∷ 1 ∷ []) (8 ∷ 0 ∷ 1 ∷ 0 ∷ 8 ∷ 2 ∷ 1 ∷ 0 ∷ [])
+    ∷ writes (2 ∷ 3 ∷ 2 ∷ 0 ∷ 0 ∷ 0 ∷ 1 ∷ 2 ∷ 0 ∷ 0 ∷ 0 ∷ 1 ∷ 1 ∷ 0 ∷ 0 ∷ 0 ∷ []) (8 ∷ 0 ∷ 2 ∷ 0 ∷ 8 ∷ 1 ∷ 2 ∷ 0 ∷ [])
+    -- "equal in all three parts": the earlier of two clauses with equal heads that is subsumed and not equal goes: 0 <- ~1, ~2. 0 <- ~1. 1 <- ~0. 2 <- ~0.
+    ∷ writes (3 ∷ 4 ∷ 1 ∷ 0 ∷ 2 ∷ 0 ∷ 1 ∷ 2 ∷ 1 ∷ 0 ∷ 1 ∷ 0 ∷ 1 ∷ 1 ∷ 0 ∷ 1 ∷ 1 ∷ 0 ∷ 1 ∷ 0 ∷ 1 ∷ 2 ∷ 0 ∷ []) (8 ∷ 0 ∷ 1 ∷ 0 ∷ [])
     ∷ []
 
 pub requests : AllSay rows
-unfolding left fire reachFrom reach inNoHead condition atomHeaded conditionHolds applies effect least firstAtom firstPartner firstTarget firstStep reduce ask questions.atomsFrom questions.partsFrom questions.clauseFrom questions.clausesFrom questions.allUsed questions.tableOf startFrom clausesOf programOf part entryAt entriesFrom view find clears marksAfter marksAfterAll steps.shapeQuestions steps.conditionQuestions steps.stepQuestions checking.stepsFrom checking.checkList wordsOf reductions.bodyLiterals reductions.room reductions.stepsOf reductions.reduction questions.onWalk questions.onTable turned leads cyclic cycleOf programs.satisfies programs.reduct programs.models sublists stableTest below entriesOf stableWord modelsOf modelsAnswer modelsOut writtenIf between width places digits others commas lineText clauseText clausesText render textOf writeAnswer outAfter clausesWords encode insert sorted reader.then reader.starts reader.run reader.ended reader.spanAt reader.nextOf reader.scan reader.numbers reader.onSpan reader.valueOf reader.valueAt reader.numberAt reader.countAt reader.listOf reader.listAt reader.clauseAt reader.clausesAt reader.restAt reader.programAt reader.readText reader.readAnswer reader.tableAfter
-requests = (refl, (refl, (refl, ((refl, refl), (refl, (refl, (refl, (refl, (refl, (refl, (refl, (refl, (refl, (refl, (refl, (refl, ((refl, refl), (refl, (refl, (refl, (refl, (refl, (refl, (refl, (refl, (refl, (refl, ((refl, refl), ((refl, refl), ((refl, refl), ((refl, refl), ((refl, refl), ((refl, refl), ((refl, refl), ((refl, refl), ((refl, refl), ((refl, refl), ((refl, refl), (refl, (refl, (refl, (refl, (refl, (refl, (refl, (refl, (refl, (refl, (refl, (refl, (refl, (refl, (refl, (refl, (refl, ((refl, refl), ((refl, refl), ((refl, refl), ((refl, refl), ((refl, refl), ((refl, refl), ((refl, refl), (refl, (refl, (refl, (refl, (refl, (refl, ((refl, refl), ((refl, refl), ((refl, refl), ((refl, refl), ((refl, refl), ((refl, refl), (refl, (refl, (refl, (refl, (refl, (refl, (refl, (refl, (refl, ((refl, refl), (refl, (refl, (refl, (refl, (refl, (refl, (refl, (refl, (refl, (refl, ((refl, refl), (refl, (refl, ((refl, refl), (refl, (refl, (refl, (refl, (refl, tt)))))))))))))))))))))))))))))))))))))))))))))))))))))))))))))))))))))))))))))))))))))))))))))))))))))))
+unfolding left fire reachFrom reach inNoHead condition atomHeaded conditionHolds applies effect same passedOver eligible least firstAtom firstPartner firstTarget firstStep reduce ask questions.atomsFrom questions.partsFrom questions.clauseFrom questions.clausesFrom questions.allUsed questions.tableOf startFrom clausesOf programOf part entryAt entriesFrom view find clears marksAfter marksAfterAll steps.shapeQuestions steps.conditionQuestions steps.stepQuestions checking.stepsFrom checking.checkList wordsOf reductions.bodyLiterals reductions.room reductions.stepsOf reductions.reduction questions.onWalk questions.onTable turned leads cyclic cycleOf programs.satisfies programs.reduct programs.models sublists stableTest below entriesOf stableWord modelsOf modelsAnswer modelsOut writtenIf between width places digits others commas lineText clauseText clausesText render textOf writeAnswer outAfter clausesWords encode insert sorted reader.then reader.starts reader.run reader.ended reader.spanAt reader.nextOf reader.scan reader.numbers reader.onSpan reader.valueOf reader.valueAt reader.numberAt reader.countAt reader.listOf reader.listAt reader.clauseAt reader.clausesAt reader.restAt reader.programAt reader.readText reader.readAnswer reader.tableAfter
+requests = (refl, (refl, (refl, ((refl, refl), (refl, (refl, (refl, (refl, (refl, (refl, (refl, (refl, (refl, (refl, (refl, (refl, ((refl, refl), (refl, (refl, (refl, (refl, (refl, (refl, (refl, (refl, (refl, (refl, ((refl, refl), ((refl, refl), ((refl, refl), ((refl, refl), ((refl, refl), ((refl, refl), ((refl, refl), ((refl, refl), ((refl, refl), ((refl, refl), ((refl, refl), (refl, (refl, (refl, (refl, (refl, (refl, (refl, (refl, (refl, (refl, (refl, (refl, (refl, (refl, (refl, (refl, (refl, ((refl, refl), ((refl, refl), ((refl, refl), ((refl, refl), ((refl, refl), ((refl, refl), ((refl, refl), (refl, (refl, (refl, (refl, (refl, (refl, ((refl, refl), ((refl, refl), ((refl, refl), ((refl, refl), ((refl, refl), ((refl, refl), (refl, (refl, (refl, (refl, (refl, (refl, (refl, (refl, (refl, ((refl, refl), (refl, (refl, (refl, (refl, (refl, (refl, (refl, (refl, (refl, (refl, ((refl, refl), (refl, (refl, ((refl, refl), (refl, (refl, (refl, (refl, (refl, ((refl, refl), (refl, (refl, ((refl, refl), (refl, (refl, (refl, (refl, ((refl, refl), ((refl, refl), ((refl, refl), ((refl, refl), ((refl, refl), ((refl, refl), ((refl, refl), ((refl, refl), ((refl, refl), tt))))))))))))))))))))))))))))))))))))))))))))))))))))))))))))))))))))))))))))))))))))))))))))))))))))))))))))))))))))))))

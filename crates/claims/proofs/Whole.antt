@@ -71,12 +71,15 @@ next-words ls r k s l e =
     let f : 4 * (k + 1) ≡ 4 * k + 4 = omega arith in
     ap (λ i. drop i ls) f ∙ past ls (number (s .kind) ∷ s .target ∷ s .partner ∷ s .atom ∷ []) (wordsOf l ++ r) (4 * k) e
 
-applies-fine : (n : ℕ) (P : Marked) (s : Step) → So (applies n P s) → verdictAt n P (wordsStep s) ≡ Fine
+-- a step that applies gets a yes to every question
+pub applies-fine : (n : ℕ) (P : Marked) (w : words.Step) → 1 ≤ w .kind → w .kind ≤ 8 → So (applies n P (stepOf w)) → verdictAt n P w ≡ Fine
 unfolding stepQuestions shapeQuestions conditionQuestions ask applies
-applies-fine n P s h =
-    let b = number-bounds (s .kind) in
-    let w = simp and-iff at (subst (λ u. So (applies n P u)) (sym (step-words s)) h) in
-    rw (known-kind (number (s .kind)) (b .0) (b .1), w .0, w .1 .0, w .1 .1 .0, condition-matches P (stepOf (wordsStep s)) (w .1 .1 .1), condition-headed P (stepOf (wordsStep s)) (w .1 .1 .1), w .1 .1 .1)
+applies-fine n P w a b h =
+    let v = simp and-iff at h in
+    rw (known-kind (w .kind) a b, v .0, v .1 .0, v .1 .1 .0, condition-matches P (stepOf w) (v .1 .1 .1), condition-headed P (stepOf w) (v .1 .1 .1), v .1 .1 .1)
+
+step-fine : (n : ℕ) (P : Marked) (s : Step) → So (applies n P s) → verdictAt n P (wordsStep s) ≡ Fine
+step-fine n P s h = let b = number-bounds (s .kind) in applies-fine n P (wordsStep s) (b .0) (b .1) (subst (λ u. So (applies n P u)) (sym (step-words s)) h)
 
 -- ---- the steps of a list, one after the other
 
@@ -87,7 +90,7 @@ unfolding onVerdict
 step-made ws ms ls k x s q h =
     let n = getD ws 0 0 in
     steps-verdict ws ms ls k x
-    ∙ ap (onVerdict (λ x. leaving ms (refusal.Step x k)) (stepsFrom ws (marksAfter ws ms (stepAt ls k)) ls (k + 1) x)) (ap (verdictAt n (view ws ms)) q ∙ applies-fine n (view ws ms) s h)
+    ∙ ap (onVerdict (λ x. leaving ms (refusal.Step x k)) (stepsFrom ws (marksAfter ws ms (stepAt ls k)) ls (k + 1) x)) (ap (verdictAt n (view ws ms)) q ∙ step-fine n (view ws ms) s h)
     ∙ ap (λ u. stepsFrom ws (marksAfter ws ms u) ls (k + 1) x) (ap stepOf q ∙ step-words s)
 
 -- a step that is refused

@@ -15,6 +15,7 @@ use Rattle.rewriting.specs.Kinds.{number}
 use Rattle.rewriting.specs.Search.{reduce, firstStep}
 use Rattle.rewriting.specs.Measure.{measure}
 use Rattle.rewriting.proofs.Search.{firstStep-some}
+use Rattle.rewriting.proofs.Equal.{eligible-applies}
 use Rattle.rewriting.proofs.Rows.{kindOf-number, number-bounds}
 use Rattle.rewriting.proofs.Measure.{step-measure}
 use Rattle.table.specs.Questions.{Passed}
@@ -73,7 +74,7 @@ found-made ws ms s e = go (firstStep (getD ws 0 0) (view ws ms)) refl e
         let k : stepOf s ≡ u = ap stepOf r ∙ ap (λ k. record { kind = k; target = u .target; partner = u .partner; atom = u .atom }) (kindOf-number (u .kind)) in
         let b = number-bounds (u .kind) in
         let e = ap (λ x. x .kind) r in
-        (record { low = omega (arith, b .0, e); high = omega (arith, b .1, e); applies = subst (λ v. So (applies (getD ws 0 0) (view ws ms) v)) (sym k) (firstStep-some (getD ws 0 0) (view ws ms) u q .applicable) }, q ∙ ap some (sym k))
+        (record { low = omega (arith, b .0, e); high = omega (arith, b .1, e); applies = subst (λ v. So (applies (getD ws 0 0) (view ws ms) v)) (sym k) (eligible-applies (getD ws 0 0) (view ws ms) u (firstStep-some (getD ws 0 0) (view ws ms) u q .applicable)) }, q ∙ ap some (sym k))
 
 stops : (n k : ℕ) (P : Marked) → firstStep n P ≡ none → reduce n k P ≡ []
 unfolding reduce

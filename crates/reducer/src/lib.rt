@@ -1,4 +1,4 @@
-// The reducer: the smallest applicable step, again and again, until none applies.
+// The reducer: the smallest applicable step that it does not pass over, again and again, until none applies.
 ghost use Rattle.search_flags.specs.Flags.{allFlags};
 ghost use mathlib.Core.Path.{_≡_};
 ghost use Prim.Native.Nat.{_+_, _*_, _≤_, _<_};
@@ -113,7 +113,7 @@ fn reduce_kept(words: &[u16], marks: &mut [u8], list: &mut [u16]) -> usize
     )
 }
 
-// Reduces a table: questions 1 to 9 and 17, then the smallest applicable step until none applies.
+// Reduces a table: questions 1 to 9 and 17, then the smallest applicable step that is not passed over, until none applies.
 pub fn reduce_table(words: &[u16], marks: &mut [u8], list: &mut [u16]) -> Answer
     ensures { λ r. ⌜ Answered (now (words .entry)) (now (marks .entry)) (now (list .entry)) (now (marks .exit)) (now (list .exit)) r ⌝ }
 {

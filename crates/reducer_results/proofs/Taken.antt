@@ -80,7 +80,7 @@ always-taken ws ms ls p a b = rw (p .valid, le-leb (length ws) (length ms) a, le
 pub whole-tidy : (ws : List ℕ) → Passed ws → (i : ℕ) → Tidy (entry (whole (programOf ws .clauses)) i)
 whole-tidy ws p = subst (λ P. (i : ℕ) → Tidy (entry P i)) (view-allKept ws [] p) (view-tidy ws (allKept ws []) p)
 
--- "The reducer always takes the applicable step that is smallest by kind, then target, partner, atom, until none applies."
+-- "The reducer always takes the applicable step that is smallest by kind, then target, partner, atom, until none applies", but for those that slip 7 passes over.
 pub steps-greedy : (ws : List ℕ) → Passed ws → Greedy (eligible (getD ws 0 0)) (whole (programOf ws .clauses)) (stepsOf ws)
 unfolding stepsOf
 steps-greedy ws p = reduce-greedy (getD ws 0 0) (room ws) (whole (programOf ws .clauses)) (whole-tidy ws p) (omega (arith, room-measure ws))

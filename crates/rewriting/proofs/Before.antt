@@ -1,8 +1,8 @@
 -- Steps as they were before slip 6 of document 02, when a step of kind 7 asked for no head: a failure was a loop step too, and now no step is both. The reducer's
 -- lists are those of before.
-use mathlib.Core.Path.{_≡_, refl, ap, subst}
+use mathlib.Core.Path.{_≡_, refl, sym, ap, subst}
 use mathlib.Core.Logic.{_↔_, _⊎_, inl, inr, by-cases, ⊎-elim}
-use mathlib.Core.Bool.{Bool, cond, not, _&&_, So}
+use mathlib.Core.Bool.{Bool, cond, not, _&&_, So, false≢true}
 use mathlib.Core.List.{List}
 use Prim.Native.Nat.{ℕ, _≤_, _<_}
 use native.Mathlib.Omega.{arith}
@@ -15,10 +15,11 @@ use Rattle.rewriting.specs.Marked.{Marked, entry, left}
 use Rattle.rewriting.specs.Reaches.{reach}
 use Rattle.rewriting.specs.Steps.{Step, step, inNoHead, headed, targetKept, partnerKept, atomKnown, atomHeaded, condition, conditionHolds, applies}
 use Rattle.rewriting.specs.Kinds.{Kind, failure, loop, number}
-use Rattle.rewriting.specs.Reducer.{Less, lessKind, lessTarget, lessPartner, lessAtom, eligible, IsFirst, Greedy, stop, take}
+use Rattle.rewriting.specs.Reducer.{Less, lessKind, lessTarget, lessPartner, lessAtom, passedOver, eligible, IsFirst, Greedy, stop, take}
 use Rattle.rewriting.proofs.Rows.{each-kind, loops}
 use Rattle.rewriting.proofs.Reach.{bare-out}
 use Rattle.rewriting.proofs.Effect.{asks}
+use Rattle.rewriting.proofs.Equal.{eligible-iff, eligible-same}
 
 -- ---- the definition that was there
 
@@ -30,6 +31,11 @@ conditionBefore P s = cond (eqb (number (s .kind)) 7) (mem (s .atom) (entry P (s
 unfoldable pub appliesBefore : ℕ → Marked → Step → Bool
 unfolding conditionBefore
 appliesBefore n P s = targetKept P s && (partnerKept P s && (atomKnown n s && conditionBefore P s))
+
+-- of these, what the reducer would choose among
+unfoldable pub eligibleBefore : ℕ → Marked → Step → Bool
+unfolding appliesBefore passedOver
+eligibleBefore n P s = appliesBefore n P s && not (passedOver P s)
 
 -- ---- a failure was a loop step, and no loop step is one now
 
@@ -126,38 +132,49 @@ less-kind u s (lessAtom e f g l) = omega (arith, ap number e)
 failure-less : (u s : Step) → u .kind ≡ loop → number (u .kind) ≤ number (s .kind) → Less (asFailure u) s
 failure-less u s e l = lessKind (omega (arith, ap number e))
 
+module _ (n : ℕ) (P : Marked) where
+  was-eligible : (s : Step) → So (eligible n P s) → So (eligibleBefore n P s)
+  unfolding eligibleBefore
+  was-eligible s h = let w = eligible-iff P s n .0 h in and-iff (appliesBefore n P s) (not (passedOver P s)) .1 (applied n P s (w .0), not-iff _ .1 (w .1))
+
+  -- no failure is passed over
+  was-eligible-or : (s : Step) → So (eligibleBefore n P s) → So (eligible n P s) ⊎ ((s .kind ≡ loop) × So (eligible n P (asFailure s)))
+  unfolding eligibleBefore
+  was-eligible-or s b = let w = and-iff (appliesBefore n P s) (not (passedOver P s)) .0 b in
+      ⊎-elim (λ h. inl (eligible-iff P s n .1 (h, not-iff _ .0 (w .1)))) (λ (e, h). inr (e, subst So (sym (eligible-same n P (asFailure s) false≢true)) h)) (applied-or n P s (w .0))
+
 module _ (n : ℕ) where
-  -- The step that the reducer takes is the one that it took.
-  pub first-as-before : (P : Marked) (s : Step) → IsFirst (eligible n) P s ↔ IsFirst (appliesBefore n) P s
+  -- The step that the reducer takes is the one that it would take.
+  pub first-as-before : (P : Marked) (s : Step) → IsFirst (eligible n) P s ↔ IsFirst (eligibleBefore n) P s
   first-as-before P s = (
     λ f. record {
-      applicable = applied n P s (f .applicable);
-      smallest = λ u l b. ⊎-elim (f .smallest u l) (λ (e, h). f .smallest (asFailure u) (failure-less u s e (less-kind u s l)) h) (applied-or n P u b);
+      applicable = was-eligible n P s (f .applicable);
+      smallest = λ u l b. ⊎-elim (f .smallest u l) (λ (e, h). f .smallest (asFailure u) (failure-less u s e (less-kind u s l)) h) (was-eligible-or n P u b);
     },
     λ f. record {
-      applicable = ⊎-elim (λ h. h) (λ (e, h). absurd (f .smallest (asFailure s) (failure-less s s e (omega arith)) (applied n P (asFailure s) h))) (applied-or n P s (f .applicable));
-      smallest = λ u l h. f .smallest u l (applied n P u h);
+      applicable = ⊎-elim (λ h. h) (λ (e, h). absurd (f .smallest (asFailure s) (failure-less s s e (omega arith)) (was-eligible n P (asFailure s) h))) (was-eligible-or n P s (f .applicable));
+      smallest = λ u l h. f .smallest u l (was-eligible n P u h);
     },
   )
 
-  -- where no step applies now, none applied before, and the other way round
-  pub none-as-before : (P : Marked) → ((u : Step) → ¬ So (eligible n P u)) ↔ ((u : Step) → ¬ So (appliesBefore n P u))
-  none-as-before P = (λ f u b. ⊎-elim (f u) (λ (e, h). f (asFailure u) h) (applied-or n P u b), λ f u h. f u (applied n P u h))
+  -- where no step is eligible now, none was before, and the other way round
+  pub none-as-before : (P : Marked) → ((u : Step) → ¬ So (eligible n P u)) ↔ ((u : Step) → ¬ So (eligibleBefore n P u))
+  none-as-before P = (λ f u b. ⊎-elim (f u) (λ (e, h). f (asFailure u) h) (was-eligible-or n P u b), λ f u h. f u (was-eligible n P u h))
 
   -- "The reducer's lists already take 6 first": its list is the one that it was.
-  pub lists-as-before : (P : Marked) (l : List Step) → Greedy (eligible n) P l ↔ Greedy (appliesBefore n) P l
+  pub lists-as-before : (P : Marked) (l : List Step) → Greedy (eligible n) P l ↔ Greedy (eligibleBefore n) P l
   lists-as-before P l = (to, from)
     where
-      to : {P : Marked} {l : List Step} → Greedy (eligible n) P l → Greedy (appliesBefore n) P l
+      to : {P : Marked} {l : List Step} → Greedy (eligible n) P l → Greedy (eligibleBefore n) P l
       to (stop {P = P} f) = stop (none-as-before P .0 f)
       to (take {P = P} {s = s} f g) = take (first-as-before P s .0 f) (to g)
 
-      from : {P : Marked} {l : List Step} → Greedy (appliesBefore n) P l → Greedy (eligible n) P l
+      from : {P : Marked} {l : List Step} → Greedy (eligibleBefore n) P l → Greedy (eligible n) P l
       from (stop {P = P} f) = stop (none-as-before P .1 f)
       from (take {P = P} {s = s} f g) = take (first-as-before P s .1 f) (from g)
 
   -- Where the reducer chooses a loop step, no failure is open, so that no atom of a kept positive body is in no head.
   pub loop-chosen : (P : Marked) (s : Step) → IsFirst (eligible n) P s → s .kind ≡ loop → (t : ℕ) → So (entry P t .kept) → (a : ℕ) → a ∈ entry P t .clause .pos → a < n → ¬ So (inNoHead (left P) a)
   unfolding applies conditionHolds condition
-  loop-chosen P s f e t k a m l b = f .smallest (step failure t 0 a) (failure-less (step loop t 0 a) s refl (omega (arith, ap number e)))
-      (and-iff _ _ .1 (k, and-iff _ _ .1 (refl, and-iff _ _ .1 (lt-ltb a n l, and-iff (mem a (entry P t .clause .pos)) (inNoHead (left P) a) .1 (mem-iff _ _ .1 m, b)))))
+  loop-chosen P s f e t k a m l b = f .smallest (step failure t 0 a) (failure-less (step loop t 0 a) s refl (omega (arith, ap number e))) (subst So (sym (eligible-same n P (step failure t 0 a) false≢true))
+      (and-iff _ _ .1 (k, and-iff _ _ .1 (refl, and-iff _ _ .1 (lt-ltb a n l, and-iff (mem a (entry P t .clause .pos)) (inNoHead (left P) a) .1 (mem-iff _ _ .1 m, b))))))

@@ -117,9 +117,9 @@ module _ (n : ℕ) (P : Marked) (s : Step) (h : So (applies n P s)) where
   reach-idle d x = reach-keeps (λ g. absurd (x (λ b m. reach-less d b (g b m))))
 
   -- a clause in whose place another fires
-  pub reach-twin : (p : ℕ) → p ≢ s .target → So (entry P p .kept) → ((b : ℕ) → b ∈ entry P p .clause .pos → b ∈ the .pos) → ((b : ℕ) → b ∈ the .head → b ∈ entry P p .clause .head)
+  pub reach-in-place : (p : ℕ) → p ≢ s .target → So (entry P p .kept) → ((b : ℕ) → b ∈ entry P p .clause .pos → b ∈ the .pos) → ((b : ℕ) → b ∈ the .head → b ∈ entry P p .clause .head)
       → (a : ℕ) → So (before a) → So (after a)
-  reach-twin p d k f g = reach-keeps (λ x b m. subst (FiresAt after) (at-other p d) (reach-fires (effect P s) p) k (λ e q. x e (f e q)) b (g b m))
+  reach-in-place p d k f g = reach-keeps (λ x b m. subst (FiresAt after) (at-other p d) (reach-fires (effect P s) p) k (λ e q. x e (f e q)) b (g b m))
 
   -- a drop adds nothing to the reach either: what success drops is in it
   drop-less : So (drops (s .kind)) → (a : ℕ) → So (after a) → So (before a)

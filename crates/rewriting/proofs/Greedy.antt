@@ -1,4 +1,4 @@
--- The reducer's list: the smallest step each time, until none applies. It is accepted, no step is open behind it, and its length is
+-- The reducer's list: the smallest eligible step each time, until none is. It is accepted, no step is open behind it, and its length is
 -- what the measure lost.
 use mathlib.Core.Path.{_≡_, refl, sym, ap, subst, _∙_}
 use mathlib.Core.Logic.{_⊎_, inl, inr, by-cases, ⊎-elim}
@@ -19,15 +19,16 @@ use Rattle.rewriting.specs.Search.{firstStep, reduce}
 use Rattle.rewriting.specs.Measure.{measure}
 use Rattle.rewriting.proofs.Measure.{Tidy, step-measure, tidy-effect}
 use Rattle.rewriting.proofs.Rows.{kindOf-number}
+use Rattle.rewriting.proofs.Equal.{eligible-applies, none-applies}
 use Rattle.rewriting.proofs.Search.{firstStep-none, firstStep-some}
 
--- The reducer's list takes the smallest applicable step each time, until none applies.
+-- The reducer's list takes the smallest eligible step each time, until none is.
 pub reduce-greedy : (n fuel : ℕ) (P : Marked) → ((i : ℕ) → Tidy (entry P i)) → measure P ≤ fuel → Greedy (eligible n) P (reduce n fuel P)
 unfolding reduce
-reduce-greedy n zero P u h = stop (λ s k. let e = step-measure n P s u k in omega arith)
-reduce-greedy n (suc fuel) P u h = go (firstStep n P) refl (λ s k. reduce-greedy n fuel (effect P s) (tidy-effect P s u) (omega (arith, step-measure n P s u k)))
+reduce-greedy n zero P u h = stop (λ s k. omega (arith, step-measure n P s u (eligible-applies n P s k)))
+reduce-greedy n (suc fuel) P u h = go (firstStep n P) refl (λ s k. reduce-greedy n fuel (effect P s) (tidy-effect P s u) (omega (arith, step-measure n P s u (eligible-applies n P s k))))
   where
-    go : (o : Option Step) → firstStep n P ≡ o → ((s : Step) → So (applies n P s) → Greedy (eligible n) (effect P s) (reduce n fuel (effect P s)))
+    go : (o : Option Step) → firstStep n P ≡ o → ((s : Step) → So (eligible n P s) → Greedy (eligible n) (effect P s) (reduce n fuel (effect P s)))
         → Greedy (eligible n) P (elim o [ none ↦ [] | some s ↦ s ∷ reduce n fuel (effect P s) ])
     go none e r = stop (firstStep-none n P e)
     go (some s) e r = let f = firstStep-some n P s e in take f (r s (f .applicable))
@@ -36,13 +37,13 @@ reduce-greedy n (suc fuel) P u h = go (firstStep n P) refl (λ s k. reduce-greed
 pub greedy-accepted : (n : ℕ) {P : Marked} {l : List Step} → Greedy (eligible n) P l → So (accepted n P l)
 unfolding accepted
 greedy-accepted n (stop h) = refl
-greedy-accepted n (take {P = P} {s = s} {l = l} f g) = and-iff (applies n P s) (accepted n (effect P s) l) .1 (f .applicable, greedy-accepted n g)
+greedy-accepted n (take {P = P} {s = s} {l = l} f g) = and-iff (applies n P s) (accepted n (effect P s) l) .1 (eligible-applies n P s (f .applicable), greedy-accepted n g)
 
--- No step is open at its end.
+-- No step is open at its end, passed over or not.
 pub greedy-end : (n : ℕ) {P : Marked} {l : List Step} → Greedy (eligible n) P l → (u : Step) → ¬ So (applies n (leaves n P l) u)
 unfolding leaves
-greedy-end n (stop h) = h
-greedy-end n (take {P = P} {s = s} f g) = rw (f .applicable) (greedy-end n g)
+greedy-end n (stop {P = P} h) = none-applies n P h
+greedy-end n (take {P = P} {s = s} f g) = rw (eligible-applies n P s (f .applicable)) (greedy-end n g)
 
 -- The number of steps of an accepted list is what the measure lost.
 pub accepted-measure : (n : ℕ) (P : Marked) (l : List Step) → ((i : ℕ) → Tidy (entry P i)) → So (accepted n P l) → length l + measure (leaves n P l) ≡ measure P

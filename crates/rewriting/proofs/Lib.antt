@@ -5,6 +5,7 @@ pub mod Reach
 pub mod Rows
 pub mod Sound
 pub mod Measure
+pub mod Equal
 pub mod Search
 pub mod Greedy
 pub mod Subclauses
@@ -14,3 +15,5 @@ pub mod Quiet
 pub mod Counts
 pub mod Order
 pub mod Before
+pub mod Subsumed
+pub mod Earlier

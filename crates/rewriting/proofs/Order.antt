@@ -17,10 +17,12 @@ use Rattle.rewriting.specs.Marked.{Marked, entry, left}
 use Rattle.rewriting.specs.Reaches.{reach}
 use Rattle.rewriting.specs.Steps.{Step, step, inNoHead, headed, condition, conditionHolds, applies}
 use Rattle.rewriting.specs.Kinds.{Kind, tautology, contradiction, success, noHead, blocked, failure, loop, subsumed, kindOf, usesPartner, usesAtom}
+use Rattle.rewriting.specs.Reducer.{eligible}
 use Rattle.rewriting.specs.Search.{partnerAtom, stepWith, least, given, firstAtom, firstPartner, firstTarget, firstStep}
 use Rattle.rewriting.proofs.Search.{atom-bound}
 use Rattle.rewriting.proofs.Quiet.{least-none, least-some}
 use Rattle.rewriting.proofs.Rows.{alone-atom, atom-settled}
+use Rattle.rewriting.proofs.Equal.{eligible-applies, eligible-ask, eligible-same, spares-partner}
 
 -- ---- the first atom of an ascending part that passes a test is the first atom below n that is in it and passes
 
@@ -94,21 +96,28 @@ condition-is success cs c d a u = absurd (true≢false u)
 condition-is blocked cs c d a u = absurd (true≢false u)
 condition-is subsumed cs c d a u = absurd (true≢false u)
 
+-- a kind without a partner: the target is kept, and the atom is in its part and passes
+atom-form : (n : ℕ) (P : Marked) (k : Kind) (t a : ℕ) → usesPartner k ≡ false → eligible n P (step k t 0 a) ≡ (entry P t .kept && (ltb a n && condition k (left P) (entry P t .clause) (entry P 0 .clause) a))
+unfolding applies conditionHolds
+atom-form n P k t a u = eligible-same n P (step k t 0 a) (λ x. not-so u (spares-partner k x)) ∙ rw (u, alone-atom k u)
+
 -- The inner search at a kept target: the first atom of the part that passes.
 pub atom-first : (n : ℕ) (P : Marked) (k : Kind) (t : ℕ) → usesPartner k ≡ false → So (entry P t .kept) → So (ascending (walked k (entry P t .clause))) → ((a : ℕ) → a ∈ walked k (entry P t .clause) → a < n)
     → firstPartner n P k t ≡ firstIn (λ a. step k t 0 a) (asked k (left P) (entry P t .clause)) (walked k (entry P t .clause))
-unfolding firstPartner firstAtom applies conditionHolds least
-atom-first n P k t u h o s = rw (u, alone-atom k u) (part-first n (λ a. step k t 0 a) (asked k (left P) c) (λ a. entry P t .kept && (ltb a n && condition k (left P) c d a)) (walked k c) o s (λ a. (
-  λ y. let w = and-iff (entry P t .kept) (ltb a n && condition k (left P) c d a) .0 y in
-      let v = and-iff (ltb a n) (condition k (left P) c d a) .0 (w .1) in
-      let z = and-iff (mem a (walked k c)) (asked k (left P) c a) .0 (subst So (condition-is k (left P) c d a u) (v .1)) in
-      (mem-iff _ _ .0 (z .0), z .1),
-  λ y. and-iff (entry P t .kept) (ltb a n && condition k (left P) c d a) .1 (
-    h,
-    and-iff (ltb a n) (condition k (left P) c d a) .1
-        (lt-ltb a n (s a (y .0)), subst So (sym (condition-is k (left P) c d a u)) (and-iff (mem a (walked k c)) (asked k (left P) c a) .1 (mem-iff _ _ .1 (y .0), y .1))),
-  ),
-)))
+unfolding firstPartner firstAtom least
+atom-first n P k t u h o s = ap (λ b. least (cond b (length P) 1) (λ p. firstAtom n P k t p)) u
+    ∙ ap (λ b. least (cond b n 1) (λ a. given (eligible n P (step k t 0 a)) (step k t 0 a))) (alone-atom k u)
+    ∙ part-first n (λ a. step k t 0 a) (asked k (left P) c) (λ a. eligible n P (step k t 0 a)) (walked k c) o s (λ a. (
+      λ y. let w = and-iff (entry P t .kept) (ltb a n && condition k (left P) c d a) .0 (subst So (atom-form n P k t a u) y) in
+          let v = and-iff (ltb a n) (condition k (left P) c d a) .0 (w .1) in
+          let z = and-iff (mem a (walked k c)) (asked k (left P) c a) .0 (subst So (condition-is k (left P) c d a u) (v .1)) in
+          (mem-iff _ _ .0 (z .0), z .1),
+      λ y. subst So (sym (atom-form n P k t a u)) (and-iff (entry P t .kept) (ltb a n && condition k (left P) c d a) .1 (
+        h,
+        and-iff (ltb a n) (condition k (left P) c d a) .1
+            (lt-ltb a n (s a (y .0)), subst So (sym (condition-is k (left P) c d a u)) (and-iff (mem a (walked k c)) (asked k (left P) c a) .1 (mem-iff _ _ .1 (y .0), y .1))),
+      )),
+    ))
   where
     c : Clause
     c = entry P t .clause
@@ -117,24 +126,24 @@ atom-first n P k t u h o s = rw (u, alone-atom k u) (part-first n (λ a. step k 
     d = entry P 0 .clause
 
 -- The inner search of the kinds with a partner: one question a partner, since the partner settles the atom.
-pub partner-first : (n : ℕ) (P : Marked) (k : Kind) (t p : ℕ) → So (usesPartner k) → firstAtom n P k t p ≡ given (applies n P (stepWith P k t p)) (stepWith P k t p)
+pub partner-first : (n : ℕ) (P : Marked) (k : Kind) (t p : ℕ) → So (usesPartner k) → firstAtom n P k t p ≡ given (eligible n P (stepWith P k t p)) (stepWith P k t p)
 unfolding firstAtom
-partner-first n P k t p u = go (applies n P (stepWith P k t p)) refl
+partner-first n P k t p u = go (eligible n P (stepWith P k t p)) refl
   where
-    other : (a : ℕ) → ¬ (So (applies n P (step k t p a)) × (a ≡ partnerAtom k (entry P p .clause))) → given (applies n P (step k t p a)) (step k t p a) ≡ none
-    other a x = ap (λ b. given b (step k t p a)) (so-false _ (λ h. x (h, atom-settled n P k t p a u h)))
+    other : (a : ℕ) → ¬ (So (eligible n P (step k t p a)) × (a ≡ partnerAtom k (entry P p .clause))) → given (eligible n P (step k t p a)) (step k t p a) ≡ none
+    other a x = ap (λ b. given b (step k t p a)) (so-false _ (λ h. x (h, atom-settled n P k t p a u (eligible-applies n P (step k t p a) h))))
 
-    go : (b : Bool) → applies n P (stepWith P k t p) ≡ b → least (cond (usesAtom k) n 1) (λ a. given (applies n P (step k t p a)) (step k t p a)) ≡ given b (stepWith P k t p)
+    go : (b : Bool) → eligible n P (stepWith P k t p) ≡ b → least (cond (usesAtom k) n 1) (λ a. given (eligible n P (step k t p a)) (step k t p a)) ≡ given b (stepWith P k t p)
     go true e = least-some (cond (usesAtom k) n 1) _ (stepWith P k t p) (partnerAtom k (entry P p .clause)) (atom-bound n P k t p _ e) (ap (λ b. given b (stepWith P k t p)) e)
         (λ a l. other a (λ x. omega (arith, x .1)))
-    go false e = least-none (cond (usesAtom k) n 1) _ (λ a l. other a (λ x. not-so e (subst (λ c. So (applies n P (step k t p c))) (x .1) (x .0))))
+    go false e = least-none (cond (usesAtom k) n 1) _ (λ a l. other a (λ x. not-so e (subst (λ c. So (eligible n P (step k t p c))) (x .1) (x .0))))
 
-pub partner-end : (n : ℕ) (P : Marked) (k : Kind) (t : ℕ) → So (usesPartner k) → ((p : ℕ) → p < length P → applies n P (stepWith P k t p) ≡ false) → firstPartner n P k t ≡ none
+pub partner-end : (n : ℕ) (P : Marked) (k : Kind) (t : ℕ) → So (usesPartner k) → ((p : ℕ) → p < length P → eligible n P (stepWith P k t p) ≡ false) → firstPartner n P k t ≡ none
 unfolding firstPartner
 partner-end n P k t u h = ap (λ b. least (cond b (length P) 1) (λ p. firstAtom n P k t p)) u
     ∙ least-none (length P) (λ p. firstAtom n P k t p) (λ p l. partner-first n P k t p u ∙ ap (λ b. given b (stepWith P k t p)) (h p l))
 
-pub partner-hit : (n : ℕ) (P : Marked) (k : Kind) (t p : ℕ) → So (usesPartner k) → p < length P → ((q : ℕ) → q < p → applies n P (stepWith P k t q) ≡ false) → So (applies n P (stepWith P k t p))
+pub partner-hit : (n : ℕ) (P : Marked) (k : Kind) (t p : ℕ) → So (usesPartner k) → p < length P → ((q : ℕ) → q < p → eligible n P (stepWith P k t q) ≡ false) → So (eligible n P (stepWith P k t p))
     → firstPartner n P k t ≡ some (stepWith P k t p)
 unfolding firstPartner
 partner-hit n P k t p u l h a = ap (λ b. least (cond b (length P) 1) (λ p. firstAtom n P k t p)) u
@@ -145,9 +154,9 @@ partner-hit n P k t p u l h a = ap (λ b. least (cond b (length P) 1) (λ p. fir
 
 -- A target that is gone has no step.
 pub target-gone : (n : ℕ) (P : Marked) (k : Kind) (t : ℕ) → ¬ So (entry P t .kept) → firstPartner n P k t ≡ none
-unfolding firstPartner firstAtom applies
-target-gone n P k t h = least-none (cond (usesPartner k) (length P) 1) (λ p. firstAtom n P k t p) (λ p l. least-none (cond (usesAtom k) n 1) (λ a. given (applies n P (step k t p a)) (step k t p a))
-    (λ a i. ap (λ b. given b (step k t p a)) (so-false (applies n P (step k t p a)) (λ y. h ((simp and-iff at y) .0)))))
+unfolding firstPartner firstAtom
+target-gone n P k t h = least-none (cond (usesPartner k) (length P) 1) (λ p. firstAtom n P k t p) (λ p l. least-none (cond (usesAtom k) n 1) (λ a. given (eligible n P (step k t p a)) (step k t p a))
+    (λ a i. ap (λ b. given b (step k t p a)) (so-false (eligible n P (step k t p a)) (λ y. h (eligible-ask n P (step k t p a) y .0)))))
 
 -- what the walk over the targets has passed
 abbrev pub Before : ℕ → Marked → Kind → ℕ → Type 0

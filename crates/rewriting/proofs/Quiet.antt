@@ -1,4 +1,4 @@
--- The invariant of the flagged search: where a target's flag is 0 and a key is not fresh, no step of the kind with that target and key applies.
+-- The invariant of the flagged search: where a target's flag is 0 and a key is not fresh, no step of the kind with that target and key is eligible.
 -- The key is what a step names beside its target: the partner, or the atom. Flags and fresh keys are given as functions of the number.
 use mathlib.Core.Path.{_≡_, refl, ap, subst}
 use mathlib.Core.Logic.{_≢_, by-cases}
@@ -10,8 +10,9 @@ use native.Mathlib.Decide.{ℕ-discrete, decLt}
 use lib.ListN.{length}
 use Rattle.semantics.proofs.Tests.{so-false}
 use Rattle.rewriting.specs.Marked.{Marked, entry}
-use Rattle.rewriting.specs.Steps.{Step, step, applies}
+use Rattle.rewriting.specs.Steps.{Step, step}
 use Rattle.rewriting.specs.Kinds.{Kind, usesPartner, usesAtom}
+use Rattle.rewriting.specs.Reducer.{eligible}
 use Rattle.rewriting.specs.Search.{partnerAtom, stepWith, least, given, firstAtom, firstPartner}
 use Rattle.rewriting.proofs.Search.{no-step}
 
@@ -41,7 +42,7 @@ abbrev pub Raised : (ℕ → ℕ) → (ℕ → ℕ) → Type 0
 Raised f g = (i : ℕ) → g i ≡ 0 → f i ≡ 0
 
 pub record Quiet (n : ℕ) (P : Marked) (k : Kind) (may fresh : ℕ → ℕ) : Type 0 where
-  pub calm : (u : Step) → u .kind ≡ k → may (u .target) ≡ 0 → fresh (key u) ≡ 0 → ¬ So (applies n P u)
+  pub calm : (u : Step) → u .kind ≡ k → may (u .target) ≡ 0 → fresh (key u) ≡ 0 → ¬ So (eligible n P u)
 
 -- no key is fresh
 abbrev pub stale : ℕ → ℕ
@@ -49,7 +50,7 @@ stale i = 0
 
 module _ (n : ℕ) (P : Marked) (k : Kind) (may fresh : ℕ → ℕ) where
   -- Every target flagged.
-  pub quiet-all : ((u : Step) → So (applies n P u) → may (u .target) ≢ 0) → Quiet n P k may fresh
+  pub quiet-all : ((u : Step) → So (eligible n P u) → may (u .target) ≢ 0) → Quiet n P k may fresh
   quiet-all f = record { calm = λ u e m x h. f u h m }
 
   module _ (q : Quiet n P k may fresh) where
@@ -58,7 +59,7 @@ module _ (n : ℕ) (P : Marked) (k : Kind) (may fresh : ℕ → ℕ) where
 
     -- A key spread: every target that has a step with it is flagged.
     pub quiet-spread : (may' fresh' : ℕ → ℕ) (x : ℕ) → Raised may may' → ((i : ℕ) → i ≢ x → fresh' i ≡ 0 → fresh i ≡ 0)
-        → ((u : Step) → u .kind ≡ k → key u ≡ x → So (applies n P u) → may' (u .target) ≢ 0) → Quiet n P k may' fresh'
+        → ((u : Step) → u .kind ≡ k → key u ≡ x → So (eligible n P u) → may' (u .target) ≢ 0) → Quiet n P k may' fresh'
     quiet-spread may' fresh' x f g o = record {
       calm = λ u e m y a. by-cases (ℕ-discrete (key u) x) (λ d. o u e d a m)
           (λ d. q .calm u e (f (u .target) m) (g (key u) d y) a);
@@ -68,7 +69,7 @@ module _ (n : ℕ) (P : Marked) (k : Kind) (may fresh : ℕ → ℕ) where
     pub quiet-clear : (may' : ℕ → ℕ) (t : ℕ) → ((i : ℕ) → i ≢ t → may' i ≡ 0 → may i ≡ 0) → firstPartner n P k t ≡ none → Quiet n P k may' fresh
     quiet-clear may' t f o = record {
       calm = λ u e m y a. by-cases (ℕ-discrete (u .target) t)
-          (λ d. no-step n P k t o (u .partner) (u .atom) (subst (λ i. So (applies n P (step k i (u .partner) (u .atom)))) d (subst (λ j. So (applies n P (step j (u .target) (u .partner) (u .atom)))) e a)))
+          (λ d. no-step n P k t o (u .partner) (u .atom) (subst (λ i. So (eligible n P (step k i (u .partner) (u .atom)))) d (subst (λ j. So (eligible n P (step j (u .target) (u .partner) (u .atom)))) e a)))
           (λ d. q .calm u e (f (u .target) d m) y a);
     }
 
@@ -76,5 +77,5 @@ module _ (n : ℕ) (P : Marked) (k : Kind) (may fresh : ℕ → ℕ) where
     pub quiet-target : ((x : ℕ) → fresh x ≡ 0) → (t : ℕ) → may t ≡ 0 → firstPartner n P k t ≡ none
     unfolding firstPartner firstAtom
     quiet-target f t m = least-none (cond (usesPartner k) (length P) 1) (λ p. firstAtom n P k t p)
-        (λ p l. least-none (cond (usesAtom k) n 1) (λ a. given (applies n P (step k t p a)) (step k t p a))
+        (λ p l. least-none (cond (usesAtom k) n 1) (λ a. given (eligible n P (step k t p a)) (step k t p a))
         (λ a i. ap (λ b. given b (step k t p a)) (so-false _ (q .calm (step k t p a) refl m (f (key (step k t p a)))))))

@@ -1,24 +1,27 @@
--- What a step can open: a step that applies after another one applied before it too, or is one of few.
+-- What a step can open: a step that is eligible after another one was eligible before it too, or is one of few.
 -- Kinds 1 and 2 are never opened. A drop opens only steps whose partner is the clause that lost the literal; of kinds 3 and 5 only
 -- where it is now a fact. A deletion opens only kinds 4 and 6, for an atom of the clause's head that is in no kept head now, and kind 7,
 -- where the clause fired in the reach and no kept clause fires in its place.
 use mathlib.Core.Path.{_≡_, refl, sym, ap, subst, _∙_}
 use mathlib.Core.Logic.{_⊎_, inl, inr, by-cases, ⊎-elim}
-use mathlib.Core.Bool.{Bool, true, false, So}
+use mathlib.Core.Bool.{Bool, true, false, So, false≢true}
+use mathlib.Core.List.{List, List·Memᴰ·not-nil}
 use Prim.Native.Nat.{ℕ}
 use native.Mathlib.Decide.{ℕ-discrete}
 use Rattle.semantics.specs.Lists.{_∈_, all, mem, within}
 use Rattle.semantics.specs.Programs.{Clause}
-use Rattle.semantics.proofs.Tests.{and-iff, all-iff, mem-iff, within-iff, so-dec}
+use Rattle.semantics.proofs.Tests.{and-iff, all-iff, mem-iff, null-iff, within-iff, without-out, so-dec}
 use Rattle.semantics.proofs.Models.{All}
 use Rattle.rewriting.specs.Marked.{Marked, entry, left}
 use Rattle.rewriting.specs.Reaches.{reach}
-use Rattle.rewriting.specs.Steps.{Step, step, fact, inNoHead, condition, conditionHolds, applies, effect}
-use Rattle.rewriting.specs.Kinds.{Kind, tautology, contradiction, success, noHead, blocked, failure, loop, subsumed, number, kindOf, usesPartner}
-use Rattle.rewriting.specs.Uses.{drops, asksNoHead}
-use Rattle.rewriting.proofs.Rows.{kindOf-number}
+use Rattle.rewriting.specs.Steps.{Step, step, fact, inNoHead, condition, conditionHolds, applies, leftBy, effect}
+use Rattle.rewriting.specs.Kinds.{Kind, tautology, contradiction, success, noHead, blocked, failure, loop, subsumed, Deed, deletes, dropsPos, dropsNeg, rowOf, number, kindOf, usesPartner}
+use Rattle.rewriting.specs.Uses.{dropping, drops, asksNoHead}
+use Rattle.rewriting.specs.Reducer.{passedOver, eligible}
+use Rattle.rewriting.proofs.Rows.{There, drops-there, kindOf-number}
+use Rattle.rewriting.proofs.Equal.{PassedOver, passed-iff, eligible-iff}
 use Rattle.rewriting.proofs.Subclauses.{Keeps, back}
-use Rattle.rewriting.proofs.Effect.{asks, at-other, partner-asked, effect-below, is-deleted, heads-back, reach-drop, reach-idle, reach-twin}
+use Rattle.rewriting.proofs.Effect.{asks, target-kept, at-target, at-other, partner-asked, effect-below, is-deleted, heads-back, reach-drop, reach-idle, reach-in-place}
 
 -- of a partner that lost a literal: what kinds 3, 5 and 8 ask of it alone
 abbrev pub ready : Kind → Clause → Bool
@@ -32,20 +35,47 @@ ready failure d = false
 ready loop d = false
 
 -- the target's head is the partner's: the partner of a subsumed clause fires in its place
-abbrev pub Twin : Marked → Step → Type 0
-Twin P s = (s .kind ≡ subsumed) × ((b : ℕ) → b ∈ entry P (s .target) .clause .head → b ∈ entry P (s .partner) .clause .head)
+abbrev pub SameHead : Marked → Step → Type 0
+SameHead P s = (s .kind ≡ subsumed) × ((b : ℕ) → b ∈ entry P (s .target) .clause .head → b ∈ entry P (s .partner) .clause .head)
 
 pub data Opens (P : Marked) (s u : Step) : Type 0 where
   openPartner : So (drops (s .kind)) → So (usesPartner (u .kind)) → u .partner ≡ s .target → So (ready (u .kind) (entry (effect P s) (s .target) .clause)) → Opens P s u
   openHead : ¬ So (drops (s .kind)) → So (asksNoHead (u .kind)) → u .atom ∈ entry P (s .target) .clause .head → So (inNoHead (left (effect P s)) (u .atom)) → Opens P s u
-  openReach : ¬ So (drops (s .kind)) → u .kind ≡ loop → All (reach (left P)) (entry P (s .target) .clause .pos) → ¬ Twin P s → Opens P s u
+  openReach : ¬ So (drops (s .kind)) → u .kind ≡ loop → All (reach (left P)) (entry P (s .target) .clause .pos) → ¬ SameHead P s → Opens P s u
+
+-- ---- a target that lost a literal
+
+-- some literal of c's body is not in that of c'
+pub record BodyLost (c c' : Clause) : Type 0 where
+  pub lost : ¬ (((b : ℕ) → b ∈ c .pos → b ∈ c' .pos) × ((b : ℕ) → b ∈ c .neg → b ∈ c' .neg))
+
+left-lost : (x : Deed) (a : ℕ) (c : Clause) → So (dropping x) → There x a c → BodyLost c (leftBy x a c .clause)
+left-lost deletes a c d m = absurd (false≢true d)
+left-lost dropsPos a c d m = record { lost = λ f. without-out a (c .pos) (f .0 a m) }
+left-lost dropsNeg a c d m = record { lost = λ f. without-out a (c .neg) (f .1 a m) }
+
+dropped-body : (n : ℕ) (P : Marked) (s : Step) (h : So (applies n P s)) → So (drops (s .kind)) → BodyLost (entry P (s .target) .clause) (entry (effect P s) (s .target) .clause)
+dropped-body n P s h d = subst (λ c. BodyLost (entry P (s .target) .clause) (c .clause)) (sym (at-target n P s h))
+    (left-lost (rowOf (s .kind) .deed) (s .atom) (entry P (s .target) .clause) d (drops-there (left P) (entry P (s .target) .clause) (entry P (s .partner) .clause) (s .atom) (s .kind) (asks n P s h)))
+
+-- where a step is passed over, its condition fails of a target that has less of its body
+body-lost : (P : Marked) (u : Step) → PassedOver P u → (c : Clause) → BodyLost (entry P (u .target) .clause) c → (cs : List Clause) → ¬ So (condition (u .kind) cs c (entry P (u .partner) .clause) (u .atom))
+unfolding condition
+body-lost P u r c b cs q = ⊎-elim
+    (λ e. let w = simp (and-iff, null-iff) at (asked blocked e) in b .lost (λ x m. absurd (List·Memᴰ·not-nil (subst (λ l. x ∈ l) (w .0 .0) m)), λ x m. absurd (List·Memᴰ·not-nil (subst (λ l. x ∈ l) (w .0 .1) m))))
+    (λ e. let w = simp (and-iff, within-iff) at (asked subsumed e) in b .lost (w .1 .0, w .1 .1)) (r .kind)
+  where
+    asked : (k : Kind) → u .kind ≡ k → So (condition k cs c (entry P (u .target) .clause) (u .atom))
+    asked k e = subst (λ k. So (condition k cs c (entry P (u .target) .clause) (u .atom))) e (subst (λ d. So (condition (u .kind) cs c d (u .atom))) (sym (r .equal)) q)
+
+-- ---- what a step opens
 
 module _ (n : ℕ) (P : Marked) (s : Step) (h : So (applies n P s)) where
-  pub twin-reach : Twin P s → (a : ℕ) → So (reach (left P) a) → So (reach (left (effect P s)) a)
+  pub same-head-reach : SameHead P s → (a : ℕ) → So (reach (left P) a) → So (reach (left (effect P s)) a)
   unfolding condition
-  twin-reach (e, g) = let v = partner-asked n P s h (subst (λ k. So (usesPartner k)) (sym e) refl) in
+  same-head-reach (e, g) = let v = partner-asked n P s h (subst (λ k. So (usesPartner k)) (sym e) refl) in
       let w = simp and-iff at (subst (λ k. So (condition k (left P) (entry P (s .target) .clause) (entry P (s .partner) .clause) (s .atom))) e (asks n P s h)) in
-      reach-twin n P s h (s .partner) (v .1) (v .0) (within-iff _ _ .0 (w .1 .0)) g
+      reach-in-place n P s h (s .partner) (v .1) (v .0) (within-iff _ _ .0 (w .1 .0)) g
 
   -- the three rules: what is not opened carries back
   open-partner : (u : Step) → So (usesPartner (u .kind)) → So (entry (effect P s) (u .partner) .kept) → So (ready (u .kind) (entry (effect P s) (u .partner) .clause))
@@ -67,7 +97,7 @@ module _ (n : ℕ) (P : Marked) (s : Step) (h : So (applies n P s)) where
   open-reach u e = by-cases (so-dec (drops (s .kind)))
       (λ d. inl (reach-drop n P s h d))
       (λ d. by-cases (so-dec (all (reach (left P)) (entry P (s .target) .clause .pos)))
-      (λ f. ⊎-elim (λ w. inl (twin-reach w)) (λ w. inr (openReach d e (all-iff _ _ .0 f) w)) twin-dec)
+      (λ f. ⊎-elim (λ w. inl (same-head-reach w)) (λ w. inr (openReach d e (all-iff _ _ .0 f) w)) same-head-dec)
       (λ f. inl (reach-idle n P s h d (λ g. f (all-iff _ _ .1 g)))))
     where
       kind-dec : (k : Kind) → (k ≡ subsumed) ⊎ ¬ (k ≡ subsumed)
@@ -75,8 +105,8 @@ module _ (n : ℕ) (P : Marked) (s : Step) (h : So (applies n P s)) where
           (λ e. inl (sym (kindOf-number k) ∙ ap kindOf e))
           (λ d. inr (λ e. d (ap number e)))
 
-      twin-dec : Twin P s ⊎ ¬ Twin P s
-      twin-dec = ⊎-elim
+      same-head-dec : SameHead P s ⊎ ¬ SameHead P s
+      same-head-dec = ⊎-elim
           (λ e. by-cases (so-dec (within (entry P (s .target) .clause .head) (entry P (s .partner) .clause .head)))
           (λ w. inl (e, within-iff _ _ .0 w)) (λ w. inr (λ g. w (within-iff _ _ .1 (g .1)))))
           (λ e. inr (λ g. e (g .0))) (kind-dec (s .kind))
@@ -92,6 +122,27 @@ module _ (n : ℕ) (P : Marked) (s : Step) (h : So (applies n P s)) where
   opened-at loop t p a q = ⊎-elim (λ x. inl (x a)) inr (open-reach (step loop t p a) refl)
   opened-at subsumed t p a q = let w = simp and-iff at q in open-partner (step subsumed t p a) refl (w .1 .0 .0) refl
 
-  -- A step that applies after a step applied before it, or is opened by it.
-  pub opened : (u : Step) → So (applies n (effect P s) u) → So (applies n P u) ⊎ Opens P s u
-  opened u q = ⊎-elim (λ e. inl (back n P (effect P s) (effect-below n P s h) u e q)) inr (opened-at (u .kind) (u .target) (u .partner) (u .atom) q)
+  -- A step that was passed over and still applies, with the partner as it was, is still passed over.
+  still-passed : (u : Step) → So (passedOver P u) → entry (effect P s) (u .partner) ≡ entry P (u .partner) → So (applies n (effect P s) u) → So (passedOver (effect P s) u)
+  still-passed u o e q =
+      let r = passed-iff P u .0 o in
+      by-cases (ℕ-discrete (u .target) (s .target))
+      (λ d. by-cases (so-dec (drops (s .kind)))
+      (λ x. absurd (body-lost P u r (entry (effect P s) (u .target) .clause) (subst (λ i. BodyLost (entry P i .clause) (entry (effect P s) i .clause)) (sym d) (dropped-body n P s h x)) (left (effect P s)) (subst (λ c. So (condition (u .kind) (left (effect P s)) (entry (effect P s) (u .target) .clause) (c .clause) (u .atom))) e (asks n (effect P s) u q))))
+      (λ x. absurd (is-deleted n P s h x (subst (λ i. So (entry (effect P s) i .kept)) d (target-kept n (effect P s) u q)))))
+      (λ d. passed-iff (effect P s) u .1 (record { kind = r .kind; lower = r .lower; equal = ap (λ c. c .clause) (at-other n P s h (u .target) d) ∙ r .equal ∙ sym (ap (λ c. c .clause) e) }))
+
+  -- what a kind that spares asks of the other clauses, carried back: the partner as it was
+  partner-keeps : (k : Kind) (p a : ℕ) → (k ≡ blocked) ⊎ (k ≡ subsumed) → Keeps k P (effect P s) p a → entry (effect P s) p ≡ entry P p
+  partner-keeps k p a o x = ⊎-elim (λ e. subst (λ k. Keeps k P (effect P s) p a) e x) (λ e. subst (λ k. Keeps k P (effect P s) p a) e x) o
+
+  -- A step that is eligible after a step was eligible before it, or is opened by it.
+  pub opened : (u : Step) → So (eligible n (effect P s) u) → So (eligible n P u) ⊎ Opens P s u
+  opened u q =
+      let w = eligible-iff (effect P s) u n .0 q in
+      ⊎-elim
+      (λ e. inl (eligible-iff P u n .1 (
+        back n P (effect P s) (effect-below n P s h) u e (w .0),
+        λ o. w .1 (still-passed u o (partner-keeps (u .kind) (u .partner) (u .atom) (passed-iff P u .0 o .kind) e) (w .0)),
+      )))
+      inr (opened-at (u .kind) (u .target) (u .partner) (u .atom) (w .0))

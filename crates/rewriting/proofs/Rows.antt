@@ -16,6 +16,7 @@ use Rattle.rewriting.specs.Reaches.{reach}
 use Rattle.rewriting.specs.Steps.{Step, step, fact, single, inNoHead, condition, headed, conditionHolds, atomMatches, atomHeaded, applies}
 use Rattle.rewriting.specs.Kinds.{Kind, tautology, contradiction, success, noHead, blocked, failure, loop, subsumed, Deed, deletes, dropsPos, dropsNeg, clausesAlone, rowOf, number, kindOf, usesPartner, usesAtom}
 use Rattle.rewriting.specs.Uses.{drops, asksNoHead, asksHeads}
+use Rattle.rewriting.specs.Reducer.{spares}
 use Rattle.rewriting.specs.Search.{partnerAtom}
 
 -- what holds of the eight kinds, in the order of their numbers
@@ -29,11 +30,15 @@ each-kind Q a b c d e f g h failure = f
 each-kind Q a b c d e f g h loop = g
 each-kind Q a b c d e f g h subsumed = h
 
--- what holds of the kinds with a partner, of those whose atom has to be in no kept head, of those that ask for kept heads at all, of those that drop a literal
+-- what holds of the kinds with a partner, of kinds 5 and 8, of those whose atom has to be in no kept head, of those that ask for kept heads at all, of those that drop a literal
 module _ (Q : Kind → Type 0) where
   pub kinds-partner : Q success → Q blocked → Q subsumed → (k : Kind) → So (usesPartner k) → Q k
   kinds-partner c e h = each-kind (λ k. So (usesPartner k) → Q k)
       (λ u. absurd (false≢true u)) (λ u. absurd (false≢true u)) (λ u. c) (λ u. absurd (false≢true u)) (λ u. e) (λ u. absurd (false≢true u)) (λ u. absurd (false≢true u)) (λ u. h)
+
+  pub kinds-spares : Q blocked → Q subsumed → (k : Kind) → So (spares k) → Q k
+  kinds-spares e h = each-kind (λ k. So (spares k) → Q k)
+      (λ u. absurd (false≢true u)) (λ u. absurd (false≢true u)) (λ u. absurd (false≢true u)) (λ u. absurd (false≢true u)) (λ u. e) (λ u. absurd (false≢true u)) (λ u. absurd (false≢true u)) (λ u. h)
 
   pub kinds-no-head : Q noHead → Q failure → (k : Kind) → So (asksNoHead k) → Q k
   kinds-no-head d f = each-kind (λ k. So (asksNoHead k) → Q k)

@@ -1,4 +1,4 @@
--- The nested search finds the smallest applicable step, and nothing only where none applies.
+-- The nested search finds the smallest eligible step, and nothing only where none is.
 use mathlib.Core.Path.{Path, _≡_, refl, sym, subst, _∙_}
 use mathlib.Core.Logic.{by-cases}
 use mathlib.Core.Bool.{Bool, true, false, not, cond, _&&_, So, false≢true}
@@ -17,6 +17,7 @@ use Rattle.rewriting.specs.Reducer.{Less, lessKind, lessTarget, lessPart
 use Rattle.rewriting.specs.Search.{least, given, firstAtom, firstPartner, firstTarget, firstStep}
 use Rattle.rewriting.proofs.Left.{kept-lt}
 use Rattle.rewriting.proofs.Rows.{kind-index, number-kindOf}
+use Rattle.rewriting.proofs.Equal.{eligible-applies}
 
 none≢some : {B : Type 0} {b : B} → Path (Option B) none (some b) → ⊥
 none≢some p = let z : _≡_ {A = ℕ} 0 1 = cc in omega arith
@@ -70,43 +71,43 @@ atom-lt false n a h = omega (arith, eqb-true a 0 h)
 
 module _ (n : ℕ) (P : Marked) where
   Atom : Kind → ℕ → ℕ → ℕ → Type 0
-  Atom k t p a = So (applies n P (step k t p a))
+  Atom k t p a = So (eligible n P (step k t p a))
 
   Partner : Kind → ℕ → ℕ → Type 0
-  Partner k t p = (a : ℕ) × So (applies n P (step k t p a))
+  Partner k t p = (a : ℕ) × So (eligible n P (step k t p a))
 
   Target : Kind → ℕ → Type 0
-  Target k t = (p : ℕ) × (a : ℕ) × So (applies n P (step k t p a))
+  Target k t = (p : ℕ) × (a : ℕ) × So (eligible n P (step k t p a))
 
   OfKind : ℕ → Type 0
-  OfKind i = (i < 8) × (t : ℕ) × (p : ℕ) × (a : ℕ) × So (applies n P (step (kindOf (suc i)) t p a))
+  OfKind i = (i < 8) × (t : ℕ) × (p : ℕ) × (a : ℕ) × So (eligible n P (step (kindOf (suc i)) t p a))
 
-  pub atom-bound : (k : Kind) (t p a : ℕ) → So (applies n P (step k t p a)) → a < cond (usesAtom k) n 1
+  pub atom-bound : (k : Kind) (t p a : ℕ) → So (eligible n P (step k t p a)) → a < cond (usesAtom k) n 1
   unfolding applies
-  atom-bound k t p a h = let w = simp and-iff at h in atom-lt (usesAtom k) n a (w .1 .1 .0)
+  atom-bound k t p a h = let w = simp and-iff at (eligible-applies n P (step k t p a) h) in atom-lt (usesAtom k) n a (w .1 .1 .0)
 
   partner-bound : (k : Kind) (t p : ℕ) → Partner k t p → p < cond (usesPartner k) (length P) 1
   unfolding applies Partner
-  partner-bound k t p (a, h) = let w = simp and-iff at h in partner-lt (usesPartner k) P t p (w .1 .0)
+  partner-bound k t p (a, h) = let w = simp and-iff at (eligible-applies n P (step k t p a) h) in partner-lt (usesPartner k) P t p (w .1 .0)
 
   target-bound : (k : Kind) (t : ℕ) → Target k t → t < length P
   unfolding applies Target
-  target-bound k t (p, a, h) = let w = simp and-iff at h in kept-lt P t (w .0)
+  target-bound k t (p, a, h) = let w = simp and-iff at (eligible-applies n P (step k t p a) h) in kept-lt P t (w .0)
 
-  atom-dead : (k : Kind) (t p a : ℕ) → given (applies n P (step k t p a)) (step k t p a) ≡ none → ¬ Atom k t p a
+  atom-dead : (k : Kind) (t p a : ℕ) → given (eligible n P (step k t p a)) (step k t p a) ≡ none → ¬ Atom k t p a
   unfolding Atom
-  atom-dead k t p a e = given-none (applies n P (step k t p a)) (step k t p a) e
+  atom-dead k t p a e = given-none (eligible n P (step k t p a)) (step k t p a) e
 
   partner-dead : (k : Kind) (t p : ℕ) → firstAtom n P k t p ≡ none → ¬ Partner k t p
   unfolding Partner Atom firstAtom
-  partner-dead k t p e (a, h) = level-none (cond (usesAtom k) n 1) (λ a. given (applies n P (step k t p a)) (step k t p a)) (Atom k t p) (atom-bound k t p) (atom-dead k t p) e a h
+  partner-dead k t p e (a, h) = level-none (cond (usesAtom k) n 1) (λ a. given (eligible n P (step k t p a)) (step k t p a)) (Atom k t p) (atom-bound k t p) (atom-dead k t p) e a h
 
   target-dead : (k : Kind) (t : ℕ) → firstPartner n P k t ≡ none → ¬ Target k t
   unfolding Partner Target firstPartner
   target-dead k t e (p, a, h) = level-none (cond (usesPartner k) (length P) 1) (λ p. firstAtom n P k t p) (Partner k t) (partner-bound k t) (partner-dead k t) e p (a, h)
 
-  -- A target at which the search finds nothing has no step.
-  pub no-step : (k : Kind) (t : ℕ) → firstPartner n P k t ≡ none → (p a : ℕ) → ¬ So (applies n P (step k t p a))
+  -- A target at which the search finds nothing has no eligible step.
+  pub no-step : (k : Kind) (t : ℕ) → firstPartner n P k t ≡ none → (p a : ℕ) → ¬ So (eligible n P (step k t p a))
   unfolding Target
   no-step k t e p a h = target-dead k t e (p, a, h)
 
@@ -114,16 +115,16 @@ module _ (n : ℕ) (P : Marked) where
   unfolding Target OfKind firstTarget
   kind-dead i e (l, t, p, a, h) = level-none (length P) (λ t. firstPartner n P (kindOf (suc i)) t) (Target (kindOf (suc i))) (target-bound (kindOf (suc i))) (target-dead (kindOf (suc i))) e t (p, a, h)
 
-  at-kind : (u : Step) → So (applies n P u) → (i : ℕ) × (number (u .kind) ≡ suc i) × OfKind i
+  at-kind : (u : Step) → So (eligible n P u) → (i : ℕ) × (number (u .kind) ≡ suc i) × OfKind i
   unfolding OfKind
   at-kind u h = let w = kind-index (u .kind) in (w .0, w .2, (w .1, u .target, u .partner, u .atom, rw (w .3) h))
 
-  -- Nothing is found only where no step applies.
-  pub firstStep-none : firstStep n P ≡ none → (u : Step) → ¬ So (applies n P u)
+  -- Nothing is found only where no step is eligible.
+  pub firstStep-none : firstStep n P ≡ none → (u : Step) → ¬ So (eligible n P u)
   unfolding firstStep OfKind
   firstStep-none e u h = level-none 8 (λ i. firstTarget n P (kindOf (suc i))) OfKind (λ i q. q .0) kind-dead e (at-kind u h .0) (at-kind u h .2)
 
-  -- What is found applies, and no smaller step does.
+  -- What is found is eligible, and no smaller step is.
   pub firstStep-some : (s : Step) → firstStep n P ≡ some s → IsFirst (eligible n) P s
   unfolding firstStep firstTarget firstPartner firstAtom OfKind Target Partner Atom
   firstStep-some s e =
@@ -131,12 +132,12 @@ module _ (n : ℕ) (P : Marked) where
       let k = kindOf (suc (w .0)) in
       let x = level-some (length P) (λ t. firstPartner n P k t) (Target k) (target-bound k) (target-dead k) s (w .2) in
       let y = level-some (cond (usesPartner k) (length P) 1) (λ p. firstAtom n P k (x .0) p) (Partner k (x .0)) (partner-bound k (x .0)) (partner-dead k (x .0)) s (x .2) in
-      let z = level-some (cond (usesAtom k) n 1) (λ a. given (applies n P (step k (x .0) (y .0) a)) (step k (x .0) (y .0) a)) (Atom k (x .0) (y .0)) (atom-bound k (x .0) (y .0)) (atom-dead k (x .0) (y .0)) s (y .2) in
-      let v = given-some (applies n P (step k (x .0) (y .0) (z .0))) (step k (x .0) (y .0) (z .0)) s (z .2) in
-      subst (IsFirst (eligible n) P) (v .1) (record { applicable = v .0; smallest = smaller (w .0) (x .0) (y .0) (z .0) (w .1) (w .3) (x .3) (y .3) (z .3) })
+      let z = level-some (cond (usesAtom k) n 1) (λ a. given (eligible n P (step k (x .0) (y .0) a)) (step k (x .0) (y .0) a)) (Atom k (x .0) (y .0)) (atom-bound k (x .0) (y .0)) (atom-dead k (x .0) (y .0)) s (y .2) in
+      let v = given-some (eligible n P (step k (x .0) (y .0) (z .0))) (step k (x .0) (y .0) (z .0)) s (z .2) in
+      subst (IsFirst (eligible n) P) {x = step k (x .0) (y .0) (z .0)} (v .1) (record { applicable = v .0; smallest = smaller (w .0) (x .0) (y .0) (z .0) (w .1) (w .3) (x .3) (y .3) (z .3) })
     where
       smaller : (i t p a : ℕ) → i < 8 → ((j : ℕ) → j < i → ¬ OfKind j) → ((j : ℕ) → j < t → ¬ Target (kindOf (suc i)) j) → ((j : ℕ) → j < p → ¬ Partner (kindOf (suc i)) t j) → ((j : ℕ) → j < a → ¬ Atom (kindOf (suc i)) t p j)
-          → (u : Step) → Less u (step (kindOf (suc i)) t p a) → ¬ So (applies n P u)
+          → (u : Step) → Less u (step (kindOf (suc i)) t p a) → ¬ So (eligible n P u)
       smaller i t p a b dk dt dp da u (lessKind l) h = let w = at-kind u h in dk (w .0) (omega (arith, number-kindOf i b, w .1)) (w .2)
       smaller i t p a b dk dt dp da u (lessTarget e l) h = dt (u .target) l (u .partner, u .atom, rw (← e) h)
       smaller i t p a b dk dt dp da u (lessPartner e f l) h = dp (u .partner) l (u .atom, rw (← e, ← f) h)

@@ -45,7 +45,7 @@ strong subsumed = true
 
 module _ (P : Marked) (t p a : ℕ) where
   -- questions 13, 14 and 16
-  abbrev Ask : Kind → Type 0
+  abbrev pub Ask : Kind → Type 0
   Ask k = So (entry P t .kept) × So (cond (usesPartner k) (entry P p .kept && not (eqb p t)) (eqb p 0)) × So (condition k (left P) (entry P t .clause) (entry P p .clause) a)
 
   abbrev After : Kind → List Clause

@@ -7,7 +7,7 @@ use lib.ListN.{length, getD}
 use Rattle.semantics.specs.Programs.{Clause}
 use Rattle.rewriting.specs.Marked.{Marked, entry}
 use Rattle.rewriting.specs.Kinds.{Kind, kindOf, usesPartner, usesAtom}
-use Rattle.rewriting.specs.Steps.{Step, step, applies, effect}
+use Rattle.rewriting.specs.Steps.{Step, step, effect}
 use Rattle.rewriting.specs.Reducer.{eligible}
 
 -- the one atom that a step of a kind with a partner can name: the partner's head atom for kind 3, and 0 where unused
@@ -29,7 +29,7 @@ given false s = none
 
 -- kinds in order, targets and partners below m, atoms below n; 0 where unused
 unfoldable pub firstAtom : ℕ → Marked → Kind → ℕ → ℕ → Option Step
-unfolding least applies
+unfolding least eligible
 firstAtom n P k t p = least (cond (usesAtom k) n 1) (λ a. given (eligible n P (step k t p a)) (step k t p a))
 
 unfoldable pub firstPartner : ℕ → Marked → Kind → ℕ → Option Step

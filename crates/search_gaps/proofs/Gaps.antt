@@ -10,7 +10,8 @@ use lib.ListN.{length, getD, set, length-set}
 use lib.Seq.{getD-set-same, getD-set-other}
 use Rattle.semantics.proofs.Tests.{so-false}
 use Rattle.rewriting.specs.Marked.{entry}
-use Rattle.rewriting.specs.Steps.{Step, applies}
+use Rattle.rewriting.specs.Steps.{Step}
+use Rattle.rewriting.specs.Reducer.{eligible}
 use Rattle.rewriting.specs.Search.{stepWith}
 use Rattle.rewriting.specs.Kinds.{kindOf}
 use Rattle.rewriting.proofs.Quiet.{stale}
@@ -68,11 +69,11 @@ module _ (ws ms flags : List ℕ) (kind t : ℕ) (c : Calm ws ms flags kind) (k 
       frame = λ j h _. s .same j h;
     }
       where
-        below : (u : Step) → So (applies (getD ws 0 0) (view ws ms) u) → u .target < 2048
+        below : (u : Step) → So (eligible (getD ws 0 0) (view ws ms) u) → u .target < 2048
         below u h = omega (arith, target-lt ws ms u h, passed-limits ws ok .fewClauses)
 
-    -- no clause before r makes a step
-    none-before : (q : ℕ) → q < r → applies (getD ws 0 0) (view ws ms) (stepWith (view ws ms) (kindOf kind) t q) ≡ false
+    -- no clause before r makes an eligible step
+    none-before : (q : ℕ) → q < r → eligible (getD ws 0 0) (view ws ms) (stepWith (view ws ms) (kindOf kind) t q) ≡ false
     none-before q h = by-cases (decLt (q + 1) (flagAt flags kind t)) (λ x. calm-from ws ms flags kind c k t q x)
         (λ x. so-false _ (λ y. s .gone q (omega arith) h (partner-kept (view ws ms) (getD ws 0 0) (kindOf kind) t q _ (k .uses) y)))
 

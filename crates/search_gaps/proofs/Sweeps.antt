@@ -1,4 +1,4 @@
--- A search of a kind changes flags of its own: a target without a flag, or before a flag's key, has no step.
+-- A search of a kind changes flags of its own: a target without a flag, or before a flag's key, has no eligible step.
 use mathlib.Core.Path.{_≡_, refl, sym, ap, subst, _∙_}
 use mathlib.Core.Logic.{_≢_, _⊎_, by-cases, ⊎-elim}
 use mathlib.Core.Bool.{false, So}
@@ -10,7 +10,7 @@ use native.Mathlib.Decide.{ℕ-discrete, decLt}
 use lib.ListN.{getD, set}
 use lib.Seq.{getD-set-same, getD-set-other}
 use Rattle.semantics.proofs.Tests.{so-false, not-so}
-use Rattle.rewriting.specs.Steps.{applies}
+use Rattle.rewriting.specs.Reducer.{eligible}
 use Rattle.rewriting.specs.Kinds.{kindOf}
 use Rattle.rewriting.specs.Search.{stepWith, firstPartner}
 use Rattle.rewriting.proofs.Order.{Before}
@@ -22,8 +22,8 @@ use Rattle.search_keys.specs.State.{Gaps, Calm, Swept}
 use Rattle.search_flags.proofs.Flags.{outside, rows-set, flag-cleared}
 use Rattle.search_spreads.proofs.Spreads.{by-partner}
 
--- a target has no step with a partner before its flag's key
-pub calm-from : (ws ms flags : List ℕ) (kind : ℕ) → Calm ws ms flags kind → PartnerKind kind → (t q : ℕ) → q + 1 < flagAt flags kind t → applies (getD ws 0 0) (view ws ms) (stepWith (view ws ms) (kindOf kind) t q) ≡ false
+-- a target has no eligible step with a partner before its flag's key
+pub calm-from : (ws ms flags : List ℕ) (kind : ℕ) → Calm ws ms flags kind → PartnerKind kind → (t q : ℕ) → q + 1 < flagAt flags kind t → eligible (getD ws 0 0) (view ws ms) (stepWith (view ws ms) (kindOf kind) t q) ≡ false
 calm-from ws ms flags kind c k t q l = so-false _ (λ h.
     let v = c .least (k .uses) (stepWith (view ws ms) (kindOf kind) t q) refl refl h in omega (arith, v, key-with (view ws ms) (kindOf kind) t q (k .uses), l))
 
@@ -31,7 +31,7 @@ pub swept-none : (ws ms flags : List ℕ) (kind : ℕ) → Calm ws ms flags kind
 swept-none ws ms flags kind c = record { calm = c; frame = λ j _ _. refl }
 
 module _ (ws ms flags flags' : List ℕ) (kind : ℕ) (s : Swept ws ms flags flags' kind) where
-  -- a target without a flag has no step
+  -- a target without a flag has no eligible step
   pub swept-over : (t : ℕ) → getD flags' (kind * 2048 + t) 0 ≡ 0 → firstPartner (getD ws 0 0) (view ws ms) (kindOf kind) t ≡ none
   swept-over t e = quiet-target (getD ws 0 0) (view ws ms) (kindOf kind) (flagAt flags' kind) stale (s .calm .quiet) (λ x. refl) t e
 
@@ -44,7 +44,7 @@ module _ (ws ms flags flags' : List ℕ) (kind : ℕ) (s : Swept ws ms flags fla
   gaps-same : (t v : ℕ) → kind ≤ 16 → t < 2048 → Gaps ws ms (set flags' (kind * 2048 + t) v)
   gaps-same t v h l p j a b d = s .calm .gaps p j a b (omega (arith, getD-set-other flags' (kind * 2048 + t) (nexts + p) v 0 (λ z. omega arith), d))
 
-  -- a target that has no step loses its flag
+  -- a target that has no eligible step loses its flag
   pub swept-clear : kind ≤ 16 → (t : ℕ) → t < 2048 → firstPartner (getD ws 0 0) (view ws ms) (kindOf kind) t ≡ none → Swept ws ms flags (set flags' (kind * 2048 + t) 0) kind
   swept-clear h t l e = record {
     calm = record {
@@ -60,8 +60,8 @@ module _ (ws ms flags flags' : List ℕ) (kind : ℕ) (s : Swept ws ms flags fla
     frame = swept-frame t 0 l;
   }
 
-  -- the flag of a target goes up to the first partner that it has a step with
-  pub swept-later : PartnerKind kind → (t p : ℕ) → t < 2048 → flagAt flags' kind t ≢ 0 → ((q : ℕ) → q < p → applies (getD ws 0 0) (view ws ms) (stepWith (view ws ms) (kindOf kind) t q) ≡ false)
+  -- the flag of a target goes up to the first partner that it has an eligible step with
+  pub swept-later : PartnerKind kind → (t p : ℕ) → t < 2048 → flagAt flags' kind t ≢ 0 → ((q : ℕ) → q < p → eligible (getD ws 0 0) (view ws ms) (stepWith (view ws ms) (kindOf kind) t q) ≡ false)
       → Swept ws ms flags (set flags' (kind * 2048 + t) (p + 1)) kind
   swept-later k t p l f b = record {
     calm = record {
@@ -70,7 +70,7 @@ module _ (ws ms flags flags' : List ℕ) (kind : ℕ) (s : Swept ws ms flags fla
           (λ i z. by-cases (ℕ-discrete i t) (λ d. absurd (let q = at i d in omega arith)) (λ d. sym (beside i d) ∙ z)) (λ i z. z);
       least = λ y u g h v. by-cases (ℕ-discrete (u .target) t)
           (λ d. let q = at (u .target) d in by-cases (decLt (key u) p)
-          (λ x. absurd (not-so (b (key u) x) (subst (λ i. So (applies (getD ws 0 0) (view ws ms) (stepWith (view ws ms) (kindOf kind) i (key u)))) d (by-partner (getD ws 0 0) (view ws ms) u (kindOf kind) g v y))))
+          (λ x. absurd (not-so (b (key u) x) (subst (λ i. So (eligible (getD ws 0 0) (view ws ms) (stepWith (view ws ms) (kindOf kind) i (key u)))) d (by-partner (getD ws 0 0) (view ws ms) u (kindOf kind) g v y))))
           (λ x. omega (arith, q)))
           (λ d. omega (arith, beside (u .target) d, s .calm .least y u g h v));
       bounded = λ d u g h y. omega (arith, most-same t (p + 1) (u .target) (let z = k .high in omega arith) l, s .calm .bounded d u g h y);
@@ -89,7 +89,7 @@ module _ (ws ms flags flags' : List ℕ) (kind : ℕ) (s : Swept ws ms flags fla
       beside i d = getD-set-other flags' (kind * 2048 + t) (kind * 2048 + i) (p + 1) 0 (λ q. d (omega arith))
 
   module _ (t end : ℕ) (w : Inside flags' kind t end) (few : getD ws 1 0 ≤ 2048) where
-    -- the targets before the row's first flag have no step
+    -- the targets before the row's first flag have no eligible step
     pub swept-before : t ≤ getD ws 1 0 → Before (getD ws 0 0) (view ws ms) (kindOf kind) t
     swept-before l j k = swept-over j (outside flags' kind t end j w (omega arith) (λ a b. omega arith))
 

@@ -8,6 +8,8 @@ use lib.ListN.{getD}
 use lib.Dec.{eqb, ltb}
 use borrow.Author.Tests.{ltb-true}
 use Rattle.rewriting.specs.Steps.{step, applies, conditionHolds}
+use Rattle.rewriting.specs.Reducer.{eligible}
+use Rattle.rewriting.proofs.Equal.{eligible-applies}
 use Rattle.rewriting.specs.Kinds.{kindOf, usesPartner}
 use Rattle.rewriting.proofs.Quiet.{key}
 use Rattle.table.specs.View.{view}
@@ -27,7 +29,7 @@ module _ (ws ms flags flags' : List ℕ) (kind x : ℕ) where
   pub key-partner : So (usesPartner (kindOf kind)) → PartnerSpread ws ms flags flags' kind x → KeySpread ws ms flags flags' kind x
   key-partner p s = record {
     raising = s .raising;
-    flagged = λ u e d h. let w = s .flagged (u .target) (subst (λ y. So (applies (getD ws 0 0) (view ws ms) (stepWith (view ws ms) (kindOf kind) (u .target) y))) d (by-partner (getD ws 0 0) (view ws ms) u (kindOf kind) e h p)) in (w .0 .0, λ _. w);
+    flagged = λ u e d h. let w = s .flagged (u .target) (subst (λ y. So (eligible (getD ws 0 0) (view ws ms) (stepWith (view ws ms) (kindOf kind) (u .target) y))) d (by-partner (getD ws 0 0) (view ws ms) u (kindOf kind) e h p)) in (w .0 .0, λ _. w);
   }
 
   pub key-all : usesPartner (kindOf kind) ≡ false → Raising flags flags' kind (getD ws 1 0) → AllFlagged flags' kind (getD ws 1 0) → KeySpread ws ms flags flags' kind x
@@ -43,14 +45,14 @@ module _ (ws ms flags flags' : List ℕ) (kind x : ℕ) where
   pub key-atom : usesPartner (kindOf kind) ≡ false → Spread ws ms flags flags' kind 0 x → KeySpread ws ms flags flags' kind x
   key-atom p s = record {
     raising = s .raising;
-    flagged = λ u e d h. (s .flagged (u .target) (subst (λ y. So (applies (getD ws 0 0) (view ws ms) (step (kindOf kind) (u .target) 0 y))) d (by-atom (getD ws 0 0) (view ws ms) u (kindOf kind) e h p)) .0 .0, λ q. absurd (false≢true (sym p ∙ q)));
+    flagged = λ u e d h. (s .flagged (u .target) (subst (λ y. So (eligible (getD ws 0 0) (view ws ms) (step (kindOf kind) (u .target) 0 y))) d (by-atom (getD ws 0 0) (view ws ms) u (kindOf kind) e h p)) .0 .0, λ q. absurd (false≢true (sym p ∙ q)));
   }
 
 module _ (ws ms flags : List ℕ) (kind x : ℕ) where
   pub key-without : So (usesPartner (kindOf kind)) → NoPartner ws ms kind x → KeySpread ws ms flags flags kind x
   key-without p n = record {
     raising = raising-none flags kind (getD ws 1 0);
-    flagged = λ u e d h. absurd (n (u .target) _ (subst (λ y. So (applies (getD ws 0 0) (view ws ms) (stepWith (view ws ms) (kindOf kind) (u .target) y))) d (by-partner (getD ws 0 0) (view ws ms) u (kindOf kind) e h p)));
+    flagged = λ u e d h. absurd (n (u .target) _ (subst (λ y. So (eligible (getD ws 0 0) (view ws ms) (stepWith (view ws ms) (kindOf kind) (u .target) y))) d (by-partner (getD ws 0 0) (view ws ms) u (kindOf kind) e h p)));
   }
 
   pub key-empty : getD ws 1 0 ≡ 0 → KeySpread ws ms flags flags kind x
@@ -61,7 +63,7 @@ module _ (ws ms flags : List ℕ) (kind x : ℕ) where
   key-past q p l = record {
     raising = raising-none flags kind (getD ws 1 0);
     flagged = λ u e d h.
-        let v = subst (λ y. So (applies (getD ws 0 0) (view ws ms) (step (kindOf kind) (u .target) 0 y))) d (by-atom (getD ws 0 0) (view ws ms) u (kindOf kind) e h p) in
-        let w = simp and-iff at v in
+        let v = subst (λ y. So (eligible (getD ws 0 0) (view ws ms) (step (kindOf kind) (u .target) 0 y))) d (by-atom (getD ws 0 0) (view ws ms) u (kindOf kind) e h p) in
+        let w = simp and-iff at (eligible-applies (getD ws 0 0) (view ws ms) (step (kindOf kind) (u .target) 0 x) v) in
         absurd (omega (arith, ltb-true x (getD ws 0 0) (subst (λ b. So (cond b (ltb x (getD ws 0 0)) (eqb x 0))) (alone-atom (kindOf kind) p) (w .1 .1 .0)), passed-limits ws q .fewAtoms));
   }

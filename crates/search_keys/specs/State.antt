@@ -1,8 +1,8 @@
 -- What the search knows: the arrays beside the words and the marks, and which targets it need not look at. In the order in which they are used:
--- `Quiet` (`rewriting/proofs/Quiet`): of a kind, no step is open but at a flagged target or with a fresh key.
+-- `Quiet` (`rewriting/proofs/Quiet`): of a kind, no step is eligible but at a flagged target or with a fresh key.
 -- `State`, between two steps: the arrays are right, and every kind is quiet.
 -- `Settled`, of a kind: no key is fresh. `Prepared`: that, and for kind 7 the reach is known; then its search can begin.
--- `Calm`, while a kind is searched: quiet with no fresh key, so that a target without a flag has no step.
+-- `Calm`, while a kind is searched: quiet with no fresh key, so that a target without a flag has no eligible step.
 -- `Lifted`: a flag went up past clauses that are gone, and the kind is still calm.
 -- `Swept`, after the search: calm, and nothing but the kind's own flags changed, so that it is a `State` again.
 use mathlib.Core.Path.{_≡_}
@@ -12,7 +12,8 @@ use mathlib.Core.List.{List}
 use Prim.Native.Nat.{ℕ, _+_, _*_, _≤_, _<_}
 use lib.ListN.{length, getD}
 use Rattle.rewriting.specs.Marked.{entry, left}
-use Rattle.rewriting.specs.Steps.{Step, condition, applies}
+use Rattle.rewriting.specs.Steps.{Step, condition}
+use Rattle.rewriting.specs.Reducer.{eligible}
 use Rattle.rewriting.specs.Kinds.{Kind, success, loop, subsumed, number, kindOf, usesPartner}
 use Rattle.rewriting.proofs.Quiet.{Quiet, stale, key}
 use Rattle.table.specs.View.{view}
@@ -27,19 +28,19 @@ pub record Arrays (ws ms index hs rs : List ℕ) (kind : ℕ) : Type 0 where
   pub counted : Heads ws ms hs
   pub reached : kind ≡ 7 → Reached ws ms rs
 
--- Where a kind has a partner, a target's flag is no more than one above the partner of any step whose key is not fresh.
+-- Where a kind has a partner, a target's flag is no more than one above the partner of any eligible step whose key is not fresh.
 abbrev pub Least : List ℕ → List ℕ → Kind → (ℕ → ℕ) → (ℕ → ℕ) → Type 0
-Least ws ms k flags fresh = So (usesPartner k) → (u : Step) → u .kind ≡ k → fresh (key u) ≡ 0 → So (applies (getD ws 0 0) (view ws ms) u) → flags (u .target) ≤ key u + 1
+Least ws ms k flags fresh = So (usesPartner k) → (u : Step) → u .kind ≡ k → fresh (key u) ≡ 0 → So (eligible (getD ws 0 0) (view ws ms) u) → flags (u .target) ≤ key u + 1
 
--- The partner of a step of kind 3 whose key is not fresh is below a bound of the target.
+-- The partner of an eligible step of kind 3 whose key is not fresh is below a bound of the target.
 abbrev pub Most : List ℕ → List ℕ → (ℕ → ℕ) → (ℕ → ℕ) → Type 0
-Most ws ms top fresh = (u : Step) → u .kind ≡ success → fresh (key u) ≡ 0 → So (applies (getD ws 0 0) (view ws ms) u) → key u + 1 ≤ top (u .target)
+Most ws ms top fresh = (u : Step) → u .kind ≡ success → fresh (key u) ≡ 0 → So (eligible (getD ws 0 0) (view ws ms) u) → key u + 1 ≤ top (u .target)
 
 -- From a clause up to its number every clause is gone.
 abbrev pub Gaps : List ℕ → List ℕ → List ℕ → Type 0
 Gaps ws ms flags = (p j : ℕ) → p < 2048 → p ≤ j → j < next flags p → ¬ So (entry (view ws ms) j .kept)
 
--- A target of the kind without a flag has no step.
+-- A target of the kind without a flag has no eligible step.
 pub record Calm (ws ms flags : List ℕ) (kind : ℕ) : Type 0 where
   pub rows : Rows (getD ws 1 0) flags
   pub least : Least ws ms (kindOf kind) (flagAt flags kind) stale
@@ -66,23 +67,23 @@ pub record Lifted (ws ms flags flags' : List ℕ) (kind t : ℕ) : Type 0 where
   pub flagged : flagAt flags' kind t ≢ 0
   pub inside : (low end : ℕ) → Inside flags kind low end → Inside flags' kind low end
 
--- Clause q stands before x, subsumes it and is not fresh: what x subsumes, q does too, but for q itself.
+-- Clause q stands before x, subsumes it and is not fresh: every eligible target of x is one of q.
 pub record Subsumer (ws ms flags : List ℕ) (x q : ℕ) : Type 0 where
   pub less : q < x
   pub stale : flagAt flags 16 q ≡ 0
   pub kept : entry (view ws ms) q .kept ≡ true
   pub holds : So (condition subsumed (left (view ws ms)) (entry (view ws ms) x .clause) (entry (view ws ms) q .clause) 0)
 
--- Every target that has a step with the key is flagged; the key is what a step names beside its target, the partner or the atom.
+-- Every target that has an eligible step with the key is flagged; the key is what a step names beside its target, the partner or the atom.
 pub record KeySpread (ws ms flags flags' : List ℕ) (kind x : ℕ) : Type 0 where
   pub raising : Raising flags flags' kind (getD ws 1 0)
-  pub flagged : (u : Step) → u .kind ≡ kindOf kind → key u ≡ x → So (applies (getD ws 0 0) (view ws ms) u) → (flagAt flags' kind (u .target) ≢ 0) × (So (usesPartner (kindOf kind)) → Covered flags' kind (u .target) x)
+  pub flagged : (u : Step) → u .kind ≡ kindOf kind → key u ≡ x → So (eligible (getD ws 0 0) (view ws ms) u) → (flagAt flags' kind (u .target) ≢ 0) × (So (usesPartner (kindOf kind)) → Covered flags' kind (u .target) x)
 
 -- no key of the kind is fresh
 abbrev pub Settled : List ℕ → ℕ → Type 0
 Settled flags kind = (x : ℕ) → x < 2048 → flagAt flags (8 + kind) x ≡ 0
 
--- Between two steps: the arrays are what the words and the marks say, and no step is open but those at flagged targets and fresh keys.
+-- Between two steps: the arrays are what the words and the marks say, and no step is eligible but those at flagged targets and fresh keys.
 -- The reach is that of the program while its flag is 0.
 pub record State (ws ms index hs rs flags : List ℕ) : Type 0 where
   pub ready : Ready ws ms index

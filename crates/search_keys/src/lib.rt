@@ -52,7 +52,7 @@ fn is_subsumed(
     step_conditions::holds(words, marks, index, heads, reach, 8, x, q, 0)
 }
 
-// The targets of a partner. Where a clause before it subsumes it, they are flagged already, but for that clause.
+// The targets of a partner. Where a clause before it subsumes it, they are flagged already.
 fn spread_clause(
     words: &[u16],
     marks: &[u8],
@@ -68,11 +68,10 @@ fn spread_clause(
     ensures { λ _. ⌜ PartnerSpread (now (words .entry)) (now (marks .entry)) (now (flags .entry)) (now (flags .exit)) kind x ⌝ }
 {
     let q = least_before(flags, x);
-    if !is_subsumed(words, marks, index, heads, reach, flags, kind, x, q) {
-        search_spreads::spread_partner(words, marks, index, heads, reach, flags, kind, x, m);
+    if is_subsumed(words, marks, index, heads, reach, flags, kind, x, q) {
         return;
     }
-    search_spreads::spread_one(words, marks, index, heads, reach, flags, kind, x, 0, q);
+    search_spreads::spread_partner(words, marks, index, heads, reach, flags, kind, x, m);
 }
 
 // The targets of kind 4 or 6 that have an atom, where it is in no kept head.
@@ -107,7 +106,7 @@ fn spread_atom(
     );
 }
 
-// Flags every target of the kind that has a step with the key.
+// Flags every target of the kind that has an eligible step with the key.
 fn spread_key(
     words: &[u16],
     marks: &[u8],

@@ -12,11 +12,12 @@ use Rattle.semantics.proofs.Models.{All}
 use Rattle.rewriting.specs.Marked.{Marked, entry, left}
 use Rattle.rewriting.specs.Reaches.{reach}
 use Rattle.rewriting.specs.Steps.{Step, applies, effect}
+use Rattle.rewriting.specs.Reducer.{eligible}
 use Rattle.rewriting.specs.Kinds.{Kind, success, noHead, blocked, failure, loop, subsumed, number, kindOf, usesPartner}
 use Rattle.rewriting.specs.Uses.{drops, asksNoHead}
 use Rattle.rewriting.proofs.Rows.{number-bounds, kinds-partner, kinds-no-head}
 use Rattle.rewriting.proofs.Effect.{effect-below, reach-less, idle-reach}
-use Rattle.rewriting.proofs.Reopen.{Opens, openPartner, openHead, openReach, opened, twin-reach, Twin}
+use Rattle.rewriting.proofs.Reopen.{Opens, openPartner, openHead, openReach, opened, same-head-reach, SameHead}
 use Rattle.rewriting.proofs.Quiet.{Quiet, key}
 use Rattle.table.specs.View.{view}
 use Rattle.table.specs.Effects.{marksAfter}
@@ -51,7 +52,7 @@ module _ (ws ms index hs rs flags : List ℕ) (z : State ws ms index hs rs flags
       → ((u : Step) → u .kind ≡ k → Opens P s u → g' (key u) ≢ 0) → Quiet n (view ws after) k f' g'
   quiet-on k f g f' g' q a b o = record {
     calm = λ u e m x v.
-        let w = subst (λ R. So (applies n R u)) is-effect v in
+        let w = subst (λ R. So (eligible n R u)) is-effect v in
         ⊎-elim (λ y. q .calm u e (a (u .target) (omega (arith, target-lt ws after u v, passed-limits ws (z .ready .placed .passed) .fewClauses)) m) (b (key u) (key-lt ws after (z .ready .placed .passed) u v) x) y)
         (λ p. o u e p x) (opened n P s h u w);
   }
@@ -59,7 +60,7 @@ module _ (ws ms index hs rs flags : List ℕ) (z : State ws ms index hs rs flags
   -- so do the flags' keys
   least-on : (k : Kind) (flags' : List ℕ) → Opened flags flags' → ((u : Step) → u .kind ≡ k → Opens P s u → flagAt flags' (8 + number k) (key u) ≢ 0) → Least ws after k (flagAt flags' (number k)) (flagAt flags' (8 + number k))
   least-on k flags' w o p u e f v =
-      let a = subst (λ R. So (applies n R u)) is-effect v in
+      let a = subst (λ R. So (eligible n R u)) is-effect v in
       let t : u .target < 2048 = omega (arith, target-lt ws after u v, passed-limits ws (z .ready .placed .passed) .fewClauses) in
       let g = w .grown (8 + number k) (key u) (omega (arith, number-bounds k)) (key-lt ws after (z .ready .placed .passed) u v) f in
       ⊎-elim
@@ -72,7 +73,7 @@ module _ (ws ms index hs rs flags : List ℕ) (z : State ws ms index hs rs flags
   most-on flags' w o u e f v =
       let t : u .target < 2048 = omega (arith, target-lt ws after u v, passed-limits ws (z .ready .placed .passed) .fewClauses) in
       let g = w .grown 11 (key u) (omega arith) (key-lt ws after (z .ready .placed .passed) u v) f in
-      ⊎-elim (λ y. let x = z .bounded u e g y in let d = w .more (u .target) t in omega arith) (λ q. absurd (o u e q f)) (opened n P s h u (subst (λ R. So (applies n R u)) is-effect v))
+      ⊎-elim (λ y. let x = z .bounded u e g y in let d = w .more (u .target) t in omega arith) (λ q. absurd (o u e q f)) (opened n P s h u (subst (λ R. So (eligible n R u)) is-effect v))
 
   -- a clause that is gone stays gone
   gaps-on : (flags' : List ℕ) → Opened flags flags' → Gaps ws after flags'
@@ -116,7 +117,7 @@ module _ (ws ms index hs rs flags : List ℕ) (z : State ws ms index hs rs flags
 
     -- A deletion: the atoms of its head are fresh keys of kinds 4 and 6, and the reach is known only where it is as it was.
     pub state-deleted : (hs' : List ℕ) → ¬ So (drops (s .kind)) → Tallied (entry P (s .target) .clause .head) hs' hs
-        → (flagAt flags' 0 0 ≡ 0 → (¬ All (reach (left P)) (entry P (s .target) .clause .pos)) ⊎ Twin P s)
+        → (flagAt flags' 0 0 ≡ 0 → (¬ All (reach (left P)) (entry P (s .target) .clause .pos)) ⊎ SameHead P s)
         → AllFresh flags' (entry (view ws after) (s .target) .clause .head) → State ws after index hs' rs flags'
     state-deleted hs' d c t f = record {
       ready = ready-after;
@@ -131,9 +132,9 @@ module _ (ws ms index hs rs flags : List ℕ) (z : State ws ms index hs rs flags
       bounded = most-on flags' o (only success (λ l. absurd (false≢true (subst (λ j. So (usesPartner j)) l refl))));
     }
       where
-        reach-same : ((¬ All (reach (left P)) (entry P (s .target) .clause .pos)) ⊎ Twin P s) → (a : ℕ) → reach (left P) a ≡ reach (left (view ws after)) a
+        reach-same : ((¬ All (reach (left P)) (entry P (s .target) .clause .pos)) ⊎ SameHead P s) → (a : ℕ) → reach (left P) a ≡ reach (left (view ws after)) a
         reach-same x a = so-ext (reach (left P) a) (reach (left (effect P s)) a)
-            (⊎-elim (λ v. idle-reach n P s h d v a .0) (λ v. twin-reach n P s h v a) x) (reach-less n P s h d a) ∙ ap (λ R. reach (left R) a) (sym is-effect)
+            (⊎-elim (λ v. idle-reach n P s h d v a .0) (λ v. same-head-reach n P s h v a) x) (reach-less n P s h d a) ∙ ap (λ R. reach (left R) a) (sym is-effect)
 
         in-head : (a : ℕ) → a ∈ entry P (s .target) .clause .head → a ∈ entry (view ws after) (s .target) .clause .head
         in-head a m = subst (λ R. a ∈ entry R (s .target) .clause .head) (sym is-effect) (subst (λ l. a ∈ l) (sym (effect-below n P s h (s .target) .head)) m)

@@ -13,7 +13,7 @@ use Rattle.semantics.specs.Lists.{_∈_, all, within}
 use Rattle.semantics.proofs.Tests.{not-so, all-iff, within-iff}
 use Rattle.rewriting.specs.Marked.{Marked, entry}
 use Rattle.rewriting.proofs.Effect.{partner-asked}
-use Rattle.rewriting.proofs.Reopen.{Twin}
+use Rattle.rewriting.proofs.Reopen.{SameHead}
 use Rattle.rewriting.proofs.Left.{kept-lt}
 use Rattle.table.proofs.View.{length-view}
 use Rattle.step_reach.specs.Bytes.{inBytes}
@@ -123,14 +123,14 @@ module _ (ws ms index hs rs flags : List ℕ) (s : Step) (z : State ws ms index 
   pub lost-idle : false ≡ all (inBytes rs) (entry (view ws ms) (s .target) .clause .pos) → Lost ws ms flags flags s
   lost-idle e = record { opened = opened-none flags; keeps = λ k. inl (λ g. not-so (sym e) (all-iff (inBytes rs) (entry (view ws ms) (s .target) .clause .pos) .1 (λ a m. z .reached k .is a ∙ g a m))) }
 
-  pub lost-twin : Twin (view ws ms) s → Lost ws ms flags flags s
-  lost-twin t = record { opened = opened-none flags; keeps = λ _. inr t }
+  pub lost-same-head : SameHead (view ws ms) s → Lost ws ms flags flags s
+  lost-same-head t = record { opened = opened-none flags; keeps = λ _. inr t }
 
   pub lost-all : (flags' : List ℕ) → Raising flags flags' 0 1 → flagAt flags' 0 0 ≢ 0 → Lost ws ms flags flags' s
   lost-all flags' g f = record { opened = opened-by flags flags' 0 1 g (inl refl); keeps = λ e. absurd (f e) }
 
-pub twin-by : (P : Marked) (s : Step) → s .kind ≡ subsumed → within (entry P (s .target) .clause .head) (entry P (s .partner) .clause .head) ≡ true → Twin P s
-twin-by P s e w = (e, within-iff _ _ .0 w)
+pub same-head-by : (P : Marked) (s : Step) → s .kind ≡ subsumed → within (entry P (s .target) .clause .head) (entry P (s .partner) .clause .head) ≡ true → SameHead P s
+same-head-by P s e w = (e, within-iff _ _ .0 w)
 
 pub partner-lt : (ws ms : List ℕ) (s : Step) → s .kind ≡ subsumed → So (applies (getD ws 0 0) (view ws ms) s) → s .partner < getD ws 1 0
 partner-lt ws ms s e h = omega (arith, kept-lt (view ws ms) (s .partner) (partner-asked (getD ws 0 0) (view ws ms) s h (subst (λ k. So (usesPartner k)) (sym e) refl) .0), length-view ws ms)

@@ -9,7 +9,7 @@ use Rattle.semantics.specs.Lists.{_∈_}
 use Rattle.semantics.proofs.Models.{All}
 use Rattle.rewriting.specs.Reaches.{reach}
 use Rattle.rewriting.specs.Steps as steps
-use Rattle.rewriting.proofs.Reopen.{Twin}
+use Rattle.rewriting.proofs.Reopen.{SameHead}
 use Rattle.rewriting.specs.Marked.{entry, left}
 use Rattle.rewriting.specs.Steps.{applies}
 use Rattle.table.specs.View.{view}
@@ -50,4 +50,4 @@ pub record StepMade (ws ms : List ℕ) (s : Step) : Type 0 where
 -- Where the first flag stays 0, the deletion leaves the reach as it is: the clause did not fire, or its partner fires in its place.
 pub record Lost (ws ms flags flags' : List ℕ) (s : steps.Step) : Type 0 where
   pub opened : Opened flags flags'
-  pub keeps : flagAt flags' 0 0 ≡ 0 → (¬ All (reach (left (view ws ms))) (entry (view ws ms) (s .target) .clause .pos)) ⊎ Twin (view ws ms) s
+  pub keeps : flagAt flags' 0 0 ≡ 0 → (¬ All (reach (left (view ws ms))) (entry (view ws ms) (s .target) .clause .pos)) ⊎ SameHead (view ws ms) s

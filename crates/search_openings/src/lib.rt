@@ -12,7 +12,7 @@ ghost use Rattle.search_keys.specs.State.{State};
 ghost use Rattle.rewriting.specs.Marked.{entry};
 ghost use Rattle.rewriting.specs.Kinds.{kindOf};
 ghost use Rattle.rewriting.specs.Uses.{drops};
-ghost use Rattle.rewriting.proofs.Reopen.{Twin};
+ghost use Rattle.rewriting.proofs.Reopen.{SameHead};
 ghost use Rattle.semantics.specs.Lists.{all};
 ghost use Rattle.step_reach.specs.Bytes.{inBytes};
 ghost use Rattle.search_openings.specs.Opened.{Opened, PartnerFresh, AtomFresh, AllFresh, StepMade, Lost};
@@ -76,9 +76,9 @@ fn fires(words: &[u16], marks: &[u8], index: &[u16], reach: &[u8], t: usize) -> 
 }
 
 // Whether the clause that a step deletes has a partner that fires in its place.
-fn has_twin(words: &[u16], marks: &[u8], index: &[u16], step: Step) -> bool
+fn same_head(words: &[u16], marks: &[u8], index: &[u16], step: Step) -> bool
     requires { ⌜ (Ready (now words) (now marks) (now index)) × (StepMade (now words) (now marks) step) ⌝ }
-    ensures { λ r. ⌜ (r ≡ true → Twin (view (now (words .entry)) (now (marks .entry))) (stepOf step)) ⌝ }
+    ensures { λ r. ⌜ (r ≡ true → SameHead (view (now (words .entry)) (now (marks .entry))) (stepOf step)) ⌝ }
 {
     if step.kind != 8 {
         return false;
@@ -110,7 +110,7 @@ fn lose_reach(
     if !fires(words, marks, index, reach, table::wide(step.target)) {
         return;
     }
-    if has_twin(words, marks, index, step) {
+    if same_head(words, marks, index, step) {
         return;
     }
     search_flags::flag(flags, 0, 0, 0);

@@ -1,6 +1,7 @@
 -- The kinds with a partner: what a test by stamps says.
 use mathlib.Core.Path.{_≡_, refl, sym, ap, _∙_}
-use mathlib.Core.Bool.{Bool, true, false, _&&_, So}
+use mathlib.Core.Logic.{_≢_}
+use mathlib.Core.Bool.{Bool, true, false, not, _&&_, So}
 use mathlib.Core.List.{List, [], _∷_, List·Memᴰ·head}
 use Prim.Native.Nat.{ℕ, _+_, _-_, _<_}
 use native.Mathlib.Omega.{arith}
@@ -11,13 +12,17 @@ use Rattle.semantics.specs.Lists.{_∈_, all, mem}
 use Rattle.semantics.specs.Programs.{Clause}
 use borrow.Author.Tests.{eq-eqb}
 use Rattle.rewriting.specs.Marked.{entry}
-use Rattle.rewriting.specs.Steps.{fact, single, atomKnown, condition, conditionHolds}
+use Rattle.rewriting.specs.Steps.{Step, fact, single, atomKnown, condition, conditionHolds, applies}
+use Rattle.rewriting.specs.Reducer.{passedOver, eligible}
 use Rattle.rewriting.specs.Search.{stepWith}
-use Rattle.rewriting.specs.Kinds.{Kind, success, blocked, subsumed, usesPartner}
+use Rattle.rewriting.specs.Kinds.{Kind, success, blocked, subsumed, kindOf, usesPartner}
+use Rattle.rewriting.proofs.Left.{kept-lt}
+use Rattle.rewriting.proofs.Equal.{eligible-not, eligible-rest}
 use Rattle.table.specs.Questions.{Passed}
 use Rattle.table.specs.View.{view}
 use Rattle.table.proofs.Encoding.{passed-limits}
 use Rattle.table.proofs.Parts.{view-straight}
+use Rattle.table.proofs.View.{length-view}
 use Rattle.step_parts.specs.declared.Part.{Part}
 use Rattle.step_parts.specs.declared.Bounds.{Bounds}
 use Rattle.step_parts.specs.declared.Single.the-variants.{One}
@@ -27,7 +32,8 @@ use Rattle.search_partners.specs.Stamps.{stamped, isStamped, allStamped,
 use Rattle.search_partners.proofs.Stamps.{all-same, stamps-of}
 use Rattle.step_parts.proofs.Laws.{words-below}
 use Rattle.step_conditions.proofs.Tests.{single-one}
-use Rattle.step_kinds.proofs.Applies.{with-known}
+use Rattle.step_kinds.specs.Kinds.{PartnerKind}
+use Rattle.step_kinds.proofs.Applies.{with-known, same-applies, gone-applies, other-applies}
 
 -- ---- atoms are below 1,024
 
@@ -113,3 +119,33 @@ single-below ws ms ok p b e = head-below ws ms ok p b (there (entry (view ws ms)
 pub clause-stamps : (ws ms : List ℕ) → Passed ws → (t : ℕ) → let c = entry (view ws ms) t .clause in
     Stamps c (stamped (stamped (stamped (replicate 3072 0) 0 (c .head)) 1024 (c .pos)) 2048 (c .neg))
 clause-stamps ws ms ok t = stamps-of (entry (view ws ms) t .clause) (λ a. head-below ws ms ok t a) (λ a. pos-below ws ms ok t a) (λ a. neg-below ws ms ok t a)
+
+-- ---- whether the step is eligible
+
+module _ (ws ms : List ℕ) (ok : Passed ws) (kind : ℕ) (k : PartnerKind kind) (t p : ℕ) (kept : So (entry (view ws ms) t .kept)) where
+  abbrev with : Step
+  with = stepWith (view ws ms) (kindOf kind) t p
+
+  abbrev known : So (conditionHolds (view ws ms) with) → So (atomKnown (getD ws 0 0) with)
+  known = settled-known ws ms ok (kindOf kind) (k .uses) t p
+
+  -- a kept clause is one of the table's
+  pub kept-below : t < getD ws 1 0
+  kept-below = omega (arith, kept-lt (view ws ms) t kept, length-view ws ms)
+
+  pub itself-eligible : p ≡ t → false ≡ eligible (getD ws 0 0) (view ws ms) with
+  itself-eligible e = eligible-not (getD ws 0 0) (view ws ms) with (same-applies (getD ws 0 0) (view ws ms) (kindOf kind) (k .uses) t p known kept e)
+
+  pub gone-eligible : entry (view ws ms) p .kept ≡ false → false ≡ eligible (getD ws 0 0) (view ws ms) with
+  gone-eligible e = eligible-not (getD ws 0 0) (view ws ms) with (gone-applies (getD ws 0 0) (view ws ms) (kindOf kind) (k .uses) t p known kept e)
+
+  -- another clause that is kept: the condition decides, and whether the step is passed over
+  module _ (e : entry (view ws ms) p .kept ≡ true) (d : p ≢ t) (r : Bool) (fits : r ≡ conditionHolds (view ws ms) with) where
+    applies-is : r ≡ applies (getD ws 0 0) (view ws ms) with
+    applies-is = fits ∙ other-applies (getD ws 0 0) (view ws ms) (kindOf kind) (k .uses) t p known kept e d
+
+    pub unfit-eligible : r ≡ false → false ≡ eligible (getD ws 0 0) (view ws ms) with
+    unfit-eligible n = eligible-not (getD ws 0 0) (view ws ms) with (sym n ∙ applies-is)
+
+    pub fit-eligible : r ≡ true → (o : Bool) → o ≡ passedOver (view ws ms) with → not o ≡ eligible (getD ws 0 0) (view ws ms) with
+    fit-eligible y o q = ap not q ∙ eligible-rest (getD ws 0 0) (view ws ms) with (sym applies-is ∙ y)

@@ -5,7 +5,8 @@ ghost use Prim.Native.Nat.{_≤_, _<_};
 ghost use lib.ListN.{length, getD, replicate};
 ghost use Rattle.semantics.specs.Lists.{all};
 ghost use Rattle.rewriting.specs.Marked.{entry};
-ghost use Rattle.rewriting.specs.Steps.{fact, single, conditionHolds, applies};
+ghost use Rattle.rewriting.specs.Steps.{fact, single, conditionHolds};
+ghost use Rattle.rewriting.specs.Reducer.{eligible};
 ghost use Rattle.rewriting.specs.Search.{stepWith};
 ghost use Rattle.rewriting.specs.Kinds.{kindOf};
 ghost use Rattle.table.specs.View.{view};
@@ -166,8 +167,8 @@ fn partner_fits(
     step_conditions::is_fact(words, marks, index, p)
 }
 
-// Whether the step of kind 3, 5 or 8 with the kept target that is stamped and the partner p, which settles its atom, applies.
-pub fn partner_applies(
+// Whether the step of kind 3, 5 or 8 with the kept target that is stamped and the partner p, which settles its atom, is one that the reducer may take.
+pub fn partner_eligible(
     words: &[u16],
     marks: &[u8],
     index: &[u16],
@@ -177,7 +178,7 @@ pub fn partner_applies(
     p: usize,
 ) -> bool
     requires { ⌜ (Ready (now words) (now marks) (now index)) × ((p < getD (now words) 1 0) × ((length (now stamps) ≡ 3072) × ((Stamps (entry (view (now words) (now marks)) t .clause) (now stamps)) × ((PartnerKind kind) × So (entry (view (now words) (now marks)) t .kept))))) ⌝ }
-    ensures { λ r. ⌜ r ≡ applies (getD (now (words .entry)) 0 0) (view (now (words .entry)) (now (marks .entry))) (stepWith (view (now (words .entry)) (now (marks .entry))) (kindOf kind) t p) ⌝ }
+    ensures { λ r. ⌜ r ≡ eligible (getD (now (words .entry)) 0 0) (view (now (words .entry)) (now (marks .entry))) (stepWith (view (now (words .entry)) (now (marks .entry))) (kindOf kind) t p) ⌝ }
 {
     if p == t {
         return false;
@@ -185,5 +186,8 @@ pub fn partner_applies(
     if !step_parts::kept(words, marks, index, p) {
         return false;
     }
-    partner_fits(words, marks, index, stamps, kind, t, p)
+    if !partner_fits(words, marks, index, stamps, kind, t, p) {
+        return false;
+    }
+    !search_passed::passed_over(words, marks, index, kind, t, p)
 }

@@ -3,7 +3,7 @@ use mathlib.Core.Path.{_≡_, refl, sym, ap, subst, _∙_}
 use mathlib.Core.Logic.{_≢_, inl, inr, by-cases}
 use mathlib.Core.Bool.{Bool, true, false, cond, _&&_, So, false≢true}
 use mathlib.Core.List.{List, [], _∷_, List·Memᴰ·head}
-use Prim.Native.Nat.{ℕ, zero, suc, _+_, _≤_, _<_}
+use Prim.Native.Nat.{ℕ, _+_, _≤_, _<_}
 use native.Mathlib.Omega.{arith}
 use native.Mathlib.Decide.{ℕ-discrete, decLt}
 use lib.Dec.{eqb}
@@ -12,10 +12,11 @@ use Rattle.semantics.specs.Lists.{_∈_, null, mem, within}
 use Rattle.semantics.specs.Programs.{Clause}
 use Rattle.semantics.proofs.Tests.{and-iff, mem-iff, within-iff, not-so}
 use Rattle.rewriting.specs.Marked.{entry, left}
-use Rattle.rewriting.specs.Steps.{step, fact, inNoHead, condition, applies}
+use Rattle.rewriting.specs.Steps.{step, fact, inNoHead, condition}
+use Rattle.rewriting.specs.Reducer.{eligible}
 use Rattle.rewriting.specs.Kinds.{kindOf, usesAtom}
 use Rattle.rewriting.proofs.Rows.{succeeds}
-use Rattle.rewriting.proofs.Sound.{applies-ask}
+use Rattle.rewriting.proofs.Equal.{eligible-ask}
 use Rattle.table.specs.Questions.{Passed}
 use Rattle.table.specs.View.{view}
 use Rattle.table.proofs.Encoding.{passed-limits}
@@ -45,9 +46,9 @@ part-small ws ms p t a Head m = omega (arith, view-straight ws ms p t .headBelow
 part-small ws ms p t a Pos m = omega (arith, view-straight ws ms p t .posBelow a m, passed-limits ws p .fewAtoms)
 part-small ws ms p t a Neg m = omega (arith, view-straight ws ms p t .negBelow a m, passed-limits ws p .fewAtoms)
 
-asked-of : (ws ms : List ℕ) (kind t p a : ℕ) → So (applies (getD ws 0 0) (view ws ms) (step (kindOf kind) t p a))
+asked-of : (ws ms : List ℕ) (kind t p a : ℕ) → So (eligible (getD ws 0 0) (view ws ms) (step (kindOf kind) t p a))
     → So (condition (kindOf kind) (left (view ws ms)) (entry (view ws ms) t .clause) (entry (view ws ms) p .clause) a)
-asked-of ws ms kind t p a h = applies-ask (getD ws 0 0) (view ws ms) (step (kindOf kind) t p a) h .2
+asked-of ws ms kind t p a h = eligible-ask (getD ws 0 0) (view ws ms) (step (kindOf kind) t p a) h .2
 
 -- the partner's first head atom is in the part of the target that its kind names
 head-clue : (kind : ℕ) (cs : List Clause) (c d : Clause) (a : ℕ) → PartnerKind kind → null (d .head) ≡ false → So (condition (kindOf kind) cs c d a) → getD (d .head) 0 0 ∈ partOf (targetPart kind) c
@@ -120,7 +121,7 @@ spread-headed ws ms hs flags kind a k h e = record {
 pub record SpreadAlong (ws ms index flags flags' : List ℕ) (kind p atom : ℕ) (x : Part) (a i : ℕ) : Type 0 where
   pub raising : Raising flags flags' kind (getD ws 1 0)
   pub here : 0 < i → Stands ws x a (getD index (ownerAt i) 0) i
-  pub done : (t j : ℕ) → Stands ws x a t j → i < j → So (applies (getD ws 0 0) (view ws ms) (step (kindOf kind) t p atom)) → Covered flags' kind t p
+  pub done : (t j : ℕ) → Stands ws x a t j → i < j → So (eligible (getD ws 0 0) (view ws ms) (step (kindOf kind) t p atom)) → Covered flags' kind t p
 
 pub along-none : (ws ms index flags : List ℕ) (kind p atom : ℕ) (x : Part) (a i : ℕ) → Passed ws → Latest ws index x a (length ws) i → SpreadAlong ws ms index flags flags kind p atom x a i
 along-none ws ms index flags kind p atom x a i q l = record {
@@ -134,7 +135,7 @@ latest-less ws index x a i k h l = by-cases (decLt 0 k) (λ z. l .some z .0) (λ
 
 module _ (ws ms index flags flags' : List ℕ) (kind p atom : ℕ) (x : Part) (a i : ℕ) (w : SpreadAlong ws ms index flags flags' kind p atom x a i) (pass : Passed ws) where
   abbrev at : ℕ → Bool
-  at t = applies (getD ws 0 0) (view ws ms) (step (kindOf kind) t p atom)
+  at t = eligible (getD ws 0 0) (view ws ms) (step (kindOf kind) t p atom)
 
   pub along-on : 0 < i → kind ≤ 16 → (k : ℕ) → ((y : Part) (b t : ℕ) → Stands ws y b t i → Latest ws index y b i k) → (flags'' : List ℕ) (t : ℕ) → t ≡ getD index (ownerAt i) 0
       → Raising flags' flags'' kind (t + 1) × (So (at t) → Covered flags'' kind t p) → SpreadAlong ws ms index flags flags'' kind p atom x a k

@@ -3,7 +3,8 @@ ghost use mathlib.Core.Path.{_≡_};
 ghost use mathlib.Core.Bool.{So, true, false};
 ghost use Prim.Native.Nat.{_+_, _≤_, _<_};
 ghost use lib.ListN.{length, getD};
-ghost use Rattle.rewriting.specs.Steps.{step, applies};
+ghost use Rattle.rewriting.specs.Steps.{step};
+ghost use Rattle.rewriting.specs.Reducer.{eligible};
 ghost use Rattle.rewriting.specs.Kinds.{kindOf};
 ghost use Rattle.table.specs.View.{view};
 ghost use Rattle.step_parts.specs.Parts.{Ready};
@@ -34,8 +35,29 @@ fn may_target(words: &[u16], marks: &[u8], index: &[u16], kind: u16, t: usize, p
     step_parts::kept(words, marks, index, t)
 }
 
-// Flags the target t of the kind, if the condition holds with the partner p and the atom.
-pub fn spread_one(
+// Whether the condition of the kind holds for target t, partner p and the atom, and the reducer does not pass the step over.
+fn may_take(
+    words: &[u16],
+    marks: &[u8],
+    index: &[u16],
+    heads: &[u16],
+    reach: &[u8],
+    kind: u16,
+    t: usize,
+    p: usize,
+    atom: u16,
+) -> bool
+    requires { ⌜ (Ready (now words) (now marks) (now index)) × (((t < getD (now words) 1 0) × (p < getD (now words) 1 0)) × (((1 ≤ kind) × (kind ≤ 8)) × (Known (kindOf kind) (now words) (now marks) (now heads) (now reach)))) ⌝ }
+    ensures { λ r. ⌜ (r ≡ false → ¬ So (eligible (getD (now (words .entry)) 0 0) (view (now (words .entry)) (now (marks .entry))) (step (kindOf kind) t p atom))) ⌝ }
+{
+    if !step_conditions::holds(words, marks, index, heads, reach, kind, t, p, atom) {
+        return false;
+    }
+    !search_passed::passed_over(words, marks, index, kind, t, p)
+}
+
+// Flags the target t of the kind, if the reducer may take its step with the partner p and the atom.
+fn spread_one(
     words: &[u16],
     marks: &[u8],
     index: &[u16],
@@ -48,7 +70,7 @@ pub fn spread_one(
     t: usize,
 )
     requires { ⌜ (Ready (now words) (now marks) (now index)) × ((t < getD (now words) 1 0) × ((p < getD (now words) 1 0) × (((1 ≤ kind) × (kind ≤ 8)) × ((Known (kindOf kind) (now words) (now marks) (now heads) (now reach)) × (length (now flags) ≡ allFlags))))) ⌝ }
-    ensures { λ _. ⌜ Raising (now (flags .entry)) (now (flags .exit)) kind (t + 1) × (So (applies (getD (now (words .entry)) 0 0) (view (now (words .entry)) (now (marks .entry))) (step (kindOf kind) t p atom)) → Covered (now (flags .exit)) kind t p) ⌝ }
+    ensures { λ _. ⌜ Raising (now (flags .entry)) (now (flags .exit)) kind (t + 1) × (So (eligible (getD (now (words .entry)) 0 0) (view (now (words .entry)) (now (marks .entry))) (step (kindOf kind) t p atom)) → Covered (now (flags .exit)) kind t p) ⌝ }
 {
     let row = table::wide(kind);
     if search_flags::covered(flags, row, t, p) {
@@ -57,7 +79,7 @@ pub fn spread_one(
     if !may_target(words, marks, index, kind, t, p) {
         return;
     }
-    if !step_conditions::holds(words, marks, index, heads, reach, kind, t, p, atom) {
+    if !may_take(words, marks, index, heads, reach, kind, t, p, atom) {
         return;
     }
     search_flags::cover(flags, row, t, p);

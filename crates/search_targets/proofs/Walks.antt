@@ -13,11 +13,12 @@ use Rattle.semantics.specs.Lists.{_∈_, ascending}
 use Rattle.semantics.specs.Programs.{Clause}
 use Rattle.semantics.proofs.Tests.{so-false, not-so, and-iff}
 use Rattle.rewriting.specs.Marked.{entry, left}
-use Rattle.rewriting.specs.Steps.{Step, step, inNoHead, applies}
+use Rattle.rewriting.specs.Steps.{Step, step, inNoHead}
+use Rattle.rewriting.specs.Reducer.{eligible}
 use Rattle.rewriting.specs.Kinds.{kindOf}
 use Rattle.rewriting.specs.Search.{stepWith, firstPartner, firstTarget}
 use Rattle.rewriting.proofs.Order.{firstIn, asked, walked, atom-first, target-gone, partner-end, partner-hit, Before, search-end, search-hit}
-use Rattle.rewriting.proofs.Sound.{applies-ask}
+use Rattle.rewriting.proofs.Equal.{eligible-ask}
 use Rattle.rewriting.proofs.Quiet.{key-with}
 use Rattle.table.specs.View.{part, view}
 use Rattle.table.proofs.View.{length-view}
@@ -142,16 +143,16 @@ module _ (ws ms : List ℕ) (kind t : ℕ) (k : PartnerKind kind) where
   }
 
   pub partners-gone : entry (view ws ms) t .kept ≡ false → Partners ws ms kind t 0
-  partners-gone y = record { most = omega arith; kept = λ z. absurd (omega arith); all = λ p h. absurd (not-so y (applies-ask (getD ws 0 0) (view ws ms) (stepWith (view ws ms) (kindOf kind) t p) h .0)) }
+  partners-gone y = record { most = omega arith; kept = λ z. absurd (omega arith); all = λ p h. absurd (not-so y (eligible-ask (getD ws 0 0) (view ws ms) (stepWith (view ws ms) (kindOf kind) t p) h .0)) }
 
 module _ (ws ms : List ℕ) (kind t e : ℕ) (q : Partners ws ms kind t e) (k : PartnerKind kind) where
-  abbrev applies-at : ℕ → Bool
-  applies-at p = applies (getD ws 0 0) (view ws ms) (stepWith (view ws ms) (kindOf kind) t p)
+  abbrev eligible-at : ℕ → Bool
+  eligible-at p = eligible (getD ws 0 0) (view ws ms) (stepWith (view ws ms) (kindOf kind) t p)
 
-  pub partners-none : ((p : ℕ) → p < e → applies-at p ≡ false) → firstPartner (getD ws 0 0) (view ws ms) (kindOf kind) t ≡ none
+  pub partners-none : ((p : ℕ) → p < e → eligible-at p ≡ false) → firstPartner (getD ws 0 0) (view ws ms) (kindOf kind) t ≡ none
   partners-none h = partner-end (getD ws 0 0) (view ws ms) (kindOf kind) t (k .uses) (λ p l. so-false _ (λ y. not-so (h p (q .all p y)) y))
 
-  pub partners-hit : (p : ℕ) → p < e → ((i : ℕ) → i < p → applies-at i ≡ false) → applies-at p ≡ true
+  pub partners-hit : (p : ℕ) → p < e → ((i : ℕ) → i < p → eligible-at i ≡ false) → eligible-at p ≡ true
       → firstPartner (getD ws 0 0) (view ws ms) (kindOf kind) t ≡ some (stepWith (view ws ms) (kindOf kind) t p)
   partners-hit p l h a = partner-hit (getD ws 0 0) (view ws ms) (kindOf kind) t p (k .uses) (omega (arith, q .most, length-view ws ms)) h a
 

@@ -6,7 +6,8 @@ use mathlib.Core.Option.{Option, none, some}
 use Prim.Native.Nat.{ℕ, _-_, _≤_, _<_}
 use lib.ListN.{length, getD}
 use Rattle.rewriting.specs.Marked.{entry, left}
-use Rattle.rewriting.specs.Steps.{Step, step, applies}
+use Rattle.rewriting.specs.Steps.{Step, step}
+use Rattle.rewriting.specs.Reducer.{eligible}
 use Rattle.rewriting.specs.Kinds.{number, kindOf}
 use Rattle.rewriting.specs.Search.{stepWith, firstPartner}
 use Rattle.rewriting.proofs.Order.{firstIn, asked}
@@ -33,8 +34,8 @@ pub record PartWalk (ws ms : List ℕ) (kind t i e : ℕ) : Type 0 where
   pub finds : firstIn (λ a. step (kindOf kind) t 0 a) (asked (kindOf kind) (left (view ws ms)) (entry (view ws ms) t .clause)) (part ws ms i (e - i))
       ≡ firstPartner (getD ws 0 0) (view ws ms) (kindOf kind) t
 
--- The partners below e are all that the target t can have.
+-- The partners below e are all that the target t can have in an eligible step.
 pub record Partners (ws ms : List ℕ) (kind t e : ℕ) : Type 0 where
   pub most : e ≤ getD ws 1 0
   pub kept : 0 < e → So (entry (view ws ms) t .kept)
-  pub all : (p : ℕ) → So (applies (getD ws 0 0) (view ws ms) (stepWith (view ws ms) (kindOf kind) t p)) → p < e
+  pub all : (p : ℕ) → So (eligible (getD ws 0 0) (view ws ms) (stepWith (view ws ms) (kindOf kind) t p)) → p < e

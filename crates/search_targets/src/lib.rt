@@ -178,7 +178,7 @@ pub fn first_by_partner(
             let mut stamps = [0u8; 3072];
             search_partners::stamp_clause(words, marks, index, t, &mut stamps);
             for p in from..e {
-                if search_partners::partner_applies(words, marks, index, &stamps, kind, t, p) {
+                if search_partners::partner_eligible(words, marks, index, &stamps, kind, t, p) {
                     flags[base + t] = search_flags::narrow(p + 1);
                     found = Found::One(step_with(words, marks, index, kind, t, p));
                     break 'search;

@@ -9,7 +9,7 @@ use Rattle.table.specs.View.{view}
 use Rattle.step_parts.specs.Parts.{Ready}
 use Rattle.step_conditions.specs.Known.{stepOf, Tallied}
 use Rattle.search_keys.specs.State.{State}
-use Rattle.search_spreads.proofs.Limits.{target-lt}
+use Rattle.search_spreads.proofs.Limits.{applied-lt}
 use Rattle.search_openings.specs.Opened.{AllFresh}
 use Rattle.search_openings.proofs.Opens.{opened-more}
 use Rattle.search_openings.proofs.Keeps.{ready-after, state-deleted}
@@ -26,7 +26,7 @@ lower-heads-requires c κs =
     let u = stepOf (c .before .before .before .before .before .before .before .before .before .before .before .before .before .before .before .args .step) in (
       c .before .before .before .before .before .before .before .before .before .before .before .before .before .before .before .pre .0 .ready,
       (
-        omega (arith, c .before .before .before .before .before .before .before .before .wide .ensures .0, target-lt (c .before .before .before .before .before .before .before .before .before .before .before .before .before .before .before .args .words .now) (c .before .before .before .before .before .before .before .before .before .before .before .before .before .before .before .args .marks .now) u t),
+        omega (arith, c .before .before .before .before .before .before .before .before .wide .ensures .0, applied-lt (c .before .before .before .before .before .before .before .before .before .before .before .before .before .before .before .args .words .now) (c .before .before .before .before .before .before .before .before .before .before .before .before .before .before .before .args .marks .now) u t),
         (
           c .before .before .before .before .before .before .before .before .before .before .before .before .before .before .before .pre .0 .counted,
           subst (λ i. So (entry (view (c .before .before .before .before .before .before .before .before .before .before .before .before .before .before .before .args .words .now) (c .before .before .before .before .before .before .before .before .before .before .before .before .before .before .before .args .marks .now)) i .kept)) (sym (c .before .before .before .before .before .before .before .before .wide .ensures .0)) (target-kept (getD (c .before .before .before .before .before .before .before .before .before .before .before .before .before .before .before .args .words .now) 0 0) (view (c .before .before .before .before .before .before .before .before .before .before .before .before .before .before .before .args .words .now) (c .before .before .before .before .before .before .before .before .before .before .before .before .before .before .before .args .marks .now)) u t),
@@ -42,7 +42,7 @@ open-head-requires c κs =
     let t = c .before .before .before .before .before .before .before .before .before .before .before .before .before .before .before .before .before .before .before .before .before .before .before .before .pre .1 .0 .applies in
     let u = stepOf (c .before .before .before .before .before .before .before .before .before .before .before .before .before .before .before .before .before .before .before .before .before .before .before .before .args .step) in (
       subst (λ k. Ready (c .before .before .before .before .before .before .before .before .before .before .before .before .before .before .before .before .before .before .before .before .before .before .before .before .args .words .now) k (c .before .before .before .before .before .before .before .before .before .before .before .before .before .before .before .before .before .before .before .before .before .before .before .before .args .index .now)) (sym (c .before .before .before .before .make-step .ensures)) (ready-after _ _ _ _ _ _ (c .before .before .before .before .before .before .before .before .before .before .before .before .before .before .before .before .before .before .before .before .before .before .before .before .pre .0) u t),
-      (omega (arith, c .before .before .before .before .before .before .before .before .before .before .before .before .before .before .before .before .before .wide .ensures .0, target-lt (c .before .before .before .before .before .before .before .before .before .before .before .before .before .before .before .before .before .before .before .before .before .before .before .before .args .words .now) (c .before .before .before .before .before .before .before .before .before .before .before .before .before .before .before .before .before .before .before .before .before .before .before .before .args .marks .now) u t), c .before .before .before .before .before .before .before .before .before .before .before .before .before .lose-reach .ensures .opened .long ∙ c .before .before .before .before .before .before .before .before .before .before .before .before .before .before .before .before .before .before .before .before .before .before .before .before .pre .0 .rows .long),
+      (omega (arith, c .before .before .before .before .before .before .before .before .before .before .before .before .before .before .before .before .before .wide .ensures .0, applied-lt (c .before .before .before .before .before .before .before .before .before .before .before .before .before .before .before .before .before .before .before .before .before .before .before .before .args .words .now) (c .before .before .before .before .before .before .before .before .before .before .before .before .before .before .before .before .before .before .before .before .before .before .before .before .args .marks .now) u t), c .before .before .before .before .before .before .before .before .before .before .before .before .before .lose-reach .ensures .opened .long ∙ c .before .before .before .before .before .before .before .before .before .before .before .before .before .before .before .before .before .before .before .before .before .before .before .before .pre .0 .rows .long),
     )
 
 same-length-3 : tie.Need-same-length-3

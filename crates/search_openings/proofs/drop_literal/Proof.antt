@@ -4,7 +4,7 @@ use native.Mathlib.Omega.{arith}
 use Rattle.step_conditions.specs.Known.{stepOf}
 use Rattle.search_keys.specs.State.{State}
 use Rattle.search_keys.proofs.States.{few-clauses}
-use Rattle.search_spreads.proofs.Limits.{target-lt}
+use Rattle.search_spreads.proofs.Limits.{applied-lt}
 use Rattle.search_openings.specs.Opened.{PartnerFresh}
 use Rattle.search_openings.proofs.Keeps.{state-dropped}
 use borrow.Author.Needs.{needs}
@@ -15,7 +15,7 @@ make-step-requires : tie.Need-make-step-requires
 make-step-requires c κs = let t = c .before .before .before .before .before .before .before .pre .1 .0 in (c .before .before .before .before .before .before .before .pre .0 .ready, ((t .low, t .high), t .applies))
 
 open-partner-requires : tie.Need-open-partner-requires
-open-partner-requires c κs = (omega (arith, c .wide .ensures .0, target-lt (c .before .before .before .before .before .before .before .before .before .before .before .before .args .words .now) (c .before .before .before .before .before .before .before .before .before .before .before .before .args .marks .now) (stepOf (c .before .before .before .before .before .before .before .before .before .before .before .before .args .step)) (c .before .before .before .before .before .before .before .before .before .before .before .before .pre .1 .0 .applies), few-clauses _ _ _ _ _ _ (c .before .before .before .before .before .before .before .before .before .before .before .before .pre .0)), c .before .before .before .before .before .before .before .before .before .before .before .before .pre .0 .rows .long)
+open-partner-requires c κs = (omega (arith, c .wide .ensures .0, applied-lt (c .before .before .before .before .before .before .before .before .before .before .before .before .args .words .now) (c .before .before .before .before .before .before .before .before .before .before .before .before .args .marks .now) (stepOf (c .before .before .before .before .before .before .before .before .before .before .before .before .args .step)) (c .before .before .before .before .before .before .before .before .before .before .before .before .pre .1 .0 .applies), few-clauses _ _ _ _ _ _ (c .before .before .before .before .before .before .before .before .before .before .before .before .pre .0)), c .before .before .before .before .before .before .before .before .before .before .before .before .pre .0 .rows .long)
 
 returns : tie.Need-returns
 returns c =

@@ -1,13 +1,11 @@
--- `spread_one`: a target covered already, a clause that can't be a target, a condition that does not hold, or a flag more.
+-- `spread_one`: a target covered already, a clause that can't be a target, a step that the reducer does not take, or a flag more.
 use Prim.Native.Nat.{_+_}
-use mathlib.Core.Path.{sym, subst, _∙_}
+use mathlib.Core.Path.{subst}
 use native.Mathlib.Omega.{arith}
 use borrow.Author.Tests.{not-true}
-use Rattle.semantics.proofs.Tests.{not-so}
 use Rattle.table.proofs.Encoding.{passed-limits}
 use Rattle.search_flags.specs.Flags.{Covered, Raising}
 use Rattle.search_flags.proofs.Flags.{raising-none}
-use Rattle.rewriting.proofs.Sound.{applies-ask}
 use borrow.Author.Needs.{needs}
 use Rattle.search_spreads.proofs.spread_one.Statement.{statement}
 use Rattle.search_spreads.proofs.spread_one.Tie as tie
@@ -26,11 +24,11 @@ may-target-requires c κs = (c .before .before .before .before .before .before .
 returns-2 : tie.Need-returns-2
 returns-2 c = (raising-none _ _ _, λ h. absurd (c .before .may-target .ensures (not-true _ (c .if2 .taken)) _ h))
 
-holds-requires : tie.Need-holds-requires
-holds-requires c κs = let p = c .before .before .before .before .before .before .before .before .before .before .before .before .pre in (p .0, ((p .1 .0, p .1 .1 .0), (p .1 .1 .1 .0, p .1 .1 .1 .1 .0)))
+may-take-requires : tie.Need-may-take-requires
+may-take-requires c κs = let p = c .before .before .before .before .before .before .before .before .before .before .before .before .pre in (p .0, ((p .1 .0, p .1 .1 .0), (p .1 .1 .1 .0, p .1 .1 .1 .1 .0)))
 
 returns-3 : tie.Need-returns-3
-returns-3 c = (raising-none _ _ _, λ h. absurd (not-so (sym (c .before .holds .ensures) ∙ not-true _ (c .if3 .taken)) (applies-ask _ _ _ h .2)))
+returns-3 c = (raising-none _ _ _, λ h. absurd (c .before .may-take .ensures (not-true _ (c .if3 .taken)) h))
 
 cover-requires : tie.Need-cover-requires
 cover-requires c κs =
@@ -45,4 +43,4 @@ returns-4 c =
 pub spread-one-spec : {M : Type 1} → statement M
 spread-one-spec =
     tie.close
-    (tie.spec (λ c κs. search needs) covered-requires (λ c. search needs) returns may-target-requires (λ c. search needs) returns-2 holds-requires (λ c. search needs) returns-3 cover-requires (λ c. search needs) returns-4)
+    (tie.spec (λ c κs. search needs) covered-requires (λ c. search needs) returns may-target-requires (λ c. search needs) returns-2 may-take-requires (λ c. search needs) returns-3 cover-requires (λ c. search needs) returns-4)

@@ -7,7 +7,7 @@ use native.Mathlib.Omega.{arith}
 use lib.ListN.{length, getD, set, length-set}
 use borrow.Author.Count.{below-more}
 use Rattle.rewriting.specs.Marked.{entry}
-use Rattle.rewriting.specs.Steps.{applies}
+use Rattle.rewriting.specs.Reducer.{eligible}
 use Rattle.rewriting.specs.Search.{stepWith}
 use Rattle.rewriting.specs.Kinds.{kindOf}
 use Rattle.table.specs.View.{view}
@@ -26,7 +26,7 @@ use Rattle.search_targets.proofs.first_by_partner.Statement.{statement}
 use Rattle.search_targets.proofs.first_by_partner.Tie as tie
 
 abbrev Inv-loop : tie.InvT-loop
-Inv-loop words marks index flags₀ kind low end base found₀ t e from stamps p₀ flags found p = (found ≡ Nothing) × (Partners words marks kind t e × (Stamps (entry (view words marks) t .clause) stamps × ((length stamps ≡ 3072) × ((flags ≡ flags₀) × ((q : ℕ) → q < p → applies (getD words 0 0) (view words marks) (stepWith (view words marks) (kindOf kind) t q) ≡ false)))))
+Inv-loop words marks index flags₀ kind low end base found₀ t e from stamps p₀ flags found p = (found ≡ Nothing) × (Partners words marks kind t e × (Stamps (entry (view words marks) t .clause) stamps × ((length stamps ≡ 3072) × ((flags ≡ flags₀) × ((q : ℕ) → q < p → eligible (getD words 0 0) (view words marks) (stepWith (view words marks) (kindOf kind) t q) ≡ false)))))
 
 abbrev μ-loop : tie.MeasureT-loop
 μ-loop words marks index flags₀ kind low end base found₀ t e from stamps p₀ flags found p = e - p
@@ -119,8 +119,8 @@ loop-holds c =
       ),
     )
 
-partner-applies-requires : tie.Need-partner-applies-requires Inv-loop μ-loop Inv-search μ-search
-partner-applies-requires c κs =
+partner-eligible-requires : tie.Need-partner-eligible-requires Inv-loop μ-loop Inv-search μ-search
+partner-eligible-requires c κs =
     let i = c .before .before .loop .inv in
     (c .before .before .before .before .before .before .before .before .before .before .before .before .before .before .before .before .before .before .before .before .before .before .before .before .pre .0, (omega (arith, c .before .loop-test .taken, i .1 .0 .most), (i .1 .1 .1 .0, (i .1 .1 .0, (c .before .before .before .before .before .before .before .before .before .before .before .before .before .before .before .before .before .before .before .before .before .before .before .before .pre .1 .1 .0, i .1 .0 .kept (omega (arith, c .before .loop-test .taken)))))))
 
@@ -148,7 +148,7 @@ loop-less c = omega (arith, c .before .before .before .loop-test .taken)
 loop-again : tie.Need-loop-again Inv-loop μ-loop Inv-search μ-search
 loop-again c =
     let i = c .before .before .before .before .loop .inv in
-    (i .0, (i .1 .0, (i .1 .1 .0, (i .1 .1 .1 .0, (i .1 .1 .1 .1 .0, below-more _ _ (i .1 .1 .1 .1 .1) (sym (c .before .partner-applies .ensures) ∙ c .if3 .left))))))
+    (i .0, (i .1 .0, (i .1 .1 .0, (i .1 .1 .1 .0, (i .1 .1 .1 .1 .0, below-more _ _ (i .1 .1 .1 .1 .1) (sym (c .before .partner-eligible .ensures) ∙ c .if3 .left))))))
 
 add-flags-3 : tie.Need-add-flags-3 Inv-loop μ-loop Inv-search μ-search
 add-flags-3 c = omega (arith, c .before .before .before .before .before .before .before .before .before .before .before .before .before .before .before .before .before .search .inv .1 .0, few (c .before .before .before .before .before .before .before .before .before .before .before .before .before .before .before .before), c .before .before .before .before .before .before .before .before .before .before .before .before .before .before .before .before .before .before .before .before .before .before .before .pre .1 .1 .0 .high)
@@ -195,11 +195,11 @@ returns-2 c =
     let f = c .before .before .before .before .before .before .before .before .before .before .before .before .before .before .before .before .before .lift .ensures .flagged in
     let b = swept-before _ _ _ _ _ (inv .1 .1 .0) (c .before .before .before .before .before .before .before .before .before .before .before .before .before .before .before .before .before .before .before .before .before .before .search .t) _ (inv .1 .1 .1) l (omega (arith, c .before .before .before .before .before .before .before .before .before .before .before .before .before .before .before .before .before .before .before .before .before .search-test .taken, c .before .before .before .before .before .before .before .before .before .before .before .before .before .before .before .before .before .before .before .before .before .before .before .before .before .before .before .before .pre .1 .0)) in (
       ap One (c .step-with .ensures) ∙ (targets-hit (c .before .before .before .before .before .before .before .before .before .before .before .before .before .before .before .before .before .before .before .before .before .before .before .before .before .before .before .before .args .words .now) (c .before .before .before .before .before .before .before .before .before .before .before .before .before .before .before .before .before .before .before .before .before .before .before .before .before .before .before .before .args .marks .now) (c .before .before .before .before .before .before .before .before .before .before .before .before .before .before .before .before .before .before .before .before .before .before .before .before .before .before .before .before .args .kind) (k .low) (k .high) (c .before .before .before .before .before .before .before .before .before .before .before .before .before .before .before .before .before .before .before .before .before .before .search .t) _ _ (omega (arith, c .before .before .before .before .before .before .before .before .before .before .before .before .before .before .before .before .before .before .before .before .before .search-test .taken, c .before .before .before .before .before .before .before .before .before .before .before .before .before .before .before .before .before .before .before .before .before .before .before .before .before .before .before .before .pre .1 .0)) b
-          (partners-hit _ _ _ _ _ (i .1 .0) k _ (c .before .before .before .before .before .loop-test .taken) (i .1 .1 .1 .1 .1) (sym (c .before .before .before .partner-applies .ensures) ∙ c .before .before .if3 .taken))),
+          (partners-hit _ _ _ _ _ (i .1 .0) k _ (c .before .before .before .before .before .loop-test .taken) (i .1 .1 .1 .1 .1) (sym (c .before .before .before .partner-eligible .ensures) ∙ c .before .before .if3 .taken))),
       rw (c .before .narrow .ensures, inv .1 .0, i .1 .1 .1 .1 .0) (swept-later _ _ _ _ _ (swept-then _ _ _ _ _ _ (inv .1 .1 .0) (c .before .before .before .before .before .before .before .before .before .before .before .before .before .before .before .before .before .lift .ensures .swept)) k (c .before .before .before .before .before .before .before .before .before .before .before .before .before .before .before .before .before .before .before .before .before .before .search .t) (c .before .before .before .before .before .before .loop .p) (few (c .before .before .before .before .before .before .before .before .before .before .before .before .before .before .before .before .before .before .before .before .before) .0) f (i .1 .1 .1 .1 .1), stopped-there (set (c .before .before .before .before .before .before .before .before .before .before .before .before .before .before .before .before .before .lift .last .1 .1 .1 .0) (c .before .before .before .before .before .before .before .before .before .before .before .before .before .before .before .before .before .before .before .before .before .before .before .before .before .before .before .before .args .kind * 2048 + c .before .before .before .before .before .before .before .before .before .before .before .before .before .before .before .before .before .before .before .before .before .before .search .t) (c .before .before .before .before .before .before .loop .p + 1)) (c .before .before .before .before .before .before .before .before .before .before .before .before .before .before .before .before .before .before .before .before .before .before .before .before .before .before .before .before .args .kind) (c .before .before .before .before .before .before .before .before .before .before .before .before .before .before .before .before .before .before .before .before .before .before .search .t) _ (inside-set (c .before .before .before .before .before .before .before .before .before .before .before .before .before .before .before .before .before .lift .last .1 .1 .1 .0) (c .before .before .before .before .before .before .before .before .before .before .before .before .before .before .before .before .before .before .before .before .before .before .before .before .before .before .before .before .args .kind) (c .before .before .before .before .before .before .before .before .before .before .before .before .before .before .before .before .before .before .before .before .before .before .search .t) (c .before .before .before .before .before .before .loop .p + 1) (omega (arith, k .high)) (few (c .before .before .before .before .before .before .before .before .before .before .before .before .before .before .before .before .before .before .before .before .before) .0) (λ e. absurd (f e)) _ _ (c .before .before .before .before .before .before .before .before .before .before .before .before .before .before .before .before .before .lift .ensures .inside _ _ (inv .1 .1 .1))) _ _ refl (ap (λ x. x .target) (c .step-with .ensures))),
     )
 
 pub first-by-partner-spec : {M : Type 1} → statement M
 first-by-partner-spec =
     tie.close
-    (tie.spec Inv-loop μ-loop Inv-search μ-search (λ c κs. search needs) mul-base search-holds add-if1 mul-if1 slice-read-if1 lift-requires partners-end-requires add-wide mul-wide slice-read-wide (λ c κs. search needs) sub-from add-flags mul-flags slice-write-flags (λ c. search needs) (λ c. search needs) search-again (λ c. search needs) stamp-clause-requires loop-holds (λ c. search needs) partner-applies-requires add-narrow narrow-requires add-flags-2 mul-flags-2 slice-write-flags-2 step-with-requires (λ c. search needs) loop-less loop-again add-flags-3 mul-flags-3 slice-write-flags-3 (λ c. search needs) (λ c. search needs) search-again-2 same-length returns same-length-2 returns-2)
+    (tie.spec Inv-loop μ-loop Inv-search μ-search (λ c κs. search needs) mul-base search-holds add-if1 mul-if1 slice-read-if1 lift-requires partners-end-requires add-wide mul-wide slice-read-wide (λ c κs. search needs) sub-from add-flags mul-flags slice-write-flags (λ c. search needs) (λ c. search needs) search-again (λ c. search needs) stamp-clause-requires loop-holds (λ c. search needs) partner-eligible-requires add-narrow narrow-requires add-flags-2 mul-flags-2 slice-write-flags-2 step-with-requires (λ c. search needs) loop-less loop-again add-flags-3 mul-flags-3 slice-write-flags-3 (λ c. search needs) (λ c. search needs) search-again-2 same-length returns same-length-2 returns-2)
