@@ -1,14 +1,16 @@
 /* A reducer of ground programs, written for speed and not proved: the yardstick of the benchmark. It gives document
  * 01's list, the applicable step that is smallest by kind, target, partner and atom, again and again, and looks only
- * where a step may have been opened. It is compiled twice: tuned, so that an index leads to a target's partners, and
- * with PLAIN_SEARCH, so that every clause is tried as a partner, one step a search. All else is the same.
+ * where a step may have been opened. Of two clauses that are equal as left the earlier is no target of the later (slip 7
+ * of document 02). It is compiled twice: tuned, so that an index leads to a target's partners, and with PLAIN_SEARCH, so
+ * that every clause is tried as a partner, one step a search. All else is the same.
  *
  * Kinds 1 and 2 are never opened, so one pass makes them. The others have a set of targets where a step may apply:
  *  - 3 and 5 are opened by a clause that becomes a fact, at the clauses that have its head atom in their body;
  *  - 4 and 6 by a deletion, at the clauses whose body has an atom that is in no head any more;
  *  - 7 by a deletion of a clause that brought an atom into the reach, which is found again when 7 is next looked for;
  *  - 8 by a drop, at the clauses that have the rarest literal of the clause that it shortened.
- * Such clauses are found along chains of the places where a literal stands. */
+ * Such clauses are found along chains of the places where a literal stands. A step that is passed over is chosen later
+ * only where its partner was shortened: a shorter target no longer holds the partner. */
 #include <stddef.h>
 #include <stdint.h>
 #include <string.h>
@@ -91,6 +93,16 @@ static unsigned take_first(struct set *s)
     return t;
 }
 
+/* ---- equal clauses */
+
+/* Whether clause p comes after clause t and has as many head atoms and body literals left. Where p is within t the two are
+ * equal then, and also where p is a fact that blocks t, as both are empty: that step is passed over. */
+static int passed_over(const struct reducer *r, unsigned t, unsigned p)
+{
+    const struct clause *c = &r->clause[t], *d = &r->clause[p];
+    return t < p && c->body == d->body && c->pos - c->head == d->pos - d->head;
+}
+
 /* ---- chains of places */
 
 /* The place at a link, past those that are gone, which are unlinked; 0 at the end. */
@@ -126,16 +138,16 @@ static void open_no_head(struct reducer *r, unsigned atom)
 }
 
 /* Clause t has become a fact. The first fact of an atom opens all that later ones would; so does the first without a
- * head, but for itself. */
+ * head, but for itself, which only an earlier one blocks. */
 static void open_fact(struct reducer *r, unsigned t)
 {
     const struct clause *c = &r->clause[t];
     if (c->head == c->pos) {
-        if (r->empty.some)
-            add(&r->may[BLOCKED], first(&r->empty)); /* it may have been the only one */
-        else
+        if (!r->empty.some)
             for (unsigned other = 0; other < r->clauses; other++)
                 add(&r->may[BLOCKED], other);
+        else if (t < first(&r->empty))
+            add(&r->may[BLOCKED], first(&r->empty));
         add(&r->empty, t);
         return;
     }
@@ -257,7 +269,7 @@ static unsigned partner(struct reducer *r, unsigned kind, unsigned t)
 {
     stamp(r, r->clause[t].head, r->clause[t].end);
     for (unsigned p = 0; p < r->clauses; p++)
-        if (p != t && r->clause[p].kept && fits(r, kind, p))
+        if (p != t && r->clause[p].kept && fits(r, kind, p) && (kind == SUCCESS || !passed_over(r, t, p)))
             return p;
     return NONE;
 }
@@ -322,8 +334,8 @@ static unsigned blocker(struct reducer *r, unsigned t)
     if (r->empty.some) {
         struct set others = r->empty;
         remove_from(&others, t);
-        if (others.some)
-            best = first(&others);
+        if (others.some && !passed_over(r, t, first(&others)))
+            best = first(&others); /* if that is passed over, clause t is the first of all that are empty */
     }
     stamp(r, c->neg, c->end);
     for (unsigned i = c->neg; i < c->end; i++) {
@@ -356,7 +368,7 @@ static unsigned subsumer(struct reducer *r, unsigned t)
                 *link = r->next_keyed[p];
                 continue;
             }
-            if (p != t && stamped(r, p))
+            if (p != t && !passed_over(r, t, p) && stamped(r, p))
                 best = p;
             link = &r->next_keyed[p];
         }
@@ -503,9 +515,11 @@ static void open_shortened(struct reducer *r)
         unindex_clause(r, p);
         index_clause(r, p);
         for (uint16_t *link = &r->chain[r->key[p]]; live(r, link); link = &r->next[*link]) {
-            const struct clause *other = &r->clause[r->owner[*link]];
-            if (other != c && other->body >= c->body && other->pos - other->head >= c->pos - c->head)
-                add(&r->may[SUBSUMED], r->owner[*link]);
+            unsigned t = r->owner[*link];
+            const struct clause *other = &r->clause[t];
+            int within = other->body >= c->body && other->pos - other->head >= c->pos - c->head;
+            if (t != p && within && !passed_over(r, t, p))
+                add(&r->may[SUBSUMED], t);
         }
     }
 }

@@ -16,7 +16,7 @@ use timing::{best, best_by_turns, once};
 const TURNS: usize = 25;
 
 fn main() {
-    println!("both C programs give document 01's list and marks on {} random programs", incremental::compared());
+    println!("both C programs give the documents' list and marks on {} programs", incremental::compared());
     println!();
     println!("| shape | words | steps | by kind 1 to 8 |");
     println!("|---|---|---|---|");

@@ -78,6 +78,37 @@ refuses "a failure named by 7" 'steps=2\nstep=7,0,0,1\nstep=7,1,0,0\n' "list, li
 refuses "a failure named by 7, in JSON" '{"steps": 2, "list": [\n {"step": [7, 1, 0, 0]},\n {"step": [7, 0, 0, 1]}]}\n' "list, line 3: step 1, 7,0,0,1: the atom of a loop step is in no kept head; a failure is kind 6 (refused=32,1)"
 refuses "a loop step whose atom is in a head" 'steps=1\nstep=7,0,0,0\n' "step 0, 7,0,0,0: the condition of a step does not hold (refused=16,0)"
 
+# 0 <- ~1. 1 <- ~0. 0 <- ~1.: the earlier of two equal rules is kept, and the list, the object and the sentence name the later one as deleted
+# because of it; a list that deletes the earlier one is taken too
+printf 'atoms=2\nclauses=3\nhead=0\npos=\nneg=1\nhead=1\npos=\nneg=0\nhead=0\npos=\nneg=1\n' >"$tmp/in"
+build/gambrolt --text "--steps=$tmp/list" "--explain=$tmp/told" <"$tmp/in" >"$tmp/out"
+printf 'atoms=2\nclauses=2\nhead=0\npos=\nneg=1\nhead=1\npos=\nneg=0\n' >"$tmp/want"
+expect "equal rules: the earlier is kept" same "$tmp/want" "$tmp/out"
+printf 'steps=1\nstep=8,2,0,0\n' >"$tmp/want"
+expect "equal rules: the line" same "$tmp/want" "$tmp/list"
+says "equal rules: the line" 0 "yes: the list's 1 steps" --text "--check=$tmp/list"
+# shellcheck disable=SC2016
+echo 'clause 2, `a(0) :- not a(1).`: deleted, since clause 0, `a(0) :- not a(1).`, says the same' >"$tmp/want"
+expect "equal rules: the sentence" same "$tmp/want" "$tmp/told"
+build/gambrolt --text "--steps=$tmp/list.json" --dry-run <"$tmp/in"
+expect "equal rules: the object" grep -qF '{"step": [8, 2, 0, 0], "kind": "subsumed", "rule": 2, "line": 9, "partner_rule": 0, "partner_line": 3}' "$tmp/list.json"
+printf 'steps=1\nstep=8,0,2,0\n' >"$tmp/list"
+says "equal rules: the earlier deleted" 0 "yes: the list's 1 steps" --text "--check=$tmp/list"
+refuses "equal rules: both deleted" 'steps=2\nstep=8,0,2,0\nstep=8,2,0,0\n' "list, line 3: step 1, 8,2,0,0: the partner of a step is not another kept clause"
+
+# two empty clauses: kind 5, the later one by the earlier; the list may have either order, and kind 8
+printf 'atoms=0\nclauses=2\nhead=\npos=\nneg=\nhead=\npos=\nneg=\n' >"$tmp/in"
+build/gambrolt --text "--steps=$tmp/list" "--explain=$tmp/told" --dry-run <"$tmp/in"
+printf 'steps=1\nstep=5,1,0,0\n' >"$tmp/want"
+expect "empty clauses: the line" same "$tmp/want" "$tmp/list"
+# shellcheck disable=SC2016
+echo 'clause 1, `:-.`: deleted, since clause 0, `:-.`, rules out every stable model anyway' >"$tmp/want"
+expect "empty clauses: the sentence" same "$tmp/want" "$tmp/told"
+for step in 5,0,1,0 5,1,0,0 8,0,1,0 8,1,0,0; do
+    printf 'steps=1\nstep=%s\n' "$step" >"$tmp/list"
+    says "empty clauses: $step" 0 "yes: the list's 1 steps" --text "--check=$tmp/list"
+done
+
 # 0 <- 1. with an atom more: a failure at step 0, and an atom that is in no clause
 printf 'atoms=3\nclauses=1\nhead=0\npos=1\nneg=\n' >"$tmp/in"
 build/gambrolt --text "--steps=$tmp/list.json" --dry-run <"$tmp/in"

@@ -242,7 +242,7 @@ clause 15, `later :- a, late.`: deleted, since it needs `late`, which no clause 
 clause 12, `i :- a, j.`: deleted, since it needs `j`, which is derived only in a circle: `j` needs `i`, `i` needs `j`
 clause 13, `j :- a, i.`: deleted, since it needs `i`, which no clause can derive
 clause 5, `pair :- a, ok.`: deleted, since clause 9, `pair :- a.`, already covers it
-clause 9, `pair :- a.`: deleted, since clause 10, `pair :- a.`, says the same
+clause 10, `pair :- a.`: deleted, since clause 9, `pair :- a.`, says the same
 END
 build/gambrolt --explain --dry-run <"$tmp/in" 2>"$tmp/out"
 expect "sentences" same "$tmp/want" "$tmp/out"
@@ -253,13 +253,53 @@ build/gambrolt --text --explain --dry-run examples/islands.txt 2>&1 | sed -n '1p
 cat >"$tmp/want" <<'END'
 clause 4, `a(8) :- a(2), a(7).`: deleted, since it needs `a(7)`, which is derived only in a circle: `a(7)` needs `a(8)`, `a(8)` needs `a(7)`
 clause 0, `a(0) | a(1).`: deleted, since clause 8, `:-.`, rules out every stable model anyway
-clause 7, `:-.`: deleted, since clause 8, `:-.`, rules out every stable model anyway
+clause 8, `:-.`: deleted, since clause 6, `:-.`, rules out every stable model anyway
 END
 expect "sentences about an order without models" same "$tmp/want" "$tmp/out"
 printf 'asp 1 0 0\n1 0 2 1 2 0 0\n1 0 1 3 0 2 -1 -2\n4 1 a 1 1\n4 1 b 1 2\n4 1 c 1 3\n0\n' >"$tmp/in"
 printf 'clause 1, `c :- not a, not b.`: deleted, since it needs `not a` and `not b`, but clause 0, `a | b.`, is a fact\n' >"$tmp/want"
 build/gambrolt --explain --dry-run <"$tmp/in" 2>"$tmp/out"
 expect "a sentence about an either-or fact" same "$tmp/want" "$tmp/out"
+
+# equal rules: the first of them is kept, in its place; d :- a, not f. becomes equal to it only once `not f` is dropped
+cat >"$tmp/in" <<'END'
+asp 1 0 0
+1 0 1 4 0 1 1
+1 0 1 1 0 1 -2
+1 0 1 4 0 2 1 -6
+1 0 1 2 0 1 -1
+1 0 1 1 0 1 -2
+1 0 1 4 0 1 1
+1 0 0 0 2 1 4
+1 0 0 0 2 4 1
+4 1 a 1 1
+4 1 b 1 2
+4 1 d 1 4
+4 1 f 1 6
+0
+END
+cat >"$tmp/want" <<'END'
+asp 1 0 0
+1 0 1 4 0 1 1
+1 0 1 1 0 1 -2
+1 0 1 2 0 1 -1
+1 0 0 0 2 1 4
+4 1 a 1 1
+4 1 b 1 2
+4 1 d 1 4
+4 1 f 1 6
+0
+END
+writes "equal rules" ""
+cat >"$tmp/want" <<'END'
+clause 2, `d :- a, not f.`: dropped `not f`, which no clause can derive
+clause 2, `d :- a.`: deleted, since clause 0, `d :- a.`, says the same
+clause 4, `a :- not b.`: deleted, since clause 1, `a :- not b.`, says the same
+clause 5, `d :- a.`: deleted, since clause 0, `d :- a.`, says the same
+clause 7, `:- a, d.`: deleted, since clause 6, `:- a, d.`, says the same
+END
+build/gambrolt --explain --dry-run <"$tmp/in" 2>"$tmp/out"
+expect "sentences about equal rules" same "$tmp/want" "$tmp/out"
 
 # names that aspif lacks: facts, and atoms that no rule derives
 cp shell/tests/data/order.aspif "$tmp/in"
@@ -332,6 +372,6 @@ cat >"$tmp/want" <<'END'
 END
 head -12 "$tmp/out" >"$tmp/first"
 expect "statistics in JSON" same "$tmp/want" "$tmp/first"
-expect "statistics in JSON: the last step" [ "$(tail -1 "$tmp/out")" = ' {"step": [8, 9, 10, 0], "kind": "subsumed", "rule": 9, "line": 11, "partner_rule": 10, "partner_line": 12}]}' ]
+expect "statistics in JSON: the last step" [ "$(tail -1 "$tmp/out")" = ' {"step": [8, 10, 9, 0], "kind": "subsumed", "rule": 10, "line": 12, "partner_rule": 9, "partner_line": 11}]}' ]
 build/gambrolt --stats=json --dry-run shell/tests/data/kinds.aspif 2>&1 | sed 's/: [0-9]*\.[0-9]*/: T/g' >"$tmp/err"
 expect "statistics in JSON on standard error" same "$tmp/out" "$tmp/err"

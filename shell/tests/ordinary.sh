@@ -150,10 +150,11 @@ printf 'asp 1 0 0\n1 1 0 1 1 1 5 1\n1 0 0 1 2 1 5 2\n1 0 2 7 6 1 0 0\n1 1 0 0 0\
 printf '{} :- 1 #sum { 1,0 : x_5 }.\n:- 2 #sum { 2,0 : x_5 }.\nx_7 | x_6 :- 0 #sum { }.\n#show.\n' >"$tmp/want"
 writes "heads and bodies of nothing, as rules" --to-lp
 
-# facts that nothing else mentions are led round the table, however many; those that something mentions are in it
+# facts that nothing else mentions are led round the table, however many; those that something mentions are in it, and of two
+# equal ones the first is kept
 awk 'BEGIN { print "asp 1 0 0"; for (i = 1; i <= 5000; i++) print "1 0 1 " i " 0 0"
     print "1 0 1 5001 0 2 -5002 4999\n1 0 1 5003 1 2 2 4998 1 5001 1\n1 0 1 4997 0 0\n0" }' >"$tmp/in"
-sed 's/^1 0 1 5001 .*/1 0 1 5001 0 0/' "$tmp/in" | awk '!($0 == "1 0 1 4997 0 0" && !met++)' >"$tmp/want"
+sed 's/^1 0 1 5001 .*/1 0 1 5001 0 0/' "$tmp/in" | awk '!($0 == "1 0 1 4997 0 0" && met++)' >"$tmp/want"
 writes "5,000 facts" ""
 build/gambrolt --stats=json --dry-run <"$tmp/in" 2>&1 | grep -E '^ "(clauses|atoms)' >"$tmp/out"
 printf ' "clauses": {"before": 5002, "after": 5001},\n "atoms": {"before": 5002, "after": 5001},\n' >"$tmp/want"

@@ -1,5 +1,6 @@
 //! One call of the library beside document 01: the same answer, and the same memory afterwards.
-use crate::independent::steps::Left;
+use crate::independent::reduce::{list_by, passed_over, smallest_applicable};
+use crate::independent::steps::{Left, Step};
 use crate::independent::table::Table;
 use crate::independent::{self, Answer, Refused};
 use crate::library;
@@ -10,14 +11,15 @@ use std::ops::{Deref, DerefMut};
 pub const LAST: usize = 32;
 
 /// How many calls were compared, how often each question refused one, how many steps of each kind were made, which loop steps
-/// were refused, how many programs had which circles, what the lists of stable models were, and what the texts were that were
-/// read.
+/// were refused, which steps the reducer passed over, how many programs had which circles, what the lists of stable models
+/// were, and what the texts were that were read.
 #[derive(Default)]
 pub struct Tally {
     pub cases: u64,
     pub met: Met,
     pub made: [u64; 9],
     pub loops: Loops,
+    pub equal: EqualClauses,
     pub circles: Circles,
     pub listed: Listed,
     pub texts: Texts,
@@ -81,6 +83,53 @@ impl Loops {
             self.before += u64::from(place + 4 < list.len());
             self.head_gone += u64::from(!given.in_no_head(atom));
         }
+    }
+}
+
+/// Lists of the reducer: how many are as they were before slip 7, and how many not. Then the states where the smallest
+/// applicable step is passed over: of kind 5, and of kind 8; how often the step taken in its place deletes the partner, how
+/// often the same target by another partner, and how often it deletes something else; and of how many the target had lost a
+/// literal, and of how many the partner.
+#[derive(Debug, Default)]
+pub struct EqualClauses {
+    pub same_lists: u64,
+    pub other_lists: u64,
+    pub blocked: u64,
+    pub subsumed: u64,
+    pub partner_goes: u64,
+    pub by_another: u64,
+    pub elsewhere: u64,
+    pub target_shortened: u64,
+    pub partner_shortened: u64,
+}
+
+impl EqualClauses {
+    /// The reducer's list of a table.
+    pub fn count(&mut self, table: &[u16], list: &[u16]) {
+        let same = list_by(table, smallest_applicable).concat() == list;
+        *(if same { &mut self.same_lists } else { &mut self.other_lists }) += 1;
+        let table = Table::read(table).unwrap();
+        let mut marks = vec![1; table.words.len()];
+        let given = Left::new(&table, &marks);
+        for step in list.chunks(4).map(|words| Step::new(words[0], words[1], words[2], words[3])) {
+            let left = Left::new(&table, &marks);
+            self.count_state(&given, &left, step);
+            marks[left.cleared(&table, step)] = 0;
+        }
+    }
+
+    /// A state of the list, with the step taken.
+    fn count_state(&mut self, given: &Left, left: &Left, taken: Step) {
+        let Some(smallest) = smallest_applicable(left).filter(|&step| passed_over(left, step)) else { return };
+        *(if smallest.kind == 5 { &mut self.blocked } else { &mut self.subsumed }) += 1;
+        match (taken.target == smallest.partner, taken.target == smallest.target) {
+            (true, _) => self.partner_goes += 1,
+            (_, true) => self.by_another += 1,
+            _ => self.elsewhere += 1,
+        }
+        let shortened = |clause: u16| u64::from(given.kept(clause) != left.kept(clause));
+        self.target_shortened += shortened(smallest.target);
+        self.partner_shortened += shortened(smallest.partner);
     }
 }
 

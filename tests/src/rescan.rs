@@ -1,7 +1,9 @@
 //! A straightforward reducer: it looks through all kinds, targets and partners or atoms again after every step. What a
-//! round needs of the whole program (heads, facts, the reach) it works out once a round.
+//! round needs of the whole program (heads, facts, the reach) it works out once a round. Of two clauses that are equal as left the
+//! earlier is no target of the later.
 use crate::independent::program::{Clause as Given, Program};
 
+#[derive(PartialEq)]
 struct Clause {
     head: Vec<u16>,
     pos: Vec<u16>,
@@ -85,7 +87,9 @@ impl Reducer {
         let facts: Vec<(u16, &[u16])> =
             self.kept().filter(|(_, c)| c.is_fact() && allowed(&c.head)).map(|(p, c)| (p, &c.head[..])).collect();
         self.kept().find_map(|(target, clause)| {
-            let fits = |fact: &&(u16, &[u16])| fact.0 != target && subset(fact.1, part(clause));
+            let fits = |&&(fact, head): &&(u16, &[u16])| {
+                fact != target && subset(head, part(clause)) && !self.passed_over(kind, target, fact)
+            };
             let atom = |head: &[u16]| if kind == 3 { head[0] } else { 0 };
             facts.iter().find(fits).map(|fact| [kind, target, fact.0, atom(fact.1)])
         })
@@ -113,9 +117,17 @@ impl Reducer {
             let within = |small: &Clause| {
                 subset(&small.head, &large.head) && subset(&small.pos, &large.pos) && subset(&small.neg, &large.neg)
             };
-            let partner = self.kept().find(|&(partner, small)| partner != target && within(small));
-            partner.map(|(partner, _)| [8, target, partner, 0])
+            let fits = |&(partner, small): &(u16, &Clause)| {
+                partner != target && within(small) && !self.passed_over(8, target, partner)
+            };
+            self.kept().find(fits).map(|(partner, _)| [8, target, partner, 0])
         })
+    }
+
+    /// Slip 7: the step of kind 5 or 8 whose target is the lower number, where target and partner are equal as left.
+    fn passed_over(&self, kind: u16, target: u16, partner: u16) -> bool {
+        let clause = |number: u16| &self.clauses[usize::from(number)];
+        kind != 3 && target < partner && clause(target) == clause(partner)
     }
 
     fn make(&mut self, [kind, target, _, atom]: [u16; 4]) {

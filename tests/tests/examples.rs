@@ -131,6 +131,22 @@ fn failures_are_no_loops() {
     assert_eq!(self::check(&rings, &rings_with(7)), refused(32, 599));
 }
 
+/// Slip 7 of document 02.
+#[test]
+fn the_earlier_of_equal_clauses_stays() {
+    assert_eq!(steps(&table(1, "0. 0.")), [[8, 1, 0, 0]]);
+    assert_eq!(steps(&table(0, "<- . <- .")), [[5, 1, 0, 0]]);
+    // the program that is left has the clauses in the order of the first of each
+    assert_eq!(reduced(&table(3, "2. 0|1. 0|1. 2. 0|1.")), table(3, "2. 0|1."));
+    assert_eq!(reduced(&table(3, "0|1. 2. 2. 0|1. 2.")), table(3, "0|1. 2."));
+    for step in [[8, 0, 1, 0], [8, 1, 0, 0]] {
+        assert_eq!(check(&table(1, "0. 0."), &step), Ok(1), "the checker takes either order");
+    }
+    for step in [[5, 0, 1, 0], [5, 1, 0, 0], [8, 0, 1, 0], [8, 1, 0, 0]] {
+        assert_eq!(check(&table(0, "<- . <- ."), &step), Ok(1), "the checker takes either order");
+    }
+}
+
 #[test]
 fn limits() {
     let mut tally = Tally::new();
@@ -173,7 +189,7 @@ fn the_sample() {
 fn small_programs() {
     assert_eq!(steps(&table(2, "0 <- 1. 1 <- 0.")), [[7, 0, 0, 1], [6, 1, 0, 0]]);
     assert_eq!(steps(&table(2, "0 <- 1.")), [[6, 0, 0, 1]]);
-    assert_eq!(steps(&table(2, "0. 0.")), [[8, 0, 1, 0]]);
+    assert_eq!(steps(&table(2, "0. 0.")), [[8, 1, 0, 0]], "slip 7 for document 01's 8,0,1,0");
     assert_eq!(steps(&table(2, "0 <- ~0.")), [[0; 4]; 0]);
     let check = |program: &str, list: &[u16]| Tally::new().check(&table(2, program), &[7; 20], list).0;
     assert_eq!(check("0 <- 1.", &[7, 0, 0, 1]), refused(32, 0));

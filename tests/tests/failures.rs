@@ -4,7 +4,7 @@
 use gambrolt_tests::compare::Tally;
 use gambrolt_tests::independent::list::{check, check_by, first_questions};
 use gambrolt_tests::independent::program::{words, Program};
-use gambrolt_tests::independent::reduce::{smallest, smallest_by};
+use gambrolt_tests::independent::reduce::{list_by, passed_over, smallest, smallest_by};
 use gambrolt_tests::independent::steps::{Left, Step};
 use gambrolt_tests::independent::table::Table;
 use gambrolt_tests::independent::{ask, Answer, Refused};
@@ -23,24 +23,17 @@ fn check_before(words: &[u16], list: &[u16]) -> (Answer, Vec<u8>) {
     check_by(questions_before, words, &vec![7; words.len()], list)
 }
 
+/// The reducer's choice among the steps whose condition holds, whatever 32 says of them.
+fn smallest_before(left: &Left) -> Option<Step> {
+    smallest_by(|left, step| left.condition(step) && !passed_over(left, step), left)
+}
+
 /// The list that the reducer writes now and the list that it wrote before are the same. How many loops and failures it has.
 fn same_list(program: &Program) -> [usize; 2] {
     let words = words(program);
     let now = list_by(&words, smallest);
-    assert_eq!(now, list_by(&words, |left| smallest_by(Left::condition, left)), "{program:?}");
+    assert_eq!(now, list_by(&words, smallest_before), "{program:?}");
     [7, 6].map(|kind| now.iter().filter(|step| step[0] == kind).count())
-}
-
-/// The list of a reducer that takes these steps.
-fn list_by(words: &[u16], next: fn(&Left) -> Option<Step>) -> Vec<[u16; 4]> {
-    let table = Table::read(words).unwrap();
-    let (mut marks, mut list) = (vec![1; words.len()], Vec::new());
-    loop {
-        let left = Left::new(&table, &marks);
-        let Some(step) = next(&left) else { return list };
-        marks[left.cleared(&table, step)] = 0;
-        list.push(step.words());
-    }
 }
 
 #[test]
@@ -154,7 +147,7 @@ fn the_librarys_lists() {
     let (steps, mut taken) = (steps(10, 3, 3), 0);
     for program in every(2, 2) {
         let words = words(&program);
-        let expected = list_by(&words, |left| smallest_by(Left::condition, left)).concat();
+        let expected = list_by(&words, smallest_before).concat();
         let fresh = vec![7; words.len()];
         let (made, marks, list) = library::reduce(&words, &fresh, &[9; 40]);
         assert_eq!((4 * made as usize, &list[..expected.len()]), (expected.len(), &expected[..]), "{program:?}");

@@ -107,7 +107,7 @@ fn cycles() {
 fn the_reducers_steps() {
     assert_eq!(steps(2, "0 <- 1. 1 <- 0."), [[7, 0, 0, 1], [6, 1, 0, 0]]);
     assert_eq!(steps(2, "0 <- 1."), [[6, 0, 0, 1]]);
-    assert_eq!(steps(2, "0. 0."), [[8, 0, 1, 0]]);
+    assert_eq!(steps(2, "0. 0."), [[8, 1, 0, 0]], "slip 7 for document 01's 8,0,1,0");
     assert_eq!(steps(2, "0 <- ~0."), [[0; 4]; 0]);
     assert_eq!(steps(4, "0. 1 <- 0, ~2. 3 <- 3. 2 <- 3."), [[1, 2, 0, 3], [3, 1, 0, 0], [6, 3, 0, 3], [4, 1, 0, 2]]);
 }
@@ -172,6 +172,49 @@ fn a_failure_is_no_loop() {
     assert_eq!(check(2, "0 <- ~1.", &[7, 0, 0, 1]), refused(32, 0), "in no positive body");
     assert_eq!(check(1, "<- 0.", &[7, 0, 0, 0]), refused(32, 0), "a constraint");
     assert_eq!(check(1, "<- .", &[7, 0, 0, 0]), refused(32, 0), "the empty clause");
+}
+
+/// Slip 7 of document 02: equal as given, equal by a drop, empty, beside a third that is within both, and within without being
+/// equal. The checker takes either order.
+#[test]
+fn the_earlier_of_equal_clauses_stays() {
+    assert_eq!(steps(1, "0. 0."), [[8, 1, 0, 0]]);
+    assert_eq!(steps(1, "0. 0. 0."), [[8, 1, 0, 0], [8, 2, 0, 0]]);
+    assert_eq!(steps(2, "0. 1 <- 0. 1."), [[3, 1, 0, 0], [8, 2, 1, 0]]);
+    assert_eq!(steps(2, "1. 0. 1 <- 0."), [[3, 2, 1, 0], [8, 2, 0, 0]]);
+    assert_eq!(steps(0, "<- . <- ."), [[5, 1, 0, 0]]);
+    assert_eq!(steps(1, "0. <- . <- ."), [[5, 0, 1, 0], [5, 2, 1, 0]]);
+    assert_eq!(steps(2, "0|1. 0|1. 0."), [[8, 0, 2, 0], [8, 1, 2, 0]]);
+    assert_eq!(steps(2, "0|1. 0."), [[8, 0, 1, 0]]);
+    for step in [[8, 0, 1, 0], [8, 1, 0, 0]] {
+        assert_eq!(check(2, "0. 0.", &step), Ok(1));
+        assert_eq!(check(2, "0 <- 1, ~1. 0 <- 1, ~1.", &step), Ok(1));
+    }
+    for step in [[5, 0, 1, 0], [5, 1, 0, 0], [8, 0, 1, 0], [8, 1, 0, 0]] {
+        assert_eq!(check(0, "<- . <- .", &step), Ok(1));
+    }
+}
+
+/// Which steps are passed over, of those that apply: kind 5 or 8, the target the lower number, all three parts equal as left.
+#[test]
+fn steps_passed_over() {
+    let over = |atoms: u16, program: &str, list: &[u16]| -> Vec<[u16; 4]> {
+        let words = words(&parse(atoms, program));
+        let (_, marks) = list::check(&words, &vec![1; words.len()], list);
+        let table = table::Table::read(&words).unwrap();
+        let left = Left::new(&table, &marks);
+        let open = reduce::applicable(&left).into_iter();
+        open.filter(|&step| reduce::passed_over(&left, step)).map(|step| step.words()).collect()
+    };
+    assert_eq!(over(1, "0. 0. 0.", &[]), [[8, 0, 1, 0], [8, 0, 2, 0], [8, 1, 2, 0]]);
+    assert_eq!(over(1, "0. 0. 0.", &[8, 0, 1, 0]), [[8, 1, 2, 0]]);
+    assert_eq!(over(0, "<- . <- .", &[]), [[5, 0, 1, 0], [8, 0, 1, 0]]);
+    assert_eq!(over(2, "0. 1 <- 0. 1.", &[]), [[0; 4]; 0]);
+    assert_eq!(over(2, "0. 1 <- 0. 1.", &[3, 1, 0, 0]), [[8, 1, 2, 0]]);
+    assert_eq!(over(2, "1. 0. 1 <- 0.", &[3, 2, 1, 0]), [[8, 0, 2, 0]]);
+    assert_eq!(over(2, "0|1. 0. 0 <- ~1. 0 <- 1.", &[]), [[0; 4]; 0]);
+    // kind 3 has a partner too, and is never passed over: of 0 <- 0. and 0. the parts differ
+    assert_eq!(over(2, "0 <- 0. 0 <- 0. 0.", &[]), [[8, 0, 1, 0]]);
 }
 
 /// The steps that the reducer chooses among are those that the questions let through, of all four words near the program's.

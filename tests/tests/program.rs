@@ -112,6 +112,24 @@ fn success_lines() {
     }
 }
 
+/// Slip 7: the earlier of equal clauses stays, so that those left are in the order of the first of each.
+#[test]
+fn equal_clauses() {
+    let (one, other) = ("head=1\npos=\nneg=\n", "head=0,2\npos=\nneg=\n");
+    for (clauses, left, list) in [
+        ([one, one, other, one], [one, other], "steps=2\nstep=8,1,0,0\nstep=8,3,0,0\n"),
+        ([one, other, other, one], [one, other], "steps=2\nstep=8,2,1,0\nstep=8,3,0,0\n"),
+        ([other, one, one, other], [other, one], "steps=2\nstep=8,2,1,0\nstep=8,3,0,0\n"),
+    ] {
+        let text = format!("atoms=3\nclauses=4\n{}", clauses.concat());
+        assert_eq!(compared(text.as_bytes()), format!("atoms=3\nclauses=2\n{}{list}", left.concat()));
+    }
+    // lists in another order, and with repeats, are the same clause
+    let text = "atoms=2\nclauses=2\nhead=1,0\npos=\nneg=\nhead=0,1,0\npos=\nneg=\n";
+    let left = "atoms=2\nclauses=1\nhead=0,1\npos=\nneg=\nsteps=1\nstep=8,1,0,0\n";
+    assert_eq!(compared(text.as_bytes()), left);
+}
+
 /// The numbers joined by commas.
 fn joined(numbers: impl Iterator<Item = usize>) -> String {
     numbers.map(|number| number.to_string()).collect::<Vec<_>>().join(",")
@@ -250,10 +268,10 @@ fn steps_of_every_length() {
         let lines = steps((1..count + 1).map(|atom| [4, 0, 0, atom]));
         assert_eq!(compared(text.as_bytes()), format!("{left}{lines}"));
     }
-    // equal facts, of which the next one subsumes each
+    // equal facts, of which the first subsumes all others
     for m in [10, 11, 100, 101] {
         let text = format!("atoms=1024\nclauses={m}\n{}", facts(vec!["0".into(); m].into_iter()));
-        let lines = steps((1..m).map(|partner| [8, partner - 1, partner, 0]));
+        let lines = steps((1..m).map(|target| [8, target, 0, 0]));
         assert_eq!(compared(text.as_bytes()), format!("{left}{lines}"));
     }
     // target, partner and atom
@@ -268,17 +286,17 @@ fn steps_of_every_length() {
 fn thousands_of_steps() {
     // equal facts
     let text = format!("atoms=1\nclauses=2047\n{}", facts(vec!["0".into(); 2047].into_iter()));
-    let lines = steps((1..2047).map(|partner| [8, partner - 1, partner, 0]));
+    let lines = steps((1..2047).map(|target| [8, target, 0, 0]));
     prints(&text, &format!("atoms=1\nclauses=1\nhead=0\npos=\nneg=\n{lines}"));
-    // empty clauses, each of which blocks every other clause
+    // empty clauses, of which the first blocks all others
     let text = format!("atoms=0\nclauses=2048\n{}", facts(vec![String::new(); 2048].into_iter()));
-    let lines = steps((1..2048).map(|partner| [5, partner - 1, partner, 0]));
+    let lines = steps((1..2048).map(|target| [5, target, 0, 0]));
     prints(&text, &format!("atoms=0\nclauses=1\nhead=\npos=\nneg=\n{lines}"));
     // eight clauses that lose their negative atoms, in 8,192 words
     let counts = [1024, 1024, 1024, 1024, 1024, 1024, 1024, 998];
     let clauses: String = counts.iter().map(|&count| format!("head=\npos=\nneg={}\n", joined(0..count))).collect();
     let dropped = (0..8).flat_map(|target| (0..counts[target]).map(move |atom| [4, target, 0, atom]));
-    let lines = steps(dropped.chain((1..8).map(|partner| [5, partner - 1, partner, 0])));
+    let lines = steps(dropped.chain((1..8).map(|target| [5, target, 0, 0])));
     assert!(lines.starts_with("steps=8173\n"));
     prints(&format!("atoms=1024\nclauses=8\n{clauses}"), &format!("atoms=1024\nclauses=1\nhead=\npos=\nneg=\n{lines}"));
 }

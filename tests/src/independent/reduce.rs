@@ -1,4 +1,4 @@
-//! Reducing: 9, 17, then the smallest applicable step until none applies.
+//! Reducing: 9, 17, then the smallest applicable step that is not passed over, until there is none.
 use super::steps::{Left, Step};
 use super::table::Table;
 use super::{ask, Answer};
@@ -25,8 +25,30 @@ fn reduce_on(words: &[u16], marks: &mut [u8], list: &mut [u16]) -> Answer {
     }
 }
 
-/// "the applicable step that is smallest by kind, then target, partner, atom"
+/// "the applicable step that is smallest by kind, then target, partner, atom"; slip 7: of the applicable steps some are
+/// passed over, and the reducer "takes the smallest step of the rest".
 pub fn smallest(left: &Left) -> Option<Step> {
+    smallest_by(|left, step| left.applies(step) && !passed_over(left, step), left)
+}
+
+/// Slip 7: "Where target and partner are equal in all three parts as left, the reducer now passes over the step of kind 5 or 8
+/// whose target is the lower number".
+pub fn passed_over(left: &Left, step: Step) -> bool {
+    matches!(step.kind, 5 | 8) && step.target < step.partner && equal(left, step)
+}
+
+/// Whether a step's target and its partner are kept, and "equal in all three parts as left".
+fn equal(left: &Left, step: Step) -> bool {
+    match (left.kept(step.target), left.kept(step.partner)) {
+        (Some(target), Some(partner)) => {
+            target.head == partner.head && target.pos == partner.pos && target.neg == partner.neg
+        }
+        _ => false,
+    }
+}
+
+/// The smallest applicable step, passed over or not: what the reducer took before slip 7.
+pub fn smallest_applicable(left: &Left) -> Option<Step> {
     smallest_by(Left::applies, left)
 }
 
@@ -38,7 +60,19 @@ pub fn smallest_by(applies: fn(&Left, Step) -> bool, left: &Left) -> Option<Step
     (1..=8).find_map(|kind| kept.clone().find_map(|target| of(kind, target)))
 }
 
-/// Every applicable step.
+/// The list of a reducer that takes these steps, from all marks 1.
+pub fn list_by(words: &[u16], next: fn(&Left) -> Option<Step>) -> Vec<[u16; 4]> {
+    let table = Table::read(words).unwrap();
+    let (mut marks, mut list) = (vec![1; words.len()], Vec::new());
+    loop {
+        let left = Left::new(&table, &marks);
+        let Some(step) = next(&left) else { return list };
+        marks[left.cleared(&table, step)] = 0;
+        list.push(step.words());
+    }
+}
+
+/// Every applicable step, those that the reducer passes over among them: "The checker still takes either order."
 pub fn applicable(left: &Left) -> Vec<Step> {
     let clauses = left.clauses.len() as u16;
     let steps = (1..=8).flat_map(|kind| (0..clauses).flat_map(move |target| left.choices(kind, target)));

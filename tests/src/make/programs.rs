@@ -90,6 +90,33 @@ pub fn circular(random: &mut Random, size: Size) -> Program {
     Program { atoms, clauses }
 }
 
+/// A program in which clauses often are equal, or become so: every other clause is a copy of one before. To some a condition is
+/// added that is a fact, to some a negative atom that is in no head, and steps drop both again; some have an atom more or less.
+pub fn copies(random: &mut Random, size: Size) -> Program {
+    let atoms = random.upto(size.atoms) as u16;
+    let (fact, in_no_head) = (atoms, atoms + 1);
+    let mut clauses = vec![Clause { head: [fact].into(), ..Clause::default() }];
+    match random.upto(3) {
+        0 | 1 => clauses.push(Clause { head: (0..atoms).collect(), ..Clause::default() }),
+        2 if random.once_in(2) => clauses.push(Clause::default()),
+        _ => {}
+    }
+    for _ in 0..random.upto(size.clauses) {
+        let mut made = match random.once_in(2) {
+            true => clauses[random.upto(clauses.len() - 1)].clone(),
+            false => clause(random, atoms, size.part, 4),
+        };
+        match random.upto(5) {
+            0 => drop(made.pos.insert(fact)),
+            1 => drop(made.neg.insert(in_no_head)),
+            2 => made = varied(random, atoms, made),
+            _ => {}
+        }
+        clauses.insert(random.upto(clauses.len()), made);
+    }
+    Program { atoms: atoms + 2, clauses }
+}
+
 /// A disjunctive fact of each so many of the atoms: a set that satisfies them lacks fewer than so many.
 pub fn one_of_any(atoms: Range<u16>, many: u32) -> Vec<Clause> {
     let numbers = (0u32..1 << atoms.len()).filter(|bits| bits.count_ones() == many);

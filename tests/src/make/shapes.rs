@@ -10,12 +10,17 @@ pub struct Shape {
     pub program: fn(usize) -> Program,
 }
 
-pub const SHAPES: [Shape; 10] = [
+pub const SHAPES: [Shape; 15] = [
     Shape { name: "random sparse", full: 2048, program: sparse },
     Shape { name: "random sparse with constraints", full: 2048, program: sparse_with_constraints },
     Shape { name: "chain of facts against clause order", full: 1024, program: chain },
     Shape { name: "one clause of a thousand conditions", full: 1000, program: conditions },
     Shape { name: "two thousand equal facts", full: 2047, program: equal_facts },
+    Shape { name: "a thousand facts, each twice", full: 1023, program: facts_twice },
+    Shape { name: "a thousand facts, then their copies", full: 1023, program: facts_and_copies },
+    Shape { name: "eight hundred equal rules", full: 817, program: equal_rules },
+    Shape { name: "clauses that drops make equal", full: 481, program: made_equal },
+    Shape { name: "two thousand empty clauses", full: 2048, program: empty_clauses },
     Shape { name: "deep positive loops", full: 511, program: loops },
     Shape { name: "a reach a thousand rounds deep", full: 1000, program: deep_reach },
     Shape { name: "subsumption with late partners", full: 511, program: late_partners },
@@ -79,6 +84,38 @@ fn equal_facts(size: usize) -> Program {
     program(1, vec![clause(&[0], &[], &[]); size])
 }
 
+/// 0. 0. 1. 1. and so on.
+fn facts_twice(size: usize) -> Program {
+    program(size, (0..2 * size).map(|i| clause(&[i / 2], &[], &[])).collect())
+}
+
+/// 0. 1. and so on, and all of them again.
+fn facts_and_copies(size: usize) -> Program {
+    program(size, (0..2 * size).map(|i| clause(&[i % size], &[], &[])).collect())
+}
+
+/// A rule whose body stays, behind the disjunction that its atoms are in, again and again.
+fn equal_rules(size: usize) -> Program {
+    let mut clauses = vec![clause(&[0, 1, 2, 3, 4, 5, 6, 7], &[], &[])];
+    clauses.extend(vec![clause(&[8], &[0, 1, 2], &[4, 5, 6]); size]);
+    program(9, clauses)
+}
+
+/// Rules with a condition that is a fact, then the same rules without it, then those with a negative atom that is in no head:
+/// once these are dropped, each rule stands three times.
+fn made_equal(size: usize) -> Program {
+    let (either, other, fact, in_no_head) = (size, size + 1, size + 2, size + 3);
+    let mut clauses = vec![clause(&[either, other], &[], &[]), clause(&[fact], &[], &[])];
+    clauses.extend((0..size).map(|i| clause(&[i], &[either, fact], &[])));
+    clauses.extend((0..size).map(|i| clause(&[i], &[either], &[])));
+    clauses.extend((0..size).map(|i| clause(&[i], &[either], &[in_no_head])));
+    program(size + 4, clauses)
+}
+
+fn empty_clauses(size: usize) -> Program {
+    program(0, vec![clause(&[], &[], &[]); size])
+}
+
 /// Rings of 16 atoms, each derived from either of the next two and from nothing outside, behind a chain that stays.
 fn loops(size: usize) -> Program {
     let ring = size.min(16);
@@ -128,7 +165,7 @@ fn cascade(size: usize) -> Program {
 }
 
 /// Pairs of equal clauses whose bodies go literal by literal: six facts, the head of the next pair, which is a fact in the
-/// end, and five atoms that are in no head. So the last pair becomes facts first; then one of each pair is subsumed.
+/// end, and five atoms that are in no head. So the last pair becomes facts first; then the later of each pair is subsumed.
 fn bodies(size: usize) -> Program {
     let pairs = size.div_ceil(2);
     let (facts, in_no_head) = (pairs..pairs + 6, pairs + 6..pairs + 11);

@@ -1,5 +1,5 @@
 //! Tables, sound and damaged.
-use super::programs::{choices as choosing, circular as circling, program, Size};
+use super::programs::{choices as choosing, circular as circling, copies as copying, program, Size};
 use crate::independent::program::words;
 use crate::random::Random;
 
@@ -16,6 +16,11 @@ pub fn choices(random: &mut Random, size: Size) -> Vec<u16> {
 /// The words of a random program with circles.
 pub fn circular(random: &mut Random, size: Size) -> Vec<u16> {
     words(&circling(random, size))
+}
+
+/// The words of a random program with many equal clauses.
+pub fn copies(random: &mut Random, size: Size) -> Vec<u16> {
+    words(&copying(random, size))
 }
 
 /// The words of a random program, most often damaged in one to three places.

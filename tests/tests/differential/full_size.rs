@@ -27,7 +27,8 @@ pub fn reduced(shape: &Shape, samples: usize, tally: &mut Tally) {
     }
 }
 
-/// The library takes its own list and no step more; at each sample the list's next step is the smallest that applies.
+/// The library takes its own list and no step more; at each sample the list's next step is the smallest that applies and is not
+/// passed over.
 fn sampled(name: &str, table: &[u16], samples: usize, tally: &mut Tally) -> usize {
     let fresh = vec![7; table.len()];
     let (answer, left, list) = library::reduce(table, &fresh, &vec![0; 32760]);

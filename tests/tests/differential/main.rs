@@ -9,7 +9,7 @@ mod steps;
 mod tables;
 mod texts;
 
-use gambrolt_tests::compare::{Circles, Listed, Loops, Tally, Texts, LAST};
+use gambrolt_tests::compare::{Circles, EqualClauses, Listed, Loops, Tally, Texts, LAST};
 use gambrolt_tests::make::shapes::SHAPES;
 use gambrolt_tests::random::Random;
 use std::time::Instant;
@@ -17,7 +17,7 @@ use std::time::Instant;
 /// A group of cases: its name, how many draws it makes, and what one draw compares.
 type Group = (&'static str, u64, fn(&mut Random, &mut Tally));
 
-const GROUPS: [Group; 24] = [
+const GROUPS: [Group; 25] = [
     ("tables", 120_000, tables::damaged),
     ("lists", 100_000, steps::checked),
     ("reducing", 60_000, steps::reduced),
@@ -42,6 +42,7 @@ const GROUPS: [Group; 24] = [
     ("texts read, two of one program or of two", 20_000, texts::two),
     ("texts read, refused late", 4_000, texts::late),
     ("lists with a loop step", 30_000, steps::loops),
+    ("reducing, equal clauses", 20_000, steps::equal_clauses),
 ];
 
 fn main() {
@@ -78,6 +79,7 @@ fn report(tally: &Tally) {
     println!("steps made by kind: {:?}", &tally.made[1..]);
     assert!(tally.made[1..].iter().all(|&steps| steps > 0), "a kind of step was never made");
     loops(&tally.loops);
+    equal_clauses(&tally.equal);
     println!("{:?}", tally.circles);
     let Circles { positive, negative, none } = tally.circles;
     assert!(positive.min(negative).min(none) > 1_000, "too few circles, or programs without");
@@ -95,6 +97,17 @@ fn loops(refused: &Loops) {
     let Loops { failures, in_no_body, behind, before, head_gone, reached, headed_in_no_body } = refused;
     let by_32 = failures.min(in_no_body).min(behind).min(before).min(head_gone);
     assert!(by_32.min(reached).min(headed_in_no_body) > &1_000, "too few loop steps of a kind");
+}
+
+/// Fails where steps were passed over too seldom in some way.
+fn equal_clauses(equal: &EqualClauses) {
+    println!("lists and states where the smallest applicable step is passed over: {equal:?}");
+    let EqualClauses { same_lists, other_lists, blocked, subsumed, .. } = equal;
+    let EqualClauses { partner_goes, by_another, elsewhere, target_shortened, partner_shortened, .. } = equal;
+    let kinds = same_lists.min(other_lists).min(blocked).min(subsumed);
+    let shortened = target_shortened.min(partner_shortened);
+    assert!(kinds.min(shortened).min(partner_goes).min(elsewhere) > &1_000, "too few equal clauses of a kind");
+    assert!(by_another > &200, "too few clauses that a third deletes");
 }
 
 /// Fails where the lists of stable models were refused too seldom by some question, or were too much alike.

@@ -1,6 +1,7 @@
 //! Lists of steps: checked, and made by the reducer.
 use gambrolt_tests::compare::Tally;
-use gambrolt_tests::independent::steps::Left;
+use gambrolt_tests::independent::reduce::{applicable, passed_over};
+use gambrolt_tests::independent::steps::{Left, Step};
 use gambrolt_tests::independent::table::Table;
 use gambrolt_tests::independent::Refused;
 use gambrolt_tests::make::programs::{any_size, Size, MIDDLE};
@@ -36,6 +37,32 @@ pub fn loops(random: &mut Random, tally: &mut Tally) {
     }
 }
 
+/// A program with many equal clauses. Slip 7: the reducer's list has no step that is passed over; at each of its states the
+/// checker takes such a step, and that with target and partner exchanged.
+pub fn equal_clauses(random: &mut Random, tally: &mut Tally) {
+    let size = any_size(random);
+    let table = tables::copies(random, size);
+    let marks = random.bytes(table.len());
+    let (steps, _, list) = tally.reduce(&table, &marks, &vec![0; 4 * table.len()]);
+    let list = &list[..4 * steps.expect("room for every list") as usize];
+    tally.equal.count(&table, list);
+    let read = Table::read(&table).unwrap();
+    for place in 0..=list.len() / 4 {
+        let (before, behind) = list.split_at(4 * place);
+        let (_, left) = tally.check(&table, &marks, before);
+        let left = Left::new(&read, &left);
+        let over: Vec<Step> = applicable(&left).into_iter().filter(|&step| passed_over(&left, step)).collect();
+        assert!(over.iter().all(|step| !behind.starts_with(&step.words())), "{table:?}, {list:?}");
+        if !over.is_empty() {
+            let Step { kind, target, partner, atom } = random.pick(&over);
+            for step in [[kind, target, partner, atom], [kind, partner, target, atom]] {
+                let answer = tally.check(&table, &marks, &[before, &step].concat()).0;
+                assert_eq!(answer, Ok(place as u64 + 1), "{table:?}, {step:?} behind {before:?}");
+            }
+        }
+    }
+}
+
 pub fn reduced(random: &mut Random, tally: &mut Tally) {
     let size = any_size(random);
     reduce_and_check(random, tally, size);
@@ -47,7 +74,7 @@ pub fn reduced_middle(random: &mut Random, tally: &mut Tally) {
 
 /// "The reducer's list .. is accepted, and with any four words behind it, it is refused at step s"; s is the marks at 0.
 fn reduce_and_check(random: &mut Random, tally: &mut Tally, size: Size) {
-    let table = tables::mostly_sound(random, size);
+    let table = if random.once_in(3) { tables::copies(random, size) } else { tables::mostly_sound(random, size) };
     let marks = marks::any(random, table.len());
     let needed = Table::read(&table).map_or(0, |table| 4 * table.clauses_and_body_literals());
     let room = match random.upto(9) {
