@@ -250,8 +250,10 @@ rows =
     ∷ writes (2 ∷ 3 ∷ 2 ∷ 0 ∷ 0 ∷ 0 ∷ 1 ∷ 2 ∷ 0 ∷ 0 ∷ 0 ∷ 1 ∷ 1 ∷ 0 ∷ 0 ∷ 0 ∷ []) (8 ∷ 0 ∷ 2 ∷ 0 ∷ 8 ∷ 1 ∷ 2 ∷ 0 ∷ [])
     -- "equal in all three parts": the earlier of two clauses with equal heads that is subsumed and not equal goes: 0 <- ~1, ~2. 0 <- ~1. 1 <- ~0. 2 <- ~0.
     ∷ writes (3 ∷ 4 ∷ 1 ∷ 0 ∷ 2 ∷ 0 ∷ 1 ∷ 2 ∷ 1 ∷ 0 ∷ 1 ∷ 0 ∷ 1 ∷ 1 ∷ 0 ∷ 1 ∷ 1 ∷ 0 ∷ 1 ∷ 0 ∷ 1 ∷ 2 ∷ 0 ∷ []) (8 ∷ 0 ∷ 1 ∷ 0 ∷ [])
+    -- equal when a step is chosen, not as given: 1 <- ~0. 0|1. 1 <- ~0. 1.; the last deletes the first two, then clause 2 loses ~0, and as the fact 1 it deletes the last
+    ∷ writes (2 ∷ 4 ∷ 1 ∷ 0 ∷ 1 ∷ 1 ∷ 0 ∷ 2 ∷ 0 ∷ 0 ∷ 0 ∷ 1 ∷ 1 ∷ 0 ∷ 1 ∷ 1 ∷ 0 ∷ 1 ∷ 0 ∷ 0 ∷ 1 ∷ []) (8 ∷ 0 ∷ 3 ∷ 0 ∷ 8 ∷ 1 ∷ 3 ∷ 0 ∷ 4 ∷ 2 ∷ 0 ∷ 0 ∷ 8 ∷ 3 ∷ 2 ∷ 0 ∷ [])
     ∷ []
 
 pub requests : AllSay rows
 unfolding left fire reachFrom reach inNoHead condition atomHeaded conditionHolds applies effect same passedOver eligible least firstAtom firstPartner firstTarget firstStep reduce ask questions.atomsFrom questions.partsFrom questions.clauseFrom questions.clausesFrom questions.allUsed questions.tableOf startFrom clausesOf programOf part entryAt entriesFrom view find clears marksAfter marksAfterAll steps.shapeQuestions steps.conditionQuestions steps.stepQuestions checking.stepsFrom checking.checkList wordsOf reductions.bodyLiterals reductions.room reductions.stepsOf reductions.reduction questions.onWalk questions.onTable turned leads cyclic cycleOf programs.satisfies programs.reduct programs.models sublists stableTest below entriesOf stableWord modelsOf modelsAnswer modelsOut writtenIf between width places digits others commas lineText clauseText clausesText render textOf writeAnswer outAfter clausesWords encode insert sorted reader.then reader.starts reader.run reader.ended reader.spanAt reader.nextOf reader.scan reader.numbers reader.onSpan reader.valueOf reader.valueAt reader.numberAt reader.countAt reader.listOf reader.listAt reader.clauseAt reader.clausesAt reader.restAt reader.programAt reader.readText reader.readAnswer reader.tableAfter
-requests = (refl, (refl, (refl, ((refl, refl), (refl, (refl, (refl, (refl, (refl, (refl, (refl, (refl, (refl, (refl, (refl, (refl, ((refl, refl), (refl, (refl, (refl, (refl, (refl, (refl, (refl, (refl, (refl, (refl, ((refl, refl), ((refl, refl), ((refl, refl), ((refl, refl), ((refl, refl), ((refl, refl), ((refl, refl), ((refl, refl), ((refl, refl), ((refl, refl), ((refl, refl), (refl, (refl, (refl, (refl, (refl, (refl, (refl, (refl, (refl, (refl, (refl, (refl, (refl, (refl, (refl, (refl, (refl, ((refl, refl), ((refl, refl), ((refl, refl), ((refl, refl), ((refl, refl), ((refl, refl), ((refl, refl), (refl, (refl, (refl, (refl, (refl, (refl, ((refl, refl), ((refl, refl), ((refl, refl), ((refl, refl), ((refl, refl), ((refl, refl), (refl, (refl, (refl, (refl, (refl, (refl, (refl, (refl, (refl, ((refl, refl), (refl, (refl, (refl, (refl, (refl, (refl, (refl, (refl, (refl, (refl, ((refl, refl), (refl, (refl, ((refl, refl), (refl, (refl, (refl, (refl, (refl, ((refl, refl), (refl, (refl, ((refl, refl), (refl, (refl, (refl, (refl, ((refl, refl), ((refl, refl), ((refl, refl), ((refl, refl), ((refl, refl), ((refl, refl), ((refl, refl), ((refl, refl), ((refl, refl), tt))))))))))))))))))))))))))))))))))))))))))))))))))))))))))))))))))))))))))))))))))))))))))))))))))))))))))))))))))))))))
+requests = (refl, (refl, (refl, ((refl, refl), (refl, (refl, (refl, (refl, (refl, (refl, (refl, (refl, (refl, (refl, (refl, (refl, ((refl, refl), (refl, (refl, (refl, (refl, (refl, (refl, (refl, (refl, (refl, (refl, ((refl, refl), ((refl, refl), ((refl, refl), ((refl, refl), ((refl, refl), ((refl, refl), ((refl, refl), ((refl, refl), ((refl, refl), ((refl, refl), ((refl, refl), (refl, (refl, (refl, (refl, (refl, (refl, (refl, (refl, (refl, (refl, (refl, (refl, (refl, (refl, (refl, (refl, (refl, ((refl, refl), ((refl, refl), ((refl, refl), ((refl, refl), ((refl, refl), ((refl, refl), ((refl, refl), (refl, (refl, (refl, (refl, (refl, (refl, ((refl, refl), ((refl, refl), ((refl, refl), ((refl, refl), ((refl, refl), ((refl, refl), (refl, (refl, (refl, (refl, (refl, (refl, (refl, (refl, (refl, ((refl, refl), (refl, (refl, (refl, (refl, (refl, (refl, (refl, (refl, (refl, (refl, ((refl, refl), (refl, (refl, ((refl, refl), (refl, (refl, (refl, (refl, (refl, ((refl, refl), (refl, (refl, ((refl, refl), (refl, (refl, (refl, (refl, ((refl, refl), ((refl, refl), ((refl, refl), ((refl, refl), ((refl, refl), ((refl, refl), ((refl, refl), ((refl, refl), ((refl, refl), ((refl, refl), tt)))))))))))))))))))))))))))))))))))))))))))))))))))))))))))))))))))))))))))))))))))))))))))))))))))))))))))))))))))))))))

@@ -5,7 +5,7 @@ use mathlib.Core.Bool.{false, not, cond, _&&_, So}
 use mathlib.Core.List.{List}
 use Prim.Native.Nat.{ℕ, _<_}
 use native.Mathlib.Omega.{arith}
-use lib.Dec.{eqb, ltb}
+use lib.Dec.{eqb}
 use borrow.Author.Tests.{eqb-true, ltb-true, lt-ltb}
 use Rattle.semantics.specs.Lists.{within, same, ascending}
 use Rattle.semantics.specs.Programs.{Clause}
@@ -69,16 +69,17 @@ module _ (P : Marked) (s : Step) where
   abbrev partner : Clause
   partner = entry P (s .partner) .clause
 
+  pub passed-by : So (spares (s .kind)) → s .target < s .partner → target ≡ partner → So (passedOver P s)
+  unfolding passedOver
+  passed-by k l e = and-iff _ _ .1 (k, and-iff _ _ .1 (lt-ltb _ _ l, equal-iff target partner .1 e))
+
   pub passed-iff : So (passedOver P s) ↔ PassedOver P s
   unfolding passedOver
   passed-iff = (
     λ o. let w = and-iff (spares (s .kind)) _ .0 o in
         let v = and-iff _ (equal target partner) .0 (w .1) in
         record { kind = kinds-spares (λ k. (k ≡ blocked) ⊎ (k ≡ subsumed)) (inl refl) (inr refl) (s .kind) (w .0); lower = ltb-true _ _ (v .0); equal = equal-iff target partner .0 (v .1) },
-    λ r. and-iff _ _ .1 (
-      ⊎-elim (λ e. subst (λ k. So (spares k)) (sym e) refl) (λ e. subst (λ k. So (spares k)) (sym e) refl) (r .kind),
-      and-iff _ _ .1 (lt-ltb _ _ (r .lower), equal-iff target partner .1 (r .equal)),
-    ),
+    λ r. passed-by (⊎-elim (λ e. subst (λ k. So (spares k)) (sym e) refl) (λ e. subst (λ k. So (spares k)) (sym e) refl) (r .kind)) (r .lower) (r .equal),
   )
 
   module _ (n : ℕ) where

@@ -67,10 +67,10 @@ pub record Lifted (ws ms flags flags' : List ℕ) (kind t : ℕ) : Type 0 where
   pub flagged : flagAt flags' kind t ≢ 0
   pub inside : (low end : ℕ) → Inside flags kind low end → Inside flags' kind low end
 
--- Clause q stands before x, subsumes it and is not fresh: every eligible target of x is one of q.
-pub record Subsumer (ws ms flags : List ℕ) (x q : ℕ) : Type 0 where
+-- Clause q stands before x, subsumes it and is no fresh key of the kind, 5 or 8: every eligible target of x is one of q.
+pub record Subsumer (ws ms flags : List ℕ) (kind x q : ℕ) : Type 0 where
   pub less : q < x
-  pub stale : flagAt flags 16 q ≡ 0
+  pub stale : flagAt flags (8 + kind) q ≡ 0
   pub kept : entry (view ws ms) q .kept ≡ true
   pub holds : So (condition subsumed (left (view ws ms)) (entry (view ws ms) x .clause) (entry (view ws ms) q .clause) 0)
 

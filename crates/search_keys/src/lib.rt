@@ -1,7 +1,9 @@
 // The state between two steps, and its fresh keys: before a search each is spread to its targets.
 ghost use mathlib.Core.Path.{_≡_};
+ghost use mathlib.Core.Logic.{_≢_};
 ghost use Prim.Native.Nat.{_≤_, _<_};
 ghost use lib.ListN.{length, getD};
+ghost use Rattle.step_parts.specs.Parts.{Ready};
 ghost use Rattle.search_flags.specs.Flags.{flagAt, allFlags};
 ghost use mathlib.Core.Bool.{true};
 ghost use Rattle.step_kinds.specs.Kinds.{PartnerKind, NoHeadKind};
@@ -10,46 +12,44 @@ ghost use Rattle.search_spreads.specs.Spreads.{Spread, PartnerSpread};
 
 // ---- the targets of a key
 
-// The least key of the flag of x as a target of kind 8, or x where it is none before x.
-fn least_before(flags: &[u16], x: usize) -> usize
-    requires { ⌜ (x < 2048) × (length (now flags) ≡ allFlags) ⌝ }
+// The least key of the flag of x as a target of the kind, or x where it is none before x.
+fn least_before(flags: &[u16], kind: u16, x: usize) -> usize
+    requires { ⌜ (kind ≤ 8) × ((x < 2048) × (length (now flags) ≡ allFlags)) ⌝ }
     ensures { λ r. ⌜ r ≤ x ⌝ }
 {
-    let old = search_flags::flag_of(flags, 8, x);
+    let old = search_flags::flag_of(flags, table::wide(kind), x);
     if old == 0 {
         return x;
     }
     search_flags::lesser(x, old - 1)
 }
 
-// Whether the kind is 8 and the clause q, which stands before x, subsumes it and is spread already.
+// Whether the kind is 5 or 8 and the clause q, which stands before x, subsumes it and is spread already.
 fn is_subsumed(
     words: &[u16],
     marks: &[u8],
     index: &[u16],
-    heads: &[u16],
-    reach: &[u8],
     flags: &[u16],
     kind: u16,
     x: usize,
     q: usize,
 ) -> bool
-    requires { ⌜ (State (now words) (now marks) (now index) (now heads) (now reach) (now flags)) × ((x < getD (now words) 1 0) × (q ≤ x)) ⌝ }
-    ensures { λ r. ⌜ (r ≡ true → (kind ≡ 8) × Subsumer (now (words .entry)) (now (marks .entry)) (now (flags .entry)) x q) ⌝ }
+    requires { ⌜ (Ready (now words) (now marks) (now index)) × ((length (now flags) ≡ allFlags) × ((x < getD (now words) 1 0) × ((q ≤ x) × (PartnerKind kind)))) ⌝ }
+    ensures { λ r. ⌜ (r ≡ true → (kind ≢ 3) × Subsumer (now (words .entry)) (now (marks .entry)) (now (flags .entry)) kind x q) ⌝ }
 {
-    if kind != 8 {
+    if kind == 3 {
         return false;
     }
     if q == x {
         return false;
     }
-    if search_flags::flag_of(flags, 16, q) != 0 {
+    if search_flags::flag_of(flags, 8 + table::wide(kind), q) != 0 {
         return false;
     }
     if !step_parts::kept(words, marks, index, q) {
         return false;
     }
-    step_conditions::holds(words, marks, index, heads, reach, 8, x, q, 0)
+    step_conditions::subsumed_holds(words, marks, index, x, q)
 }
 
 // The targets of a partner. Where a clause before it subsumes it, they are flagged already.
@@ -67,8 +67,8 @@ fn spread_clause(
     requires { ⌜ (State (now words) (now marks) (now index) (now heads) (now reach) (now flags)) × ((m ≡ getD (now words) 1 0) × ((x < getD (now words) 1 0) × (PartnerKind kind))) ⌝ }
     ensures { λ _. ⌜ PartnerSpread (now (words .entry)) (now (marks .entry)) (now (flags .entry)) (now (flags .exit)) kind x ⌝ }
 {
-    let q = least_before(flags, x);
-    if is_subsumed(words, marks, index, heads, reach, flags, kind, x, q) {
+    let q = least_before(flags, kind, x);
+    if is_subsumed(words, marks, index, flags, kind, x, q) {
         return;
     }
     search_spreads::spread_partner(words, marks, index, heads, reach, flags, kind, x, m);

@@ -13,7 +13,7 @@ use Rattle.semantics.proofs.Tests.{not-so, and-iff}
 use Rattle.rewriting.specs.Marked.{Marked, entry}
 use Rattle.rewriting.specs.Steps.{Step, step}
 use Rattle.rewriting.specs.Reducer.{eligible}
-use Rattle.rewriting.specs.Kinds.{Kind, subsumed, kindOf, usesPartner}
+use Rattle.rewriting.specs.Kinds.{Kind, kindOf, usesPartner}
 use Rattle.rewriting.proofs.Left.{kept-lt}
 use Rattle.rewriting.specs.Search.{stepWith}
 use Rattle.rewriting.proofs.Rows.{atom-settled}
@@ -49,9 +49,9 @@ module _ (n : ℕ) (P : Marked) (u : Step) (k : Kind) (e : u .kind ≡ k) (h : S
 -- ---- one target after the other
 
 -- no clause is its own partner
-pub itself-not : (n : ℕ) (P : Marked) (kind t p a : ℕ) → (kind ≡ 8) × (p ≡ t) → ¬ So (eligible n P (step (kindOf kind) t p a))
-itself-not n P kind t p a (e, d) h =
-    let w = eligible-ask n P (step subsumed t p a) (subst (λ k. So (eligible n P (step (kindOf k) t p a))) e h) .1 in
+pub itself-not : (n : ℕ) (P : Marked) (k : Kind) (t p a : ℕ) → So (usesPartner k) × (p ≡ t) → ¬ So (eligible n P (step k t p a))
+itself-not n P k t p a (u, d) h =
+    let w = subst (λ b. So (cond b (entry P p .kept && not (eqb p t)) (eqb p 0))) u (eligible-ask n P (step k t p a) h .1) in
     not-so (ap not (eq-eqb p t d)) (and-iff (entry P p .kept) (not (eqb p t)) .0 w .1)
 
 -- the targets below t are done

@@ -5,7 +5,7 @@ ghost use Prim.Native.Nat.{_+_, _≤_, _<_};
 ghost use lib.ListN.{length, getD};
 ghost use Rattle.rewriting.specs.Steps.{step};
 ghost use Rattle.rewriting.specs.Reducer.{eligible};
-ghost use Rattle.rewriting.specs.Kinds.{kindOf};
+ghost use Rattle.rewriting.specs.Kinds.{kindOf, usesPartner};
 ghost use Rattle.table.specs.View.{view};
 ghost use Rattle.step_parts.specs.Parts.{Ready};
 ghost use Rattle.search_flags.specs.Flags.{Covered, Raising, allFlags};
@@ -14,19 +14,20 @@ ghost use Rattle.step_conditions.specs.Known.{Known};
 ghost use Rattle.search_spreads.specs.Spreads.{Clue, NoPartner, NoTarget, Spread, PartnerSpread};
 use step_parts::Part;
 
-// Whether the target of kind 8 is the partner.
+// Whether the kind has a partner, and the target is it.
 fn is_itself(kind: u16, t: usize, p: usize) -> bool
-    ensures { λ r. ⌜ (r ≡ true → (kind ≡ 8) × (p ≡ t)) ⌝ }
+    requires { ⌜ (1 ≤ kind) × (kind ≤ 8) ⌝ }
+    ensures { λ r. ⌜ (r ≡ true → (So (usesPartner (kindOf kind))) × (p ≡ t)) ⌝ }
 {
-    if kind != 8 {
+    if !step_kinds::uses_partner(kind) {
         return false;
     }
     p == t
 }
 
-// Whether clause t can be a target of the partner p: it is kept and, for kind 8, another clause.
+// Whether clause t can be a target of the partner p: it is kept and, for a kind with a partner, another clause.
 fn may_target(words: &[u16], marks: &[u8], index: &[u16], kind: u16, t: usize, p: usize) -> bool
-    requires { ⌜ (Ready (now words) (now marks) (now index)) × (t < getD (now words) 1 0) ⌝ }
+    requires { ⌜ (Ready (now words) (now marks) (now index)) × ((t < getD (now words) 1 0) × ((1 ≤ kind) × (kind ≤ 8))) ⌝ }
     ensures { λ r. ⌜ (r ≡ false → NoTarget (now (words .entry)) (now (marks .entry)) kind t p) ⌝ }
 {
     if is_itself(kind, t, p) {

@@ -19,7 +19,7 @@ returns : tie.Need-returns
 returns c = (raising-none _ _ _, λ _. subst (λ r. Covered (c .before .before .before .before .before .before .before .before .before .before .args .flags .now) r (c .before .before .before .before .before .before .before .before .before .before .args .t) (c .before .before .before .before .before .before .before .before .before .before .args .p)) (c .before .before .before .wide .ensures .0) (c .before .covered .ensures (c .if1 .taken)))
 
 may-target-requires : tie.Need-may-target-requires
-may-target-requires c κs = (c .before .before .before .before .before .before .before .before .before .before .pre .0, c .before .before .before .before .before .before .before .before .before .before .pre .1 .0)
+may-target-requires c κs = let p = c .before .before .before .before .before .before .before .before .before .before .pre in (p .0, (p .1 .0, p .1 .1 .1 .0))
 
 returns-2 : tie.Need-returns-2
 returns-2 c = (raising-none _ _ _, λ h. absurd (c .before .may-target .ensures (not-true _ (c .if2 .taken)) _ h))
