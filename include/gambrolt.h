@@ -54,7 +54,7 @@ extern "C" {
 
 /* ---- Version --------------------------------------------------------------------------------------------------------- */
 
-#define GAMBROLT_VERSION "5.0.0"
+#define GAMBROLT_VERSION "6.0.0"
 
 static inline const char *gambrolt_version(void)
 {
@@ -216,6 +216,8 @@ uint64_t gambrolt_check(const uint16_t *table, size_t table_len, uint8_t *marks,
 
 /*
  * Reduces a program: takes the applicable step that is smallest by kind, target, partner, atom, until none applies: 9, 17.
+ * Passed over are steps of kinds 5 and 8 whose partner is a later clause, equal to the target as left: of two such clauses
+ * the later goes by the earlier.
  * Value: the number s of steps made.
  * marks (at least table_len, of any values): those after the steps.
  * list (at least 4 words for each clause and each body literal; 4 * table_len always suffices): the steps, in its first
