@@ -1,4 +1,4 @@
--- Demand 3, of every program within the limits: the same stable models before and after any list; and the reducer's own list, in the order that document 01 gives, is accepted
+-- Demand 3, of every program within the limits: the same stable models before and after any list; and the reducer's own list, in the order that document 01 and slip 7 give, is accepted
 -- with the same marks, with no further step open, with as many steps as marks at 0, and leaves a table with the same stable models.
 use mathlib.Core.Path.{_≡_, refl, sym, ap, subst, _∙_}
 use mathlib.Core.Logic.{_↔_}

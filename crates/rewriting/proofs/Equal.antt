@@ -2,14 +2,14 @@
 use mathlib.Core.Path.{_≡_, refl, sym, ap, subst, _∙_}
 use mathlib.Core.Logic.{_↔_, _⊎_, inl, inr, by-cases, ⊎-elim}
 use mathlib.Core.Bool.{false, not, cond, _&&_, So}
-use mathlib.Core.List.{List}
+use mathlib.Core.List.{List, [], _∷_, List·Memᴰ·head, List·Memᴰ·not-nil}
 use Prim.Native.Nat.{ℕ, _<_}
 use native.Mathlib.Omega.{arith}
 use lib.Dec.{eqb}
 use borrow.Author.Tests.{eqb-true, ltb-true, lt-ltb}
-use Rattle.semantics.specs.Lists.{within, same, ascending}
+use Rattle.semantics.specs.Lists.{_∈_, null, within, same, ascending}
 use Rattle.semantics.specs.Programs.{Clause}
-use Rattle.semantics.proofs.Tests.{and-iff, not-iff, within-iff, same-iff, so-dec, so-ext, so-false, not-so}
+use Rattle.semantics.proofs.Tests.{and-iff, not-iff, null-iff, within-iff, same-iff, so-dec, so-ext, so-false, not-so}
 use Rattle.semantics.proofs.Ascending.{ascending-within}
 use Rattle.rewriting.specs.Marked.{Marked, entry, left}
 use Rattle.rewriting.specs.Steps.{Step, step, condition, conditionHolds, applies}
@@ -32,6 +32,11 @@ equal-iff c d = (
 )
 
 -- ---- clauses within each other
+
+-- what is within nothing is nothing
+pub null-within : (k l : List ℕ) → So (within k l) → l ≡ [] → So (null k)
+null-within [] l h e = refl
+null-within (x ∷ k) l h e = absurd (List·Memᴰ·not-nil (subst (λ j. x ∈ j) e (within-iff (x ∷ k) l .0 h x (List·Memᴰ·head refl))))
 
 pub subsumed-self : (cs : List Clause) (c : Clause) (a : ℕ) → So (condition subsumed cs c c a)
 unfolding condition
@@ -110,6 +115,17 @@ eligible-rest n P s h = sym (ap (λ b. b && not (passedOver P s)) h)
 pub eligible-same : (n : ℕ) (P : Marked) (s : Step) → ¬ So (spares (s .kind)) → eligible n P s ≡ applies n P s
 unfolding passedOver
 eligible-same n P s x = so-ext _ _ (eligible-applies n P s) (λ h. eligible-iff P s n .1 (h, λ o. x (and-iff (spares (s .kind)) _ .0 o .0)))
+
+-- The clauses that a step of kind 5 names where it is passed over are empty.
+pub blocked-empty : (n : ℕ) (P : Marked) (s : Step) → s .kind ≡ blocked → So (applies n P s) → So (passedOver P s) → (target P s ≡ record { head = []; pos = []; neg = [] }) × (partner P s ≡ record { head = []; pos = []; neg = [] })
+unfolding condition
+blocked-empty n P s k h o =
+    let r = passed-iff P s .0 o in
+    let d = partner P s in
+    let w = simp (and-iff, null-iff) at (subst (λ j. So (condition j (left P) (target P s) d (s .atom))) k (applies-ask n P s h .2)) in
+    let v = subst (λ c. So (within (d .head) (c .neg))) (r .equal) (w .1) in
+    let e = clause-equal d (record { head = []; pos = []; neg = [] }) (null-iff _ .0 (null-within (d .head) (d .neg) v (w .0 .1))) (w .0 .0) (w .0 .1) in
+    (r .equal ∙ e, e)
 
 -- ---- the step with target and partner exchanged
 

@@ -1,7 +1,7 @@
 -- Kinds 5 and 8: a clause that an earlier one subsumes has no eligible target but those of the earlier one.
 use mathlib.Core.Path.{_≡_, refl, sym, subst}
 use mathlib.Core.Bool.{not, cond, _&&_, So}
-use mathlib.Core.List.{List, [], _∷_, List·Memᴰ·head, List·Memᴰ·not-nil}
+use mathlib.Core.List.{List, List·Memᴰ·not-nil}
 use Prim.Native.Nat.{ℕ, _<_}
 use native.Mathlib.Omega.{arith}
 use lib.Dec.{eqb, ltb}
@@ -14,17 +14,12 @@ use Rattle.rewriting.specs.Steps.{step, condition, conditionHolds, appli
 use Rattle.rewriting.specs.Kinds.{Kind, subsumed, usesAtom}
 use Rattle.rewriting.specs.Reducer.{spares, passedOver, eligible}
 use Rattle.rewriting.proofs.Rows.{kinds-spares}
-use Rattle.rewriting.proofs.Equal.{Ascends, equal-within, passed-by, passed-iff, eligible-iff, eligible-ask, spares-partner}
+use Rattle.rewriting.proofs.Equal.{null-within, Ascends, equal-within, passed-by, passed-iff, eligible-iff, eligible-ask, spares-partner}
 
 within-trans : (k l m : List ℕ) → So (within k l) → So (within l m) → So (within k m)
 within-trans k l m a b = within-iff k m .1 (λ x y. within-iff l m .0 b x (within-iff k l .0 a x y))
 
--- what is within nothing is nothing
-null-within : (k l : List ℕ) → So (within k l) → l ≡ [] → So (null k)
-null-within [] l h e = refl
-null-within (x ∷ k) l h e = absurd (List·Memᴰ·not-nil (subst (λ j. x ∈ j) e (within-iff (x ∷ k) l .0 h x (List·Memᴰ·head refl))))
-
--- and is within everything
+-- what is nothing is within everything
 within-null : (k l : List ℕ) → So (null k) → So (within k l)
 within-null k l h = within-iff k l .1 (λ x m. absurd (List·Memᴰ·not-nil (subst (λ j. x ∈ j) (null-iff k .0 h) m)))
 

@@ -167,7 +167,7 @@ fn partner_fits(
     step_conditions::is_fact(words, marks, index, p)
 }
 
-// Whether the step of kind 3, 5 or 8 with the kept target that is stamped and the partner p, which settles its atom, is one that the reducer may take.
+// Whether the step of kind 3, 5 or 8 with the kept target that is stamped and the partner p, which settles its atom, applies and is not passed over.
 pub fn partner_eligible(
     words: &[u16],
     marks: &[u8],

@@ -15,7 +15,7 @@ use Rattle.rewriting.specs.Reducer.{equal, spares, passedOver}
 use Rattle.rewriting.proofs.Equal.{equal-iff, subsumed-self, equal-within, passed-iff}
 use Rattle.table.specs.Questions.{Passed}
 use Rattle.table.specs.View.{view}
-use Rattle.table.proofs.Parts.{view-straight}
+use Rattle.table.proofs.Parts.{view-ascends}
 use Rattle.step_kinds.proofs.Numbers.{kind-number}
 
 module _ (ws ms : List ℕ) (ok : Passed ws) (t p : ℕ) where
@@ -30,9 +30,8 @@ module _ (ws ms : List ℕ) (ok : Passed ws) (t p : ℕ) where
   inside c d = condition subsumed (left (view ws ms)) d c 0
 
   -- clauses of which each is within the other are equal
-  pub both-equal : So (inside target partner) → So (inside partner target) → target ≡ partner
-  both-equal a b = let x = view-straight ws ms ok t in let y = view-straight ws ms ok p in
-      equal-within (left (view ws ms)) target partner 0 0 (record { head = x .head; pos = x .pos; neg = x .neg }) (record { head = y .head; pos = y .pos; neg = y .neg }) b a
+  both-equal : So (inside target partner) → So (inside partner target) → target ≡ partner
+  both-equal a b = equal-within (left (view ws ms)) target partner 0 0 (view-ascends ws ms ok t) (view-ascends ws ms ok p) b a
 
   pub not-equal : inside target partner ≡ false → false ≡ equal target partner
   not-equal e = sym (so-false _ (λ h. not-so e (subst (λ d. So (inside target d)) (equal-iff target partner .0 h) (subsumed-self (left (view ws ms)) target 0))))

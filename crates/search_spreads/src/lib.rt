@@ -57,7 +57,7 @@ fn may_take(
     !search_passed::passed_over(words, marks, index, kind, t, p)
 }
 
-// Flags the target t of the kind, if the reducer may take its step with the partner p and the atom.
+// Flags the target t of the kind, if its step with the partner p and the atom applies and is not passed over.
 fn spread_one(
     words: &[u16],
     marks: &[u8],

@@ -17,6 +17,7 @@ use Rattle.semantics.proofs.Tests.{and-iff, all-iff}
 use Rattle.rewriting.specs.Marked.{gone, entry, left, whole}
 use Rattle.rewriting.proofs.Left.{left-whole}
 use Rattle.rewriting.proofs.Measure.{Tidy}
+use Rattle.rewriting.proofs.Equal.{Ascends}
 use Rattle.table.specs.Questions.{Passed}
 use Rattle.table.specs.Places.{cut, headAt, posAt, negAt, nextAt, startFrom, startOf}
 use Rattle.table.specs.Programs.{clauseOf, clausesOf, programOf}
@@ -118,6 +119,9 @@ view-straight ws ms p i = by-cases (decLt i (getD ws 1 0))
 
 pub view-tidy : (ws ms : List ℕ) → Passed ws → (i : ℕ) → Tidy (entry (view ws ms) i)
 view-tidy ws ms p i = let s = view-straight ws ms p i in (s .pos, s .neg)
+
+pub view-ascends : (ws ms : List ℕ) → Passed ws → (i : ℕ) → Ascends (entry (view ws ms) i .clause)
+view-ascends ws ms p i = let s = view-straight ws ms p i in record { head = s .head; pos = s .pos; neg = s .neg }
 
 -- ---- a part as slices of the words and the marks
 
