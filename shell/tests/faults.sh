@@ -84,25 +84,28 @@ gringo "$tmp/order.lp" | build/gambrolt --to-lp "--names=$tmp/text" >"$tmp/out" 
 expect "names beside anonymous variables: no note" [ ! -s "$tmp/err" ]
 expect "names beside anonymous variables" sh -c 'grep -qF "fits(2,7)." "$0" && grep -q "^any :- not x_[0-9]*\.$" "$0"' "$tmp/out"
 
-# 6: reading takes a fraction of reducing, at full size (the best of ten runs, in microseconds)
-awk 'BEGIN {
-    state = 7; words = 2
-    print "asp 1 0 0"
-    while (words < 8180) {
-        state = (16807 * state) % 2147483647; head = 1 + state % 1024
-        state = (16807 * state) % 2147483647; n = int(state / 1024) % 3
-        line = "1 0 1 " head " 0 " n
-        for (k = 0; k < n; k++) { state = (16807 * state) % 2147483647; line = line (int(state / 2048) % 2 ? " " : " -") 1 + 2 * (state % 512) + k }
-        print line
-        words += 4 + n
-    }
-    print "0"
-}' >"$tmp/in"
-for run in 1 2 3 4 5 6 7 8 9 10; do
-    build/gambrolt --stats=json --dry-run <"$tmp/in" 2>&1 | sed -n 's/.*"reading": \([0-9.]*\), "reducing": \([0-9.]*\),.*/\1 \2/p'
-done | awk '
-    { read = $1 * 1e6; reduced = $2 * 1e6 }
-    NR == 1 || read < best { best = read }
-    NR == 1 || reduced < other { other = reduced }
-    END { print NR, best, other }' >"$tmp/times"
-expect "reading takes less than two thirds of reducing: $(cat "$tmp/times")" awk '{ exit !($1 == 10 && $2 * 3 < $3 * 2) }' "$tmp/times"
+# 6: reading takes time in proportion to what is read, up to full size: four times as many words take less than four times as long (the best
+# of ten runs each, in microseconds)
+order() {
+    awk -v most="$1" 'BEGIN {
+        state = 7; words = 2
+        print "asp 1 0 0"
+        while (words < most) {
+            state = (16807 * state) % 2147483647; head = 1 + state % 1024
+            state = (16807 * state) % 2147483647; n = int(state / 1024) % 3
+            line = "1 0 1 " head " 0 " n
+            for (k = 0; k < n; k++) { state = (16807 * state) % 2147483647; line = line (int(state / 2048) % 2 ? " " : " -") 1 + 2 * (state % 512) + k }
+            print line
+            words += 4 + n
+        }
+        print "0"
+    }'
+}
+reading() {
+    order "$1" >"$tmp/in"
+    for run in 1 2 3 4 5 6 7 8 9 10; do
+        build/gambrolt --stats=json --dry-run <"$tmp/in" 2>&1 | sed -n 's/.*"reading": \([0-9.]*\), "reducing": .*/\1/p'
+    done | awk '{ read = $1 * 1e6 } NR == 1 || read < best { best = read } END { print NR, best }'
+}
+echo "$(reading 2045) $(reading 8180)" >"$tmp/times"
+expect "four times as much is read in less than four times as long: $(cat "$tmp/times")" awk '{ exit !($1 == 10 && $3 == 10 && $4 < 4 * $2) }' "$tmp/times"
