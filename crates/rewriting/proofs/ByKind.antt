@@ -11,8 +11,8 @@ use Rattle.semantics.specs.Lists.{_∈_}
 use Rattle.semantics.specs.Programs.{Clause, Atoms, Subset}
 use Rattle.semantics.proofs.Tests.{without-sub, without-keeps}
 use Rattle.semantics.proofs.Models.{Same}
-use Rattle.rewriting.specs.Marked.{Entry, Marked, gone, entry, left}
-use Rattle.rewriting.specs.Steps.{deleted, dropPos, dropNeg}
+use Rattle.rewriting.specs.Marked.{Entry, Marked, gone, entry, left, deleted}
+use Rattle.rewriting.specs.Steps.{dropPos, dropNeg}
 use Rattle.rewriting.proofs.Left.{each-set, each-unset, set-kept, HoldsAt, ModelsAt, models-left}
 
 -- two directions, at the clause that a step changes

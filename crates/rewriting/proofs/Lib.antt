@@ -2,6 +2,8 @@ pub mod Open
 pub mod Left
 pub mod ByKind
 pub mod Reach
+pub mod Consequences
+pub mod Exclusion
 pub mod Rows
 pub mod Sound
 pub mod Measure

@@ -2,10 +2,10 @@
 use mathlib.Core.Path.{_≡_, refl}
 use mathlib.Core.Bool.{true, false, So}
 use mathlib.Core.List.{[], _∷_}
-use Rattle.rewriting.specs.Marked.{Marked, left}
+use Rattle.rewriting.specs.Marked.{Marked, left, deleted}
 use Rattle.rewriting.specs.Kinds.{noHead, failure, loop}
 use Rattle.rewriting.specs.Reaches.{fire, reachFrom, reach}
-use Rattle.rewriting.specs.Steps.{step, inNoHead, condition, conditionHolds, applies, deleted}
+use Rattle.rewriting.specs.Steps.{step, inNoHead, condition, conditionHolds, applies}
 
 -- 0 <- 1. 2 <- ~1., and 1. is deleted
 abbrev given : Marked

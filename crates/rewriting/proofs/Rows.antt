@@ -8,12 +8,12 @@ use native.Mathlib.Omega.{arith}
 use lib.Dec.{eqb, ltb}
 use lib.ListN.{getD}
 use borrow.Author.Tests.{eqb-true, eq-eqb, ne-eqb}
-use Rattle.semantics.specs.Lists.{_∈_, mem}
+use Rattle.semantics.specs.Lists.{_∈_, mem, single}
 use Rattle.semantics.specs.Programs.{Clause}
 use Rattle.semantics.proofs.Tests.{and-iff, not-iff, mem-iff}
 use Rattle.rewriting.specs.Marked.{Marked, entry, left}
 use Rattle.rewriting.specs.Reaches.{reach}
-use Rattle.rewriting.specs.Steps.{Step, step, fact, single, inNoHead, condition, headed, conditionHolds, atomMatches, atomHeaded, applies}
+use Rattle.rewriting.specs.Steps.{Step, step, fact, inNoHead, condition, headed, conditionHolds, atomMatches, atomHeaded, applies}
 use Rattle.rewriting.specs.Kinds.{Kind, tautology, contradiction, success, noHead, blocked, failure, loop, subsumed, Deed, deletes, dropsPos, dropsNeg, clausesAlone, rowOf, number, kindOf, usesPartner, usesAtom}
 use Rattle.rewriting.specs.Uses.{drops, asksNoHead, asksHeads}
 use Rattle.rewriting.specs.Reducer.{spares}

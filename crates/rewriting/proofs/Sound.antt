@@ -11,9 +11,9 @@ use Rattle.semantics.specs.Lists.{all, mem}
 use Rattle.semantics.specs.Programs.{Clause, Atoms, Stable, program}
 use Rattle.semantics.proofs.Tests.{and-iff, not-iff, mem-iff, within-iff, null-iff}
 use Rattle.semantics.proofs.Models.{Same, same-iff, same-trans, Closed}
-use Rattle.rewriting.specs.Marked.{Entry, Marked, entry, left}
+use Rattle.rewriting.specs.Marked.{Entry, Marked, entry, left, deleted}
 use Rattle.rewriting.specs.Reaches.{reach}
-use Rattle.rewriting.specs.Steps.{Step, inNoHead, condition, conditionHolds, applies, deleted, dropNeg, leftBy, effect}
+use Rattle.rewriting.specs.Steps.{Step, inNoHead, condition, conditionHolds, applies, dropNeg, leftBy, effect}
 use Rattle.rewriting.specs.Runs.{leaves}
 use Rattle.rewriting.specs.Kinds.{Kind, tautology, contradiction, success, noHead, blocked, failure, loop, subsumed, rowOf, usesPartner}
 use Rattle.rewriting.proofs.Left.{each-set, ClosedAt, closed-left}

@@ -6,12 +6,12 @@ use mathlib.Core.Bool.{Bool, true, false, not, cond, _&&_, So, false≢true}
 use mathlib.Core.List.{List}
 use Prim.Native.Nat.{ℕ}
 use lib.Dec.{eqb}
-use Rattle.semantics.specs.Lists.{_∈_, mem, within}
+use Rattle.semantics.specs.Lists.{_∈_, mem, within, single}
 use Rattle.semantics.specs.Programs.{Clause}
 use Rattle.semantics.proofs.Tests.{without-sub, and-iff, mem-iff, within-iff}
-use Rattle.rewriting.specs.Marked.{Entry, Marked, entry, left}
+use Rattle.rewriting.specs.Marked.{Entry, Marked, entry, left, deleted}
 use Rattle.rewriting.specs.Reaches.{reach}
-use Rattle.rewriting.specs.Steps.{Step, fact, single, inNoHead, condition, conditionHolds, applies, deleted, leftBy}
+use Rattle.rewriting.specs.Steps.{Step, fact, inNoHead, condition, conditionHolds, applies, leftBy}
 use Rattle.rewriting.specs.Kinds.{Kind, tautology, contradiction, success, noHead, blocked, failure, loop, subsumed, Deed, deletes, dropsPos, dropsNeg, usesPartner}
 use Rattle.rewriting.specs.Uses.{dropping}
 use Rattle.rewriting.proofs.Left.{left-each}

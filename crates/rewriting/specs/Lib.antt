@@ -1,6 +1,8 @@
 pub mod Marked
 pub mod Reach
 pub mod Reaches
+pub mod Consequences
+pub mod Exclusion
 pub mod Kinds
 pub mod Uses
 pub mod Steps

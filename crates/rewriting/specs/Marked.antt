@@ -13,6 +13,10 @@ pub record Entry : Type 0 where
 abbrev pub Marked : Type 0
 Marked = List Entry
 
+-- a clause that is deleted
+abbrev pub deleted : Clause → Entry
+deleted c = record { kept = false; clause = c }
+
 -- what stands past the last clause: one that is not kept
 abbrev pub gone : Entry
 gone = record { kept = false; clause = record { head = []; pos = []; neg = [] } }

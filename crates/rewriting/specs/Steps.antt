@@ -4,9 +4,9 @@ use mathlib.Core.List.{List, [], _∷_}
 use Prim.Native.Nat.{ℕ}
 use lib.Dec.{eqb, ltb}
 use lib.ListN.{set}
-use Rattle.semantics.specs.Lists.{any, null, mem, within, without}
+use Rattle.semantics.specs.Lists.{any, null, single, mem, within, without}
 use Rattle.semantics.specs.Programs.{Clause}
-use Rattle.rewriting.specs.Marked.{Entry, Marked, entry, left}
+use Rattle.rewriting.specs.Marked.{Entry, Marked, entry, left, deleted}
 use Rattle.rewriting.specs.Reaches.{reach}
 use Rattle.rewriting.specs.Kinds.{Kind, tautology, contradiction, success, noHead, blocked, failure, loop, subsumed, Deed, deletes, dropsPos, dropsNeg, rowOf, number, usesPartner, usesAtom}
 
@@ -23,12 +23,6 @@ step k t p a = record { kind = k; target = t; partner = p; atom = a }
 -- "one with p = q = 0 is a fact, even where h is 0 or above 1"
 abbrev pub fact : Clause → Bool
 fact d = null (d .pos) && null (d .neg)
-
--- the list has exactly one element, and the test holds of it
-abbrev pub single : (ℕ → Bool) → List ℕ → Bool
-single f [] = false
-single f (b ∷ []) = f b
-single f (b ∷ c ∷ l) = false
 
 -- the atom is in the head of no clause
 unfoldable pub inNoHead : List Clause → ℕ → Bool
@@ -89,9 +83,6 @@ conditionHolds P s = condition (s .kind) (left P) (entry P (s .target) .clause) 
 unfoldable pub applies : ℕ → Marked → Step → Bool
 unfolding conditionHolds
 applies n P s = targetKept P s && (partnerKept P s && (atomKnown n s && conditionHolds P s))
-
-abbrev pub deleted : Clause → Entry
-deleted c = record { kept = false; clause = c }
 
 abbrev pub dropPos : ℕ → Clause → Entry
 dropPos a c = record { kept = true; clause = record { head = c .head; pos = without a (c .pos); neg = c .neg } }

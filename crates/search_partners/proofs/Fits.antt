@@ -8,11 +8,11 @@ use native.Mathlib.Omega.{arith}
 use lib.Dec.{eqb}
 use lib.ListN.{getD, drop, replicate, length-take, length-drop}
 use lib.Seq.{getD-take, getD-drop}
-use Rattle.semantics.specs.Lists.{_∈_, all, mem}
+use Rattle.semantics.specs.Lists.{_∈_, all, mem, single}
 use Rattle.semantics.specs.Programs.{Clause}
 use borrow.Author.Tests.{eq-eqb}
 use Rattle.rewriting.specs.Marked.{entry}
-use Rattle.rewriting.specs.Steps.{Step, fact, single, atomKnown, condition, conditionHolds, applies}
+use Rattle.rewriting.specs.Steps.{Step, fact, atomKnown, condition, conditionHolds, applies}
 use Rattle.rewriting.specs.Reducer.{passedOver, eligible}
 use Rattle.rewriting.specs.Search.{stepWith}
 use Rattle.rewriting.specs.Kinds.{Kind, success, blocked, subsumed, kindOf, usesPartner}

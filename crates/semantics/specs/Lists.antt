@@ -37,6 +37,12 @@ module _ {A : Type 0} where
   count p [] = 0
   count p (x ∷ l) = bit (p x) + count p l
 
+-- the list has exactly one element, and the test holds of it
+abbrev pub single : (ℕ → Bool) → List ℕ → Bool
+single f [] = false
+single f (b ∷ []) = f b
+single f (b ∷ c ∷ l) = false
+
 -- the number is in the list
 abbrev pub mem : ℕ → List ℕ → Bool
 mem a l = any (λ x. eqb a x) l

@@ -8,7 +8,8 @@ use native.Mathlib.Numerals.{add-one}
 use lib.Dec.{eqb}
 use lib.ListN.{length, getD, set, List·getD-eq-default}
 use borrow.Author.Tests.{eq-eqb, ne-eqb}
-use Rattle.rewriting.specs.Steps.{Step, single, applies}
+use Rattle.semantics.specs.Lists.{single}
+use Rattle.rewriting.specs.Steps.{Step, applies}
 use Rattle.rewriting.specs.Kinds.{dropsPos, dropsNeg, rowOf, kindOf, usesPartner}
 use Rattle.rewriting.proofs.Left.{kept-lt}
 use Rattle.rewriting.proofs.Sound.{applies-ask}

@@ -8,4 +8,5 @@ pub mod Places
 pub mod Walks
 pub mod Slices
 pub mod View
+pub mod Clearing
 pub mod Parts

@@ -13,8 +13,8 @@ use lib.Seq.{getD-set-same, getD-set-other, take-set-lt, getD-take}
 use borrow.Author.Tests.{eqb-true, eqb-false, eq-eqb, ne-eqb}
 use Rattle.semantics.specs.Lists.{_∈_, count, bit, without}
 use Rattle.semantics.proofs.Tests.{and-iff, without-none}
-use Rattle.rewriting.specs.Marked.{Entry, entry, left}
-use Rattle.rewriting.specs.Steps.{Step, condition, applies, deleted, dropPos, dropNeg, leftBy, effect}
+use Rattle.rewriting.specs.Marked.{Entry, entry, left, deleted}
+use Rattle.rewriting.specs.Steps.{Step, condition, applies, dropPos, dropNeg, leftBy, effect}
 use Rattle.rewriting.specs.Runs.{accepted, leaves}
 use Rattle.rewriting.specs.Kinds.{Deed, deletes, dropsPos, dropsNeg, rowOf}
 use Rattle.rewriting.proofs.Left.{kept-lt}

@@ -4,5 +4,6 @@ pub mod Places
 pub mod Programs
 pub mod StepWords
 pub mod View
+pub mod Clearing
 pub mod Effects
 pub mod Slices
