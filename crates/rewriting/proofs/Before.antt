@@ -56,7 +56,7 @@ module _ (P : Marked) (t p a : ℕ) where
 
   was : (k : Kind) → So (condition k (left P) the by a) → So (Was k)
   was = each-kind (λ k. So (condition k (left P) the by a) → So (Was k)) (λ h. h) (λ h. h) (λ h. h) (λ h. h) (λ h. h) (λ h. h)
-      (λ h. let w = loops (left P) the by a .0 h in and-iff _ _ .1 (mem-iff _ _ .1 (w .there), not-iff _ .1 (w .outside))) (λ h. h)
+      (λ h. let w = loops (left P) the by a .0 h in and-iff _ _ .1 (mem-iff _ _ .1 (w .there), not-iff _ .1 (w .outside))) (λ h. h) (λ h. h)
 
   fails : So (condition failure (left P) the by a) → So (inNoHead (left P) a)
   unfolding condition
@@ -76,7 +76,7 @@ module _ (P : Marked) (t p a : ℕ) where
       (λ h. let w = and-iff (mem a (the .pos)) (not (reach (left P) a)) .0 h in by-cases (so-dec (inNoHead (left P) a))
       (λ x. inr (refl, and-iff (mem a (the .pos)) (inNoHead (left P) a) .1 (w .0, x)))
       (λ x. inl (loops (left P) the by a .1 (record { there = mem-iff _ _ .0 (w .0); head = x; outside = not-iff _ .0 (w .1) }))))
-      inl
+      inl inl
 
 -- Behind 32 the condition is the one that was there.
 pub condition-same : (P : Marked) (s : Step) → So (atomHeaded P s) → conditionHolds P s ≡ conditionBefore P s

@@ -1,24 +1,26 @@
 -- One step: what it leaves of each clause, of the heads and of the reach.
 use mathlib.Core.Path.{_≡_, refl, sym, ap, subst, _∙_}
 use mathlib.Core.Logic.{_↔_, _≢_, by-cases}
-use mathlib.Core.Bool.{not, cond, _&&_, So}
+use mathlib.Core.Bool.{false, not, cond, _&&_, So}
 use mathlib.Core.List.{List·Memᴰ·head, List·Memᴰ·not-nil}
 use Prim.Native.Nat.{ℕ}
 use native.Mathlib.Decide.{ℕ-discrete}
 use lib.Dec.{eqb}
-use lib.ListN.{length, length-set}
+use lib.ListN.{length, set, length-set}
 use lib.Seq.{getD-set-same, getD-set-other}
 use Rattle.semantics.specs.Lists.{_∈_, mem}
 use Rattle.semantics.specs.Programs.{Clause, Atoms}
-use Rattle.semantics.proofs.Tests.{without-keeps, and-iff, mem-iff, null-iff}
+use Rattle.semantics.proofs.Tests.{without-keeps, and-iff, mem-iff, null-iff, so-dec, so-false}
 use Rattle.semantics.proofs.Models.{All}
 use Rattle.rewriting.specs.Marked.{Entry, Marked, gone, entry, left}
 use Rattle.rewriting.specs.Reaches.{reach}
 use Rattle.rewriting.specs.Steps.{Step, fact, inNoHead, condition, applies, leftBy, effect}
-use Rattle.rewriting.specs.Kinds.{Kind, rowOf, usesPartner}
+use Rattle.rewriting.specs.Kinds.{Kind, rowOf, usesPartner, onTarget}
+use Rattle.rewriting.specs.Exclusion.{removal}
 use Rattle.rewriting.specs.Uses.{drops, asksHeads}
 use Rattle.rewriting.proofs.Left.{kept-lt, closed-left}
 use Rattle.rewriting.proofs.Reach.{bare-out, reach-closed, reach-least}
+use Rattle.rewriting.proofs.Exclusion.{length-removal}
 use Rattle.rewriting.proofs.Sound.{partner-other, applies-ask}
 use Rattle.rewriting.proofs.Rows.{kinds-heads, kinds-drop, succeeds, loops}
 use Rattle.rewriting.proofs.Subclauses.{Subclause, bare-iff, below-same, below-left, left-kept}
@@ -33,40 +35,49 @@ reach-within R P h = reach-least (λ a. So (R a)) (left P) (closed-left R P .1 h
 
 -- ---- one step
 
-pub length-effect : (P : Marked) (s : Step) → length (effect P s) ≡ length P
+-- kinds 1 to 8 change the target, kind 9 takes the atom out everywhere
+pub effect-on : (P : Marked) (s : Step) → So (onTarget (s .kind)) → effect P s ≡ set P (s .target) (leftBy (rowOf (s .kind) .deed) (s .atom) (entry P (s .target) .clause))
 unfolding effect
-length-effect P s = simp length-set
+effect-on P s o = rw o
+
+pub effect-off : (P : Marked) (s : Step) → onTarget (s .kind) ≡ false → effect P s ≡ removal (s .atom) P
+unfolding effect
+effect-off P s o = rw o
+
+pub length-effect : (P : Marked) (s : Step) → length (effect P s) ≡ length P
+length-effect P s = by-cases (so-dec (onTarget (s .kind))) (λ o. ap length (effect-on P s o) ∙ simp length-set) (λ o. ap length (effect-off P s (so-false _ o)) ∙ length-removal (s .atom) P)
 
 module _ (n : ℕ) (P : Marked) (s : Step) (h : So (applies n P s)) where
-  abbrev the : Clause
-  the = entry P (s .target) .clause
-
   pub target-kept : So (entry P (s .target) .kept)
   target-kept = applies-ask n P s h .0
 
-  pub asks : So (condition (s .kind) (left P) the (entry P (s .partner) .clause) (s .atom))
+  pub asks : So (condition (s .kind) (left P) (entry P (s .target) .clause) (entry P (s .partner) .clause) (s .atom))
   asks = applies-ask n P s h .2
 
   pub partner-asked : So (usesPartner (s .kind)) → So (entry P (s .partner) .kept) × (s .partner ≢ s .target)
   partner-asked x = partner-other P (s .partner) (s .target)
       (subst (λ b. So (cond b (entry P (s .partner) .kept && not (eqb (s .partner) (s .target))) (eqb (s .partner) 0))) x (applies-ask n P s h .1))
 
+-- ---- of kinds 1 to 8
+
+module _ (n : ℕ) (P : Marked) (s : Step) (h : So (applies n P s)) (o : So (onTarget (s .kind))) where
+  abbrev the : Clause
+  the = entry P (s .target) .clause
+
   pub at-other : (i : ℕ) → i ≢ s .target → entry (effect P s) i ≡ entry P i
-  unfolding effect
-  at-other i d = getD-set-other P (s .target) i _ gone d
+  at-other i d = ap (λ Q. entry Q i) (effect-on P s o) ∙ getD-set-other P (s .target) i _ gone d
 
   pub at-target : entry (effect P s) (s .target) ≡ leftBy (rowOf (s .kind) .deed) (s .atom) the
-  unfolding effect
-  at-target = getD-set-same P (s .target) _ gone (kept-lt P (s .target) target-kept)
+  at-target = ap (λ Q. entry Q (s .target)) (effect-on P s o) ∙ getD-set-same P (s .target) _ gone (kept-lt P (s .target) (target-kept n P s h))
 
   pub effect-below : (i : ℕ) → Subclause (entry (effect P s) i) (entry P i)
   effect-below i = by-cases (ℕ-discrete i (s .target))
       (λ e. subst (λ j. Subclause (entry (effect P s) j) (entry P j)) (sym e)
-      (subst (λ c. Subclause c (entry P (s .target))) (sym at-target) (below-left (rowOf (s .kind) .deed) (s .atom) (entry P (s .target)) target-kept)))
+      (subst (λ c. Subclause c (entry P (s .target))) (sym at-target) (below-left (rowOf (s .kind) .deed) (s .atom) (entry P (s .target)) o (target-kept n P s h))))
       (λ d. below-same (at-other i d))
 
   kept-after : entry (effect P s) (s .target) .kept ≡ drops (s .kind)
-  kept-after = ap (λ c. c .kept) at-target ∙ left-kept (rowOf (s .kind) .deed) (s .atom) the
+  kept-after = ap (λ c. c .kept) at-target ∙ left-kept (rowOf (s .kind) .deed) (s .atom) the o
 
   pub is-deleted : ¬ So (drops (s .kind)) → ¬ So (entry (effect P s) (s .target) .kept)
   is-deleted d k = d (subst So kept-after k)
@@ -138,8 +149,8 @@ module _ (n : ℕ) (P : Marked) (s : Step) (h : So (applies n P s)) where
       fact-fires p k f = reach-fires P p k (λ b m. absurd (List·Memᴰ·not-nil (subst (λ l. b ∈ l) (null-iff _ .0 (and-iff _ _ .0 f .0)) m)))
 
       at : So (entry (effect P s) (s .target) .kept) → All before (entry (effect P s) (s .target) .clause .pos) → All before (entry (effect P s) (s .target) .clause .head)
-      at k g = subst (All before) (sym (effect-below (s .target) .head)) (reach-fires P (s .target) target-kept
-          (fires the (entry P (s .partner) .clause) (s .atom) (s .kind) x asks (λ y f. fact-fires (s .partner) (partner-asked y .0) f) (subst (λ c. All before (c .clause .pos)) at-target g)))
+      at k g = subst (All before) (sym (effect-below (s .target) .head)) (reach-fires P (s .target) (target-kept n P s h)
+          (fires the (entry P (s .partner) .clause) (s .atom) (s .kind) x (asks n P s h) (λ y f. fact-fires (s .partner) (partner-asked n P s h y .0) f) (subst (λ c. All before (c .clause .pos)) at-target g)))
 
   -- The reach does not change when a literal is dropped.
   pub drop-reach : So (drops (s .kind)) → (a : ℕ) → So (before a) ↔ So (after a)
@@ -151,7 +162,7 @@ module _ (n : ℕ) (P : Marked) (s : Step) (h : So (applies n P s)) where
   heads-idle x d = kinds-heads (λ k. ¬ So (drops k) → So (condition k (left P) the by (s .atom)) → ¬ All before (the .pos))
       (λ d q g. d refl)
       (λ d q g. let w = and-iff (mem (s .atom) (the .pos)) (inNoHead (left P) (s .atom)) .0 q in bare-out (left P) (s .atom) (w .1) (g (s .atom) (mem-iff _ _ .0 (w .0))))
-      (λ d q g. let w = loops (left P) the by (s .atom) .0 q in w .outside (g (s .atom) (w .there))) (s .kind) x d asks
+      (λ d q g. let w = loops (left P) the by (s .atom) .0 q in w .outside (g (s .atom) (w .there))) (s .kind) x d (asks n P s h)
     where
       by : Clause
       by = entry P (s .partner) .clause

@@ -1,5 +1,5 @@
--- The reducer's list: the smallest eligible step each time, until none is. It is accepted, no step is open behind it, and its length is
--- what the measure lost.
+-- The reducer's list: the smallest eligible step each time, until none is. It is accepted, no step is open behind it, and it is no longer than what the measure lost: exactly as
+-- long, where kind 9 is not among its steps.
 use mathlib.Core.Path.{_≡_, refl, sym, ap, subst, _∙_}
 use mathlib.Core.Logic.{_⊎_, inl, inr, by-cases, ⊎-elim}
 use mathlib.Core.Bool.{Bool, So}
@@ -9,15 +9,16 @@ use Prim.Native.Nat.{ℕ, zero, suc, _+_, _≤_}
 use native.Mathlib.Omega.{arith}
 use native.Mathlib.Decide.{decLt}
 use lib.ListN.{length}
+use Rattle.semantics.specs.Lists.{all}
 use Rattle.semantics.proofs.Tests.{and-iff}
 use Rattle.rewriting.specs.Marked.{Marked, entry}
 use Rattle.rewriting.specs.Steps.{Step, step, applies, effect}
-use Rattle.rewriting.specs.Kinds.{number, kindOf}
+use Rattle.rewriting.specs.Kinds.{number, kindOf, onTarget}
 use Rattle.rewriting.specs.Runs.{accepted, leaves}
 use Rattle.rewriting.specs.Reducer.{Less, lessKind, lessTarget, lessPartner, lessAtom, eligible, IsFirst, Greedy, stop, take}
 use Rattle.rewriting.specs.Search.{firstStep, reduce}
 use Rattle.rewriting.specs.Measure.{measure}
-use Rattle.rewriting.proofs.Measure.{Tidy, step-measure, tidy-effect}
+use Rattle.rewriting.proofs.Measure.{Tidy, step-measure, step-less, tidy-effect}
 use Rattle.rewriting.proofs.Rows.{kindOf-number}
 use Rattle.rewriting.proofs.Equal.{eligible-applies, none-applies}
 use Rattle.rewriting.proofs.Search.{firstStep-none, firstStep-some}
@@ -25,8 +26,8 @@ use Rattle.rewriting.proofs.Search.{firstStep-none, firstStep-some}
 -- The reducer's list takes the smallest eligible step each time, until none is.
 pub reduce-greedy : (n fuel : ℕ) (P : Marked) → ((i : ℕ) → Tidy (entry P i)) → measure P ≤ fuel → Greedy (eligible n) P (reduce n fuel P)
 unfolding reduce
-reduce-greedy n zero P u h = stop (λ s k. omega (arith, step-measure n P s u (eligible-applies n P s k)))
-reduce-greedy n (suc fuel) P u h = go (firstStep n P) refl (λ s k. reduce-greedy n fuel (effect P s) (tidy-effect P s u) (omega (arith, step-measure n P s u (eligible-applies n P s k))))
+reduce-greedy n zero P u h = stop (λ s k. omega (arith, step-less n P s u (eligible-applies n P s k)))
+reduce-greedy n (suc fuel) P u h = go (firstStep n P) refl (λ s k. reduce-greedy n fuel (effect P s) (tidy-effect P s u) (omega (arith, step-less n P s u (eligible-applies n P s k))))
   where
     go : (o : Option Step) → firstStep n P ≡ o → ((s : Step) → So (eligible n P s) → Greedy (eligible n) (effect P s) (reduce n fuel (effect P s)))
         → Greedy (eligible n) P (elim o [ none ↦ [] | some s ↦ s ∷ reduce n fuel (effect P s) ])
@@ -45,13 +46,22 @@ unfolding leaves
 greedy-end n (stop {P = P} h) = none-applies n P h
 greedy-end n (take {P = P} {s = s} f g) = rw (eligible-applies n P s (f .applicable)) (greedy-end n g)
 
--- The number of steps of an accepted list is what the measure lost.
-pub accepted-measure : (n : ℕ) (P : Marked) (l : List Step) → ((i : ℕ) → Tidy (entry P i)) → So (accepted n P l) → length l + measure (leaves n P l) ≡ measure P
+-- The number of steps of an accepted list is at most what the measure lost,
+pub accepted-less : (n : ℕ) (P : Marked) (l : List Step) → ((i : ℕ) → Tidy (entry P i)) → So (accepted n P l) → length l + measure (leaves n P l) ≤ measure P
 unfolding accepted leaves
-accepted-measure n P [] u h = omega arith
-accepted-measure n P (s ∷ l) u h =
+accepted-less n P [] u h = omega arith
+accepted-less n P (s ∷ l) u h =
     let w = and-iff (applies n P s) (accepted n (effect P s) l) .0 h in
-    rw (w .0) (omega (arith, step-measure n P s u (w .0), accepted-measure n (effect P s) l (tidy-effect P s u) (w .1)))
+    rw (w .0) (omega (arith, step-less n P s u (w .0), accepted-less n (effect P s) l (tidy-effect P s u) (w .1)))
+
+-- and where kind 9 is not among them, it is that.
+pub accepted-measure : (n : ℕ) (P : Marked) (l : List Step) → So (all (λ s. onTarget (s .kind)) l) → ((i : ℕ) → Tidy (entry P i)) → So (accepted n P l) → length l + measure (leaves n P l) ≡ measure P
+unfolding accepted leaves
+accepted-measure n P [] o u h = omega arith
+accepted-measure n P (s ∷ l) o u h =
+    let w = and-iff (applies n P s) (accepted n (effect P s) l) .0 h in
+    let v = and-iff (onTarget (s .kind)) (all (λ s. onTarget (s .kind)) l) .0 o in
+    rw (w .0) (omega (arith, step-measure n P s (v .0) u (w .0), accepted-measure n (effect P s) l (v .1) (tidy-effect P s u) (w .1)))
 
 -- ---- one list
 

@@ -2,7 +2,7 @@
 -- partner asks once a partner; targets and kinds are passed in order.
 use mathlib.Core.Path.{_≡_, refl, sym, ap, subst, _∙_}
 use mathlib.Core.Logic.{_↔_, _≢_, _⊎_, inl, inr, ⊎-elim}
-use mathlib.Core.Bool.{Bool, true, false, not, cond, _&&_, So, true≢false}
+use mathlib.Core.Bool.{Bool, true, false, not, cond, _&&_, So, true≢false, false≢true}
 use mathlib.Core.List.{List, [], _∷_, List·Memᴰ·head, List·Memᴰ·tail, List·Memᴰ·cases-cons, List·Memᴰ·not-nil}
 use mathlib.Core.Option.{Option, none, some}
 use Prim.Native.Nat.{ℕ, suc, _<_}
@@ -16,7 +16,7 @@ use Rattle.semantics.proofs.Tests.{and-iff, all-iff, mem-iff, so-false, not-so}
 use Rattle.rewriting.specs.Marked.{Marked, entry, left}
 use Rattle.rewriting.specs.Reaches.{reach}
 use Rattle.rewriting.specs.Steps.{Step, step, inNoHead, headed, condition, conditionHolds, applies}
-use Rattle.rewriting.specs.Kinds.{Kind, tautology, contradiction, success, noHead, blocked, failure, loop, subsumed, kindOf, usesPartner, usesAtom}
+use Rattle.rewriting.specs.Kinds.{Kind, tautology, contradiction, success, noHead, blocked, failure, loop, subsumed, impossible, kindOf, usesPartner, usesAtom, onTarget}
 use Rattle.rewriting.specs.Reducer.{eligible}
 use Rattle.rewriting.specs.Search.{partnerAtom, stepWith, least, given, firstAtom, firstPartner, firstTarget, firstStep}
 use Rattle.rewriting.proofs.Search.{atom-bound}
@@ -74,6 +74,7 @@ walked loop c = c .pos
 walked success c = []
 walked blocked c = []
 walked subsumed c = []
+walked impossible c = []
 
 abbrev pub asked : Kind → List Clause → Clause → ℕ → Bool
 asked tautology cs c a = mem a (c .pos)
@@ -84,17 +85,19 @@ asked loop cs c a = headed loop cs a && not (reach cs a)
 asked success cs c a = false
 asked blocked cs c a = false
 asked subsumed cs c a = false
+asked impossible cs c a = false
 
-pub condition-is : (k : Kind) (cs : List Clause) (c d : Clause) (a : ℕ) → usesPartner k ≡ false → condition k cs c d a ≡ (mem a (walked k c) && asked k cs c a)
+pub condition-is : (k : Kind) (cs : List Clause) (c d : Clause) (a : ℕ) → So (onTarget k) → usesPartner k ≡ false → condition k cs c d a ≡ (mem a (walked k c) && asked k cs c a)
 unfolding condition
-condition-is tautology cs c d a u = refl
-condition-is contradiction cs c d a u = refl
-condition-is noHead cs c d a u = refl
-condition-is failure cs c d a u = refl
-condition-is loop cs c d a u = refl
-condition-is success cs c d a u = absurd (true≢false u)
-condition-is blocked cs c d a u = absurd (true≢false u)
-condition-is subsumed cs c d a u = absurd (true≢false u)
+condition-is tautology cs c d a o u = refl
+condition-is contradiction cs c d a o u = refl
+condition-is noHead cs c d a o u = refl
+condition-is failure cs c d a o u = refl
+condition-is loop cs c d a o u = refl
+condition-is success cs c d a o u = absurd (true≢false u)
+condition-is blocked cs c d a o u = absurd (true≢false u)
+condition-is subsumed cs c d a o u = absurd (true≢false u)
+condition-is impossible cs c d a o u = absurd (false≢true o)
 
 -- a kind without a partner: the target is kept, and the atom is in its part and passes
 atom-form : (n : ℕ) (P : Marked) (k : Kind) (t a : ℕ) → usesPartner k ≡ false → eligible n P (step k t 0 a) ≡ (entry P t .kept && (ltb a n && condition k (left P) (entry P t .clause) (entry P 0 .clause) a))
@@ -102,20 +105,20 @@ unfolding applies conditionHolds
 atom-form n P k t a u = eligible-same n P (step k t 0 a) (λ x. not-so u (spares-partner k x)) ∙ rw (u, alone-atom k u)
 
 -- The inner search at a kept target: the first atom of the part that passes.
-pub atom-first : (n : ℕ) (P : Marked) (k : Kind) (t : ℕ) → usesPartner k ≡ false → So (entry P t .kept) → So (ascending (walked k (entry P t .clause))) → ((a : ℕ) → a ∈ walked k (entry P t .clause) → a < n)
+pub atom-first : (n : ℕ) (P : Marked) (k : Kind) (t : ℕ) → So (onTarget k) → usesPartner k ≡ false → So (entry P t .kept) → So (ascending (walked k (entry P t .clause))) → ((a : ℕ) → a ∈ walked k (entry P t .clause) → a < n)
     → firstPartner n P k t ≡ firstIn (λ a. step k t 0 a) (asked k (left P) (entry P t .clause)) (walked k (entry P t .clause))
 unfolding firstPartner firstAtom least
-atom-first n P k t u h o s = ap (λ b. least (cond b (length P) 1) (λ p. firstAtom n P k t p)) u
+atom-first n P k t on u h o s = ap (λ b. least (cond b (length P) 1) (λ p. firstAtom n P k t p)) u
     ∙ ap (λ b. least (cond b n 1) (λ a. given (eligible n P (step k t 0 a)) (step k t 0 a))) (alone-atom k u)
     ∙ part-first n (λ a. step k t 0 a) (asked k (left P) c) (λ a. eligible n P (step k t 0 a)) (walked k c) o s (λ a. (
       λ y. let w = and-iff (entry P t .kept) (ltb a n && condition k (left P) c d a) .0 (subst So (atom-form n P k t a u) y) in
           let v = and-iff (ltb a n) (condition k (left P) c d a) .0 (w .1) in
-          let z = and-iff (mem a (walked k c)) (asked k (left P) c a) .0 (subst So (condition-is k (left P) c d a u) (v .1)) in
+          let z = and-iff (mem a (walked k c)) (asked k (left P) c a) .0 (subst So (condition-is k (left P) c d a on u) (v .1)) in
           (mem-iff _ _ .0 (z .0), z .1),
       λ y. subst So (sym (atom-form n P k t a u)) (and-iff (entry P t .kept) (ltb a n && condition k (left P) c d a) .1 (
         h,
         and-iff (ltb a n) (condition k (left P) c d a) .1
-            (lt-ltb a n (s a (y .0)), subst So (sym (condition-is k (left P) c d a u)) (and-iff (mem a (walked k c)) (asked k (left P) c a) .1 (mem-iff _ _ .1 (y .0), y .1))),
+            (lt-ltb a n (s a (y .0)), subst So (sym (condition-is k (left P) c d a on u)) (and-iff (mem a (walked k c)) (asked k (left P) c a) .1 (mem-iff _ _ .1 (y .0), y .1))),
       )),
     ))
   where
@@ -170,10 +173,10 @@ pub search-hit : (n : ℕ) (P : Marked) (k : Kind) (t : ℕ) (s : Step) → t < 
 unfolding firstTarget
 search-hit n P k t s l e h = least-some (length P) (λ t. firstPartner n P k t) s t l e h
 
-pub kinds-end : (n : ℕ) (P : Marked) → ((i : ℕ) → i < 8 → firstTarget n P (kindOf (suc i)) ≡ none) → firstStep n P ≡ none
+pub kinds-end : (n : ℕ) (P : Marked) → ((i : ℕ) → i < 9 → firstTarget n P (kindOf (suc i)) ≡ none) → firstStep n P ≡ none
 unfolding firstStep
-kinds-end n P h = least-none 8 (λ i. firstTarget n P (kindOf (suc i))) h
+kinds-end n P h = least-none 9 (λ i. firstTarget n P (kindOf (suc i))) h
 
-pub kinds-hit : (n : ℕ) (P : Marked) (i : ℕ) (s : Step) → i < 8 → firstTarget n P (kindOf (suc i)) ≡ some s → ((j : ℕ) → j < i → firstTarget n P (kindOf (suc j)) ≡ none) → firstStep n P ≡ some s
+pub kinds-hit : (n : ℕ) (P : Marked) (i : ℕ) (s : Step) → i < 9 → firstTarget n P (kindOf (suc i)) ≡ some s → ((j : ℕ) → j < i → firstTarget n P (kindOf (suc j)) ≡ none) → firstStep n P ≡ some s
 unfolding firstStep
-kinds-hit n P i s l e h = least-some 8 (λ i. firstTarget n P (kindOf (suc i))) s i l e h
+kinds-hit n P i s l e h = least-some 9 (λ i. firstTarget n P (kindOf (suc i))) s i l e h

@@ -1,4 +1,4 @@
--- What a step can open: a step that is eligible after another one was eligible before it too, or is one of few.
+-- What a step of kinds 1 to 8 can open among those kinds: a step that is eligible after another one was eligible before it too, or is one of few.
 -- Kinds 1 and 2 are never opened. A drop opens only steps whose partner is the clause that lost the literal; of kinds 3 and 5 only
 -- where it is now a fact. A deletion opens only kinds 4 and 6, for an atom of the clause's head that is in no kept head now, and kind 7,
 -- where the clause fired in the reach and no kept clause fires in its place.
@@ -15,7 +15,7 @@ use Rattle.semantics.proofs.Models.{All}
 use Rattle.rewriting.specs.Marked.{Marked, entry, left}
 use Rattle.rewriting.specs.Reaches.{reach}
 use Rattle.rewriting.specs.Steps.{Step, step, fact, inNoHead, condition, conditionHolds, applies, leftBy, effect}
-use Rattle.rewriting.specs.Kinds.{Kind, tautology, contradiction, success, noHead, blocked, failure, loop, subsumed, Deed, deletes, dropsPos, dropsNeg, rowOf, number, kindOf, usesPartner}
+use Rattle.rewriting.specs.Kinds.{Kind, tautology, contradiction, success, noHead, blocked, failure, loop, subsumed, impossible, Deed, deletes, dropsPos, dropsNeg, removes, rowOf, number, kindOf, usesPartner, onTarget}
 use Rattle.rewriting.specs.Uses.{dropping, drops, asksNoHead}
 use Rattle.rewriting.specs.Reducer.{passedOver, eligible}
 use Rattle.rewriting.proofs.Rows.{There, drops-there, kindOf-number}
@@ -33,6 +33,7 @@ ready contradiction d = false
 ready noHead d = false
 ready failure d = false
 ready loop d = false
+ready impossible d = false
 
 -- the target's head is the partner's: the partner of a subsumed clause fires in its place
 abbrev pub SameHead : Marked → Step → Type 0
@@ -53,9 +54,10 @@ left-lost : (x : Deed) (a : ℕ) (c : Clause) → So (dropping x) → There x a 
 left-lost deletes a c d m = absurd (false≢true d)
 left-lost dropsPos a c d m = record { lost = λ f. without-out a (c .pos) (f .0 a m) }
 left-lost dropsNeg a c d m = record { lost = λ f. without-out a (c .neg) (f .1 a m) }
+left-lost removes a c d m = absurd (false≢true d)
 
-dropped-body : (n : ℕ) (P : Marked) (s : Step) (h : So (applies n P s)) → So (drops (s .kind)) → BodyLost (entry P (s .target) .clause) (entry (effect P s) (s .target) .clause)
-dropped-body n P s h d = subst (λ c. BodyLost (entry P (s .target) .clause) (c .clause)) (sym (at-target n P s h))
+dropped-body : (n : ℕ) (P : Marked) (s : Step) (h : So (applies n P s)) → So (onTarget (s .kind)) → So (drops (s .kind)) → BodyLost (entry P (s .target) .clause) (entry (effect P s) (s .target) .clause)
+dropped-body n P s h o d = subst (λ c. BodyLost (entry P (s .target) .clause) (c .clause)) (sym (at-target n P s h o))
     (left-lost (rowOf (s .kind) .deed) (s .atom) (entry P (s .target) .clause) d (drops-there (left P) (entry P (s .target) .clause) (entry P (s .partner) .clause) (s .atom) (s .kind) (asks n P s h)))
 
 -- where a step is passed over, its condition fails of a target that has less of its body
@@ -70,12 +72,12 @@ body-lost P u r c b cs q = ⊎-elim
 
 -- ---- what a step opens
 
-module _ (n : ℕ) (P : Marked) (s : Step) (h : So (applies n P s)) where
+module _ (n : ℕ) (P : Marked) (s : Step) (h : So (applies n P s)) (on : So (onTarget (s .kind))) where
   pub same-head-reach : SameHead P s → (a : ℕ) → So (reach (left P) a) → So (reach (left (effect P s)) a)
   unfolding condition
   same-head-reach (e, g) = let v = partner-asked n P s h (subst (λ k. So (usesPartner k)) (sym e) refl) in
       let w = simp and-iff at (subst (λ k. So (condition k (left P) (entry P (s .target) .clause) (entry P (s .partner) .clause) (s .atom))) e (asks n P s h)) in
-      reach-in-place n P s h (s .partner) (v .1) (v .0) (within-iff _ _ .0 (w .1 .0)) g
+      reach-in-place n P s h on (s .partner) (v .1) (v .0) (within-iff _ _ .0 (w .1 .0)) g
 
   -- the three rules: what is not opened carries back
   open-partner : (u : Step) → So (usesPartner (u .kind)) → So (entry (effect P s) (u .partner) .kept) → So (ready (u .kind) (entry (effect P s) (u .partner) .clause))
@@ -83,22 +85,22 @@ module _ (n : ℕ) (P : Marked) (s : Step) (h : So (applies n P s)) where
   open-partner u x k f = by-cases (ℕ-discrete (u .partner) (s .target))
       (λ e. by-cases (so-dec (drops (s .kind)))
       (λ d. inr (openPartner d x e (subst (λ j. So (ready (u .kind) (entry (effect P s) j .clause))) e f)))
-      (λ d. absurd (is-deleted n P s h d (subst (λ j. So (entry (effect P s) j .kept)) e k))))
-      (λ d. inl (at-other n P s h (u .partner) d))
+      (λ d. absurd (is-deleted n P s h on d (subst (λ j. So (entry (effect P s) j .kept)) e k))))
+      (λ d. inl (at-other n P s h on (u .partner) d))
 
   open-head : (u : Step) → So (asksNoHead (u .kind)) → So (inNoHead (left (effect P s)) (u .atom)) → So (inNoHead (left P) (u .atom)) ⊎ Opens P s u
   open-head u x q = by-cases (so-dec (drops (s .kind)))
-      (λ d. inl (heads-back n P s h (u .atom) (λ y. y .0 d) q))
+      (λ d. inl (heads-back n P s h on (u .atom) (λ y. y .0 d) q))
       (λ d. by-cases (so-dec (mem (u .atom) (entry P (s .target) .clause .head)))
       (λ m. inr (openHead d x (mem-iff _ _ .0 m) q))
-      (λ m. inl (heads-back n P s h (u .atom) (λ y. m (mem-iff _ _ .1 (y .1))) q)))
+      (λ m. inl (heads-back n P s h on (u .atom) (λ y. m (mem-iff _ _ .1 (y .1))) q)))
 
   open-reach : (u : Step) → u .kind ≡ loop → ((a : ℕ) → So (reach (left P) a) → So (reach (left (effect P s)) a)) ⊎ Opens P s u
   open-reach u e = by-cases (so-dec (drops (s .kind)))
-      (λ d. inl (reach-drop n P s h d))
+      (λ d. inl (reach-drop n P s h on d))
       (λ d. by-cases (so-dec (all (reach (left P)) (entry P (s .target) .clause .pos)))
       (λ f. ⊎-elim (λ w. inl (same-head-reach w)) (λ w. inr (openReach d e (all-iff _ _ .0 f) w)) same-head-dec)
-      (λ f. inl (reach-idle n P s h d (λ g. f (all-iff _ _ .1 g)))))
+      (λ f. inl (reach-idle n P s h on d (λ g. f (all-iff _ _ .1 g)))))
     where
       kind-dec : (k : Kind) → (k ≡ subsumed) ⊎ ¬ (k ≡ subsumed)
       kind-dec k = by-cases (ℕ-discrete (number k) 8)
@@ -111,16 +113,17 @@ module _ (n : ℕ) (P : Marked) (s : Step) (h : So (applies n P s)) where
           (λ w. inl (e, within-iff _ _ .0 w)) (λ w. inr (λ g. w (within-iff _ _ .1 (g .1)))))
           (λ e. inr (λ g. e (g .0))) (kind-dec (s .kind))
 
-  opened-at : (k : Kind) (t p a : ℕ) → let u = step k t p a in So (applies n (effect P s) u) → Keeps k P (effect P s) p a ⊎ Opens P s u
+  opened-at : (k : Kind) (t p a : ℕ) → So (onTarget k) → let u = step k t p a in So (applies n (effect P s) u) → Keeps k P (effect P s) p a ⊎ Opens P s u
   unfolding applies conditionHolds condition
-  opened-at tautology t p a q = inl tt
-  opened-at contradiction t p a q = inl tt
-  opened-at success t p a q = let w = simp and-iff at q in open-partner (step success t p a) refl (w .1 .0 .0) (and-iff _ _ .1 (w .1 .1 .1 .0 .0, w .1 .1 .1 .0 .1))
-  opened-at noHead t p a q = let w = simp and-iff at q in ⊎-elim (λ x. inl (λ _. x)) inr (open-head (step noHead t p a) refl (w .1 .1 .1 .1))
-  opened-at blocked t p a q = let w = simp and-iff at q in open-partner (step blocked t p a) refl (w .1 .0 .0) (and-iff _ _ .1 (w .1 .1 .1 .0 .0, w .1 .1 .1 .0 .1))
-  opened-at failure t p a q = let w = simp and-iff at q in ⊎-elim (λ x. inl (λ _. x)) inr (open-head (step failure t p a) refl (w .1 .1 .1 .1))
-  opened-at loop t p a q = ⊎-elim (λ x. inl (x a)) inr (open-reach (step loop t p a) refl)
-  opened-at subsumed t p a q = let w = simp and-iff at q in open-partner (step subsumed t p a) refl (w .1 .0 .0) refl
+  opened-at tautology t p a j q = inl tt
+  opened-at contradiction t p a j q = inl tt
+  opened-at success t p a j q = let w = simp and-iff at q in open-partner (step success t p a) refl (w .1 .0 .0) (and-iff _ _ .1 (w .1 .1 .1 .0 .0, w .1 .1 .1 .0 .1))
+  opened-at noHead t p a j q = let w = simp and-iff at q in ⊎-elim (λ x. inl (λ _. x)) inr (open-head (step noHead t p a) refl (w .1 .1 .1 .1))
+  opened-at blocked t p a j q = let w = simp and-iff at q in open-partner (step blocked t p a) refl (w .1 .0 .0) (and-iff _ _ .1 (w .1 .1 .1 .0 .0, w .1 .1 .1 .0 .1))
+  opened-at failure t p a j q = let w = simp and-iff at q in ⊎-elim (λ x. inl (λ _. x)) inr (open-head (step failure t p a) refl (w .1 .1 .1 .1))
+  opened-at loop t p a j q = ⊎-elim (λ x. inl (x a)) inr (open-reach (step loop t p a) refl)
+  opened-at subsumed t p a j q = let w = simp and-iff at q in open-partner (step subsumed t p a) refl (w .1 .0 .0) refl
+  opened-at impossible t p a j q = absurd (false≢true j)
 
   -- A step that was passed over and still applies, with the partner as it was, is still passed over.
   still-passed : (u : Step) → So (passedOver P u) → entry (effect P s) (u .partner) ≡ entry P (u .partner) → So (applies n (effect P s) u) → So (passedOver (effect P s) u)
@@ -128,21 +131,21 @@ module _ (n : ℕ) (P : Marked) (s : Step) (h : So (applies n P s)) where
       let r = passed-iff P u .0 o in
       by-cases (ℕ-discrete (u .target) (s .target))
       (λ d. by-cases (so-dec (drops (s .kind)))
-      (λ x. absurd (body-lost P u r (entry (effect P s) (u .target) .clause) (subst (λ i. BodyLost (entry P i .clause) (entry (effect P s) i .clause)) (sym d) (dropped-body n P s h x)) (left (effect P s)) (subst (λ c. So (condition (u .kind) (left (effect P s)) (entry (effect P s) (u .target) .clause) (c .clause) (u .atom))) e (asks n (effect P s) u q))))
-      (λ x. absurd (is-deleted n P s h x (subst (λ i. So (entry (effect P s) i .kept)) d (target-kept n (effect P s) u q)))))
-      (λ d. passed-iff (effect P s) u .1 (record { kind = r .kind; lower = r .lower; equal = ap (λ c. c .clause) (at-other n P s h (u .target) d) ∙ r .equal ∙ sym (ap (λ c. c .clause) e) }))
+      (λ x. absurd (body-lost P u r (entry (effect P s) (u .target) .clause) (subst (λ i. BodyLost (entry P i .clause) (entry (effect P s) i .clause)) (sym d) (dropped-body n P s h on x)) (left (effect P s)) (subst (λ c. So (condition (u .kind) (left (effect P s)) (entry (effect P s) (u .target) .clause) (c .clause) (u .atom))) e (asks n (effect P s) u q))))
+      (λ x. absurd (is-deleted n P s h on x (subst (λ i. So (entry (effect P s) i .kept)) d (target-kept n (effect P s) u q)))))
+      (λ d. passed-iff (effect P s) u .1 (record { kind = r .kind; lower = r .lower; equal = ap (λ c. c .clause) (at-other n P s h on (u .target) d) ∙ r .equal ∙ sym (ap (λ c. c .clause) e) }))
 
   -- what a kind that spares asks of the other clauses, carried back: the partner as it was
   partner-keeps : (k : Kind) (p a : ℕ) → (k ≡ blocked) ⊎ (k ≡ subsumed) → Keeps k P (effect P s) p a → entry (effect P s) p ≡ entry P p
   partner-keeps k p a o x = ⊎-elim (λ e. subst (λ k. Keeps k P (effect P s) p a) e x) (λ e. subst (λ k. Keeps k P (effect P s) p a) e x) o
 
-  -- A step that is eligible after a step was eligible before it, or is opened by it.
-  pub opened : (u : Step) → So (eligible n (effect P s) u) → So (eligible n P u) ⊎ Opens P s u
-  opened u q =
+  -- A step of kinds 1 to 8 that is eligible after such a step was eligible before it, or is opened by it.
+  pub opened : (u : Step) → So (onTarget (u .kind)) → So (eligible n (effect P s) u) → So (eligible n P u) ⊎ Opens P s u
+  opened u j q =
       let w = eligible-iff (effect P s) u n .0 q in
       ⊎-elim
       (λ e. inl (eligible-iff P u n .1 (
-        back n P (effect P s) (effect-below n P s h) u e (w .0),
+        back n P (effect P s) (effect-below n P s h on) u e (w .0),
         λ o. w .1 (still-passed u o (partner-keeps (u .kind) (u .partner) (u .atom) (passed-iff P u .0 o .kind) e) (w .0)),
       )))
-      inr (opened-at (u .kind) (u .target) (u .partner) (u .atom) (w .0))
+      inr (opened-at (u .kind) (u .target) (u .partner) (u .atom) j (w .0))

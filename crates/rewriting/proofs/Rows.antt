@@ -14,59 +14,61 @@ use Rattle.semantics.proofs.Tests.{and-iff, not-iff, mem-iff}
 use Rattle.rewriting.specs.Marked.{Marked, entry, left}
 use Rattle.rewriting.specs.Reaches.{reach}
 use Rattle.rewriting.specs.Steps.{Step, step, fact, inNoHead, condition, headed, conditionHolds, atomMatches, atomHeaded, applies}
-use Rattle.rewriting.specs.Kinds.{Kind, tautology, contradiction, success, noHead, blocked, failure, loop, subsumed, Deed, deletes, dropsPos, dropsNeg, clausesAlone, rowOf, number, kindOf, usesPartner, usesAtom}
+use Rattle.rewriting.specs.Kinds.{Kind, tautology, contradiction, success, noHead, blocked, failure, loop, subsumed, impossible, Deed, deletes, dropsPos, dropsNeg, removes, clausesAlone, rowOf, number, kindOf, usesPartner, usesAtom, onTarget}
 use Rattle.rewriting.specs.Uses.{drops, asksNoHead, asksHeads}
 use Rattle.rewriting.specs.Reducer.{spares}
 use Rattle.rewriting.specs.Search.{partnerAtom}
 
--- what holds of the eight kinds, in the order of their numbers
-pub each-kind : (Q : Kind → Type 0) → Q tautology → Q contradiction → Q success → Q noHead → Q blocked → Q failure → Q loop → Q subsumed → (k : Kind) → Q k
-each-kind Q a b c d e f g h tautology = a
-each-kind Q a b c d e f g h contradiction = b
-each-kind Q a b c d e f g h success = c
-each-kind Q a b c d e f g h noHead = d
-each-kind Q a b c d e f g h blocked = e
-each-kind Q a b c d e f g h failure = f
-each-kind Q a b c d e f g h loop = g
-each-kind Q a b c d e f g h subsumed = h
+-- what holds of the nine kinds, in the order of their numbers
+pub each-kind : (Q : Kind → Type 0) → Q tautology → Q contradiction → Q success → Q noHead → Q blocked → Q failure → Q loop → Q subsumed → Q impossible → (k : Kind) → Q k
+each-kind Q a b c d e f g h i tautology = a
+each-kind Q a b c d e f g h i contradiction = b
+each-kind Q a b c d e f g h i success = c
+each-kind Q a b c d e f g h i noHead = d
+each-kind Q a b c d e f g h i blocked = e
+each-kind Q a b c d e f g h i failure = f
+each-kind Q a b c d e f g h i loop = g
+each-kind Q a b c d e f g h i subsumed = h
+each-kind Q a b c d e f g h i impossible = i
 
 -- what holds of the kinds with a partner, of kinds 5 and 8, of those whose atom has to be in no kept head, of those that ask for kept heads at all, of those that drop a literal
 module _ (Q : Kind → Type 0) where
   pub kinds-partner : Q success → Q blocked → Q subsumed → (k : Kind) → So (usesPartner k) → Q k
   kinds-partner c e h = each-kind (λ k. So (usesPartner k) → Q k)
-      (λ u. absurd (false≢true u)) (λ u. absurd (false≢true u)) (λ u. c) (λ u. absurd (false≢true u)) (λ u. e) (λ u. absurd (false≢true u)) (λ u. absurd (false≢true u)) (λ u. h)
+      (λ u. absurd (false≢true u)) (λ u. absurd (false≢true u)) (λ u. c) (λ u. absurd (false≢true u)) (λ u. e) (λ u. absurd (false≢true u)) (λ u. absurd (false≢true u)) (λ u. h) (λ u. absurd (false≢true u))
 
   pub kinds-spares : Q blocked → Q subsumed → (k : Kind) → So (spares k) → Q k
   kinds-spares e h = each-kind (λ k. So (spares k) → Q k)
-      (λ u. absurd (false≢true u)) (λ u. absurd (false≢true u)) (λ u. absurd (false≢true u)) (λ u. absurd (false≢true u)) (λ u. e) (λ u. absurd (false≢true u)) (λ u. absurd (false≢true u)) (λ u. h)
+      (λ u. absurd (false≢true u)) (λ u. absurd (false≢true u)) (λ u. absurd (false≢true u)) (λ u. absurd (false≢true u)) (λ u. e) (λ u. absurd (false≢true u)) (λ u. absurd (false≢true u)) (λ u. h) (λ u. absurd (false≢true u))
 
   pub kinds-no-head : Q noHead → Q failure → (k : Kind) → So (asksNoHead k) → Q k
   kinds-no-head d f = each-kind (λ k. So (asksNoHead k) → Q k)
-      (λ u. absurd (false≢true u)) (λ u. absurd (false≢true u)) (λ u. absurd (false≢true u)) (λ u. d) (λ u. absurd (false≢true u)) (λ u. f) (λ u. absurd (false≢true u)) (λ u. absurd (false≢true u))
+      (λ u. absurd (false≢true u)) (λ u. absurd (false≢true u)) (λ u. absurd (false≢true u)) (λ u. d) (λ u. absurd (false≢true u)) (λ u. f) (λ u. absurd (false≢true u)) (λ u. absurd (false≢true u)) (λ u. absurd (false≢true u))
 
   pub kinds-heads : Q noHead → Q failure → Q loop → (k : Kind) → So (asksHeads k) → Q k
   kinds-heads d f g = each-kind (λ k. So (asksHeads k) → Q k)
-      (λ u. absurd (false≢true u)) (λ u. absurd (false≢true u)) (λ u. absurd (false≢true u)) (λ u. d) (λ u. absurd (false≢true u)) (λ u. f) (λ u. g) (λ u. absurd (false≢true u))
+      (λ u. absurd (false≢true u)) (λ u. absurd (false≢true u)) (λ u. absurd (false≢true u)) (λ u. d) (λ u. absurd (false≢true u)) (λ u. f) (λ u. g) (λ u. absurd (false≢true u)) (λ u. absurd (false≢true u))
 
   pub kinds-drop : Q success → Q noHead → (k : Kind) → So (drops k) → Q k
   kinds-drop c d = each-kind (λ k. So (drops k) → Q k)
-      (λ u. absurd (false≢true u)) (λ u. absurd (false≢true u)) (λ u. c) (λ u. d) (λ u. absurd (false≢true u)) (λ u. absurd (false≢true u)) (λ u. absurd (false≢true u)) (λ u. absurd (false≢true u))
+      (λ u. absurd (false≢true u)) (λ u. absurd (false≢true u)) (λ u. c) (λ u. d) (λ u. absurd (false≢true u)) (λ u. absurd (false≢true u)) (λ u. absurd (false≢true u)) (λ u. absurd (false≢true u)) (λ u. absurd (false≢true u))
 
 -- ---- numbers
 
 pub kindOf-number : (k : Kind) → kindOf (number k) ≡ k
-kindOf-number = each-kind (λ k. kindOf (number k) ≡ k) refl refl refl refl refl refl refl refl
+kindOf-number = each-kind (λ k. kindOf (number k) ≡ k) refl refl refl refl refl refl refl refl refl
 
 -- a kind's place in the search
-pub kind-index : (k : Kind) → (i : ℕ) × (i < 8) × (number k ≡ suc i) × (kindOf (suc i) ≡ k)
-kind-index = each-kind (λ k. (i : ℕ) × (i < 8) × (number k ≡ suc i) × (kindOf (suc i) ≡ k))
+pub kind-index : (k : Kind) → (i : ℕ) × (i < 9) × (number k ≡ suc i) × (kindOf (suc i) ≡ k)
+kind-index = each-kind (λ k. (i : ℕ) × (i < 9) × (number k ≡ suc i) × (kindOf (suc i) ≡ k))
     (0, omega arith, refl, refl) (1, omega arith, refl, refl) (2, omega arith, refl, refl) (3, omega arith, refl, refl)
     (4, omega arith, refl, refl) (5, omega arith, refl, refl) (6, omega arith, refl, refl) (7, omega arith, refl, refl)
+    (8, omega arith, refl, refl)
 
-pub number-bounds : (k : Kind) → (1 ≤ number k) × (number k ≤ 8)
+pub number-bounds : (k : Kind) → (1 ≤ number k) × (number k ≤ 9)
 number-bounds k = let w = kind-index k in (omega (arith, w .2), omega (arith, w .1, w .2))
 
-pub number-kindOf : (i : ℕ) → i < 8 → number (kindOf (suc i)) ≡ suc i
+pub number-kindOf : (i : ℕ) → i < 9 → number (kindOf (suc i)) ≡ suc i
 number-kindOf zero h = refl
 number-kindOf (suc zero) h = refl
 number-kindOf (suc (suc zero)) h = refl
@@ -74,13 +76,36 @@ number-kindOf (suc (suc (suc zero))) h = refl
 number-kindOf (suc (suc (suc (suc zero)))) h = refl
 number-kindOf (suc (suc (suc (suc (suc zero))))) h = refl
 number-kindOf (suc (suc (suc (suc (suc (suc zero)))))) h = refl
-number-kindOf (suc (suc (suc (suc (suc (suc (suc i))))))) h = omega arith
+number-kindOf (suc (suc (suc (suc (suc (suc (suc zero))))))) h = refl
+number-kindOf (suc (suc (suc (suc (suc (suc (suc (suc i)))))))) h = omega arith
+
+-- a number up to 8 is of a kind that changes its target alone
+pub on-target : (k : Kind) → number k ≤ 8 → So (onTarget k)
+on-target = each-kind (λ k. number k ≤ 8 → So (onTarget k)) (λ l. refl) (λ l. refl) (λ l. refl) (λ l. refl) (λ l. refl) (λ l. refl) (λ l. refl) (λ l. refl) (λ l. absurd (omega arith))
+
+pub kindOf-on-target : (k : ℕ) → k ≤ 8 → So (onTarget (kindOf k))
+kindOf-on-target zero l = refl
+kindOf-on-target (suc i) l = on-target (kindOf (suc i)) (omega (arith, number-kindOf i (omega arith)))
+
+-- the one kind that does not is 9
+pub not-on-target : (k : Kind) → onTarget k ≡ false → k ≡ impossible
+not-on-target = each-kind (λ k. onTarget k ≡ false → k ≡ impossible) (λ e. absurd (true≢false e)) (λ e. absurd (true≢false e)) (λ e. absurd (true≢false e)) (λ e. absurd (true≢false e)) (λ e. absurd (true≢false e)) (λ e. absurd (true≢false e)) (λ e. absurd (true≢false e)) (λ e. absurd (true≢false e)) (λ e. refl)
+
+-- a kind that uses a partner, drops a literal or asks for kept heads changes its target alone
+pub partner-on-target : (k : Kind) → So (usesPartner k) → So (onTarget k)
+partner-on-target = kinds-partner (λ k. So (onTarget k)) refl refl refl
+
+pub drop-on-target : (k : Kind) → So (drops k) → So (onTarget k)
+drop-on-target = kinds-drop (λ k. So (onTarget k)) refl refl
+
+pub heads-on-target : (k : Kind) → So (asksHeads k) → So (onTarget k)
+heads-on-target = kinds-heads (λ k. So (onTarget k)) refl refl refl
 
 -- ---- which words a kind has
 
 -- a kind without a partner has an atom
 pub alone-atom : (k : Kind) → usesPartner k ≡ false → usesAtom k ≡ true
-alone-atom = each-kind (λ k. usesPartner k ≡ false → usesAtom k ≡ true) (λ e. refl) (λ e. refl) (λ e. absurd (true≢false e)) (λ e. refl) (λ e. absurd (true≢false e)) (λ e. refl) (λ e. refl) (λ e. absurd (true≢false e))
+alone-atom = each-kind (λ k. usesPartner k ≡ false → usesAtom k ≡ true) (λ e. refl) (λ e. refl) (λ e. absurd (true≢false e)) (λ e. refl) (λ e. absurd (true≢false e)) (λ e. refl) (λ e. refl) (λ e. absurd (true≢false e)) (λ e. refl)
 
 -- ---- what a kind asks for
 
@@ -101,6 +126,7 @@ abbrev pub There : Deed → ℕ → Clause → Type 0
 There deletes b c = Unit {0}
 There dropsPos b c = b ∈ c .pos
 There dropsNeg b c = b ∈ c .neg
+There removes b c = Unit {0}
 
 -- kind 3: the partner is a fact, its head is the atom, and the target has it
 pub record Succeeds (c d : Clause) (a : ℕ) : Type 0 where
@@ -117,7 +143,7 @@ succeeds cs c d a h = let w = simp and-iff at h in
 pub drops-there : (cs : List Clause) (c d : Clause) (a : ℕ) (k : Kind) → So (condition k cs c d a) → There (rowOf k .deed) a c
 unfolding condition
 drops-there cs c d a = each-kind (λ k. So (condition k cs c d a) → There (rowOf k .deed) a c)
-    (λ h. tt) (λ h. tt) (λ h. succeeds cs c d a h .there) (λ h. mem-iff _ _ .0 (and-iff (mem a (c .neg)) (inNoHead cs a) .0 h .0)) (λ h. tt) (λ h. tt) (λ h. tt) (λ h. tt)
+    (λ h. tt) (λ h. tt) (λ h. succeeds cs c d a h .there) (λ h. mem-iff _ _ .0 (and-iff (mem a (c .neg)) (inNoHead cs a) .0 h .0)) (λ h. tt) (λ h. tt) (λ h. tt) (λ h. tt) (λ h. tt)
 
 no-not : (b : Bool) → not b ≡ false → So b
 no-not true e = refl
@@ -146,7 +172,7 @@ unfolding conditionHolds
 condition-matches P s = each-kind
     (λ k. So (condition k (left P) (entry P (s .target) .clause) d (s .atom)) → So (not (eqb (number k) 3 && single (λ b. not (eqb (s .atom) b)) (d .head))))
     (λ h. refl) (λ h. refl) (λ h. subst (λ l. So (not (single (λ b. not (eqb (s .atom) b)) l))) (sym (succeeds (left P) (entry P (s .target) .clause) d (s .atom) h .head)) (not-iff _ .1 (λ x. not-iff _ .0 x (eq-eqb (s .atom) (s .atom) refl))))
-    (λ h. refl) (λ h. refl) (λ h. refl) (λ h. refl) (λ h. refl) (s .kind)
+    (λ h. refl) (λ h. refl) (λ h. refl) (λ h. refl) (λ h. refl) (λ h. refl) (s .kind)
   where
     d : Clause
     d = entry P (s .partner) .clause
@@ -181,7 +207,7 @@ headed-no P s = (
 pub condition-headed : (P : Marked) (s : Step) → So (conditionHolds P s) → So (atomHeaded P s)
 unfolding conditionHolds atomHeaded
 condition-headed P s = each-kind (λ k. So (condition k (left P) (entry P (s .target) .clause) (entry P (s .partner) .clause) (s .atom)) → So (headed k (left P) (s .atom)))
-    (λ h. refl) (λ h. refl) (λ h. refl) (λ h. refl) (λ h. refl) (λ h. refl) (λ h. not-iff _ .1 (loops (left P) (entry P (s .target) .clause) (entry P (s .partner) .clause) (s .atom) .0 h .head)) (λ h. refl) (s .kind)
+    (λ h. refl) (λ h. refl) (λ h. refl) (λ h. refl) (λ h. refl) (λ h. refl) (λ h. not-iff _ .1 (loops (left P) (entry P (s .target) .clause) (entry P (s .partner) .clause) (s .atom) .0 h .head)) (λ h. refl) (λ h. refl) (s .kind)
 
 -- the partner settles the atom
 pub atom-settled : (n : ℕ) (P : Marked) (k : Kind) (t p a : ℕ) → So (usesPartner k) → So (applies n P (step k t p a)) → a ≡ partnerAtom k (entry P p .clause)

@@ -80,7 +80,7 @@ module _ (n : ℕ) (P : Marked) where
   Target k t = (p : ℕ) × (a : ℕ) × So (eligible n P (step k t p a))
 
   OfKind : ℕ → Type 0
-  OfKind i = (i < 8) × (t : ℕ) × (p : ℕ) × (a : ℕ) × So (eligible n P (step (kindOf (suc i)) t p a))
+  OfKind i = (i < 9) × (t : ℕ) × (p : ℕ) × (a : ℕ) × So (eligible n P (step (kindOf (suc i)) t p a))
 
   pub atom-bound : (k : Kind) (t p a : ℕ) → So (eligible n P (step k t p a)) → a < cond (usesAtom k) n 1
   unfolding applies
@@ -122,13 +122,13 @@ module _ (n : ℕ) (P : Marked) where
   -- Nothing is found only where no step is eligible.
   pub firstStep-none : firstStep n P ≡ none → (u : Step) → ¬ So (eligible n P u)
   unfolding firstStep OfKind
-  firstStep-none e u h = level-none 8 (λ i. firstTarget n P (kindOf (suc i))) OfKind (λ i q. q .0) kind-dead e (at-kind u h .0) (at-kind u h .2)
+  firstStep-none e u h = level-none 9 (λ i. firstTarget n P (kindOf (suc i))) OfKind (λ i q. q .0) kind-dead e (at-kind u h .0) (at-kind u h .2)
 
   -- What is found is eligible, and no smaller step is.
   pub firstStep-some : (s : Step) → firstStep n P ≡ some s → IsFirst (eligible n) P s
   unfolding firstStep firstTarget firstPartner firstAtom OfKind Target Partner Atom
   firstStep-some s e =
-      let w = level-some 8 (λ i. firstTarget n P (kindOf (suc i))) OfKind (λ i q. q .0) kind-dead s e in
+      let w = level-some 9 (λ i. firstTarget n P (kindOf (suc i))) OfKind (λ i q. q .0) kind-dead s e in
       let k = kindOf (suc (w .0)) in
       let x = level-some (length P) (λ t. firstPartner n P k t) (Target k) (target-bound k) (target-dead k) s (w .2) in
       let y = level-some (cond (usesPartner k) (length P) 1) (λ p. firstAtom n P k (x .0) p) (Partner k (x .0)) (partner-bound k (x .0)) (partner-dead k (x .0)) s (x .2) in
@@ -136,7 +136,7 @@ module _ (n : ℕ) (P : Marked) where
       let v = given-some (eligible n P (step k (x .0) (y .0) (z .0))) (step k (x .0) (y .0) (z .0)) s (z .2) in
       subst (IsFirst (eligible n) P) {x = step k (x .0) (y .0) (z .0)} (v .1) (record { applicable = v .0; smallest = smaller (w .0) (x .0) (y .0) (z .0) (w .1) (w .3) (x .3) (y .3) (z .3) })
     where
-      smaller : (i t p a : ℕ) → i < 8 → ((j : ℕ) → j < i → ¬ OfKind j) → ((j : ℕ) → j < t → ¬ Target (kindOf (suc i)) j) → ((j : ℕ) → j < p → ¬ Partner (kindOf (suc i)) t j) → ((j : ℕ) → j < a → ¬ Atom (kindOf (suc i)) t p j)
+      smaller : (i t p a : ℕ) → i < 9 → ((j : ℕ) → j < i → ¬ OfKind j) → ((j : ℕ) → j < t → ¬ Target (kindOf (suc i)) j) → ((j : ℕ) → j < p → ¬ Partner (kindOf (suc i)) t j) → ((j : ℕ) → j < a → ¬ Atom (kindOf (suc i)) t p j)
           → (u : Step) → Less u (step (kindOf (suc i)) t p a) → ¬ So (eligible n P u)
       smaller i t p a b dk dt dp da u (lessKind l) h = let w = at-kind u h in dk (w .0) (omega (arith, number-kindOf i b, w .1)) (w .2)
       smaller i t p a b dk dt dp da u (lessTarget e l) h = dt (u .target) l (u .partner, u .atom, rw (← e) h)

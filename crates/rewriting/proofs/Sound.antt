@@ -15,10 +15,12 @@ use Rattle.rewriting.specs.Marked.{Entry, Marked, entry, left, deleted}
 use Rattle.rewriting.specs.Reaches.{reach}
 use Rattle.rewriting.specs.Steps.{Step, inNoHead, condition, conditionHolds, applies, dropNeg, leftBy, effect}
 use Rattle.rewriting.specs.Runs.{leaves}
-use Rattle.rewriting.specs.Kinds.{Kind, tautology, contradiction, success, noHead, blocked, failure, loop, subsumed, rowOf, usesPartner}
+use Rattle.rewriting.specs.Kinds.{Kind, tautology, contradiction, success, noHead, blocked, failure, loop, subsumed, impossible, rowOf, usesPartner, onTarget}
+use Rattle.rewriting.specs.Exclusion.{removal}
 use Rattle.rewriting.proofs.Left.{each-set, ClosedAt, closed-left}
 use Rattle.rewriting.proofs.Rows.{loops, succeeds}
 use Rattle.rewriting.proofs.ByKind.{same-tautology, same-contradiction, same-outside, same-dropNeg, same-blocked, same-subsumed, same-success}
+use Rattle.rewriting.proofs.Exclusion.{removal-sound}
 use Rattle.rewriting.proofs.Reach.{allBut, others-closed, others-not, reach-closed, same-without}
 
 -- a closed set stays closed where an entry asks no more
@@ -42,6 +44,7 @@ strong blocked = true
 strong failure = false
 strong loop = false
 strong subsumed = true
+strong impossible = false
 
 module _ (P : Marked) (t p a : ℕ) where
   -- questions 13, 14 and 16
@@ -49,7 +52,7 @@ module _ (P : Marked) (t p a : ℕ) where
   Ask k = So (entry P t .kept) × So (cond (usesPartner k) (entry P p .kept && not (eqb p t)) (eqb p 0)) × So (condition k (left P) (entry P t .clause) (entry P p .clause) a)
 
   abbrev After : Kind → List Clause
-  After k = left (set P t (leftBy (rowOf k .deed) a (entry P t .clause)))
+  After k = left (cond (onTarget k) (set P t (leftBy (rowOf k .deed) a (entry P t .clause))) (removal a P))
 
   pub strong-same : (k : Kind) → So (strong k) → Ask k → (M : Atoms) → Same M (left P) (After k)
   unfolding condition
@@ -67,6 +70,7 @@ module _ (P : Marked) (t p a : ℕ) where
   strong-same subsumed s (kt, u, h) M =
       let w = simp (and-iff, within-iff) at h in let v = partner-other P p t u in
       same-subsumed M P t p (v .1) (v .0) (w .0) (w .1 .0) (w .1 .1)
+  strong-same impossible s (kt, u, h) M = absurd (false≢true s)
 
   by-kind : (k : Kind) → Ask k → (n : ℕ) (M : Atoms) → Stable (program n (left P)) M ↔ Stable (program n (After k)) M
   unfolding condition
@@ -81,6 +85,7 @@ module _ (P : Marked) (t p a : ℕ) where
   by-kind failure (kt, u, h) n M =
       let w = and-iff _ _ .0 h in let c = others-closed (left P) a (w .1) in
       same-without n (left P) (After failure) M (allBut a) a c (closed-deleted (allBut a) P t c) (others-not a) (λ o. same-outside M P t a o (mem-iff _ _ .0 (w .0)))
+  by-kind impossible (kt, u, h) n M = removal-sound n P t a kt h M
   by-kind loop (kt, u, h) n M =
       let w = loops (left P) (entry P t .clause) (entry P p .clause) a .0 h in
       same-without n (left P) (After loop) M (reach (left P)) a (reach-closed (left P)) (closed-deleted (reach (left P)) P t (reach-closed (left P))) (w .outside) (λ o. same-outside M P t a o (w .there))

@@ -12,7 +12,7 @@ use Rattle.semantics.proofs.Tests.{without-sub, and-iff, mem-iff, within-iff}
 use Rattle.rewriting.specs.Marked.{Entry, Marked, entry, left, deleted}
 use Rattle.rewriting.specs.Reaches.{reach}
 use Rattle.rewriting.specs.Steps.{Step, fact, inNoHead, condition, conditionHolds, applies, leftBy}
-use Rattle.rewriting.specs.Kinds.{Kind, tautology, contradiction, success, noHead, blocked, failure, loop, subsumed, Deed, deletes, dropsPos, dropsNeg, usesPartner}
+use Rattle.rewriting.specs.Kinds.{Kind, tautology, contradiction, success, noHead, blocked, failure, loop, subsumed, impossible, Deed, deletes, dropsPos, dropsNeg, removes, atTarget, usesPartner}
 use Rattle.rewriting.specs.Uses.{dropping}
 use Rattle.rewriting.proofs.Left.{left-each}
 use Rattle.rewriting.proofs.Reach.{inNoHead-iff}
@@ -31,15 +31,17 @@ below-same {c = c} e = subst (λ d. Subclause d c) (sym e) (record { kept = λ h
 below-deleted : (e : Entry) → Subclause (deleted (e .clause)) e
 below-deleted e = record { kept = λ h. absurd (false≢true h); head = refl; pos = λ a m. m; neg = λ a m. m }
 
-pub below-left : (x : Deed) (a : ℕ) (e : Entry) → So (e .kept) → Subclause (leftBy x a (e .clause)) e
-below-left deletes a e k = below-deleted e
-below-left dropsPos a e k = record { kept = λ h. k; head = refl; pos = λ b m. without-sub _ b _ m; neg = λ b m. m }
-below-left dropsNeg a e k = record { kept = λ h. k; head = refl; pos = λ b m. m; neg = λ b m. without-sub _ b _ m }
+pub below-left : (x : Deed) (a : ℕ) (e : Entry) → So (atTarget x) → So (e .kept) → Subclause (leftBy x a (e .clause)) e
+below-left deletes a e o k = below-deleted e
+below-left dropsPos a e o k = record { kept = λ h. k; head = refl; pos = λ b m. without-sub _ b _ m; neg = λ b m. m }
+below-left dropsNeg a e o k = record { kept = λ h. k; head = refl; pos = λ b m. m; neg = λ b m. without-sub _ b _ m }
+below-left removes a e o k = absurd (false≢true o)
 
-pub left-kept : (x : Deed) (a : ℕ) (c : Clause) → leftBy x a c .kept ≡ dropping x
-left-kept deletes a c = refl
-left-kept dropsPos a c = refl
-left-kept dropsNeg a c = refl
+pub left-kept : (x : Deed) (a : ℕ) (c : Clause) → So (atTarget x) → leftBy x a c .kept ≡ dropping x
+left-kept deletes a c o = refl
+left-kept dropsPos a c o = refl
+left-kept dropsNeg a c o = refl
+left-kept removes a c o = absurd (false≢true o)
 
 -- ---- heads of what is left, by the clauses' numbers
 
@@ -55,7 +57,7 @@ bare-on P Q b a h = bare-iff Q a .1 (λ i k m. bare-iff P a .0 h i (b i .kept k)
 
 -- ---- conditions
 
--- what the condition of a kind asks of the other clauses, carried back from Q to P
+-- what the condition of a kind asks of the other clauses, carried back from Q to P; kind 9 is not carried back
 abbrev pub Keeps : Kind → Marked → Marked → ℕ → ℕ → Type 0
 Keeps tautology P Q p a = Unit {0}
 Keeps contradiction P Q p a = Unit {0}
@@ -65,6 +67,7 @@ Keeps blocked P Q p a = entry Q p ≡ entry P p
 Keeps failure P Q p a = So (inNoHead (left Q) a) → So (inNoHead (left P) a)
 Keeps loop P Q p a = So (reach (left P) a) → So (reach (left Q) a)
 Keeps subsumed P Q p a = entry Q p ≡ entry P p
+Keeps impossible P Q p a = ⊥
 
 mem-more : (a : ℕ) (k l : List ℕ) → ((b : ℕ) → b ∈ k → b ∈ l) → So (mem a k) → So (mem a l)
 mem-more a k l f h = mem-iff a l .1 (f a (mem-iff a k .0 h))
@@ -106,6 +109,7 @@ module _ (P Q : Marked) (t p a : ℕ) (below : (i : ℕ) → Subclause (entry Q 
         and-iff _ _ .1
             (within-more (by .pos) (new .pos) (old .pos) (b .pos) (w .1 .0), within-more (by .neg) (new .neg) (old .neg) (b .neg) (w .1 .1)),
       )
+  condition-back impossible e h = absurd e
 
 partner-back : (u : Bool) (P Q : Marked) (p t : ℕ) → Subclause (entry Q p) (entry P p)
     → So (cond u (entry Q p .kept && not (eqb p t)) (eqb p 0)) → So (cond u (entry P p .kept && not (eqb p t)) (eqb p 0))

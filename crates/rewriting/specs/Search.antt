@@ -42,7 +42,7 @@ firstTarget n P k = least (length P) (λ t. firstPartner n P k t)
 
 unfoldable pub firstStep : ℕ → Marked → Option Step
 unfolding least firstTarget
-firstStep n P = least 8 (λ i. firstTarget n P (kindOf (suc i)))
+firstStep n P = least 9 (λ i. firstTarget n P (kindOf (suc i)))
 
 -- the reducer's list: the first step, again and again, at most `fuel` times
 unfoldable pub reduce : ℕ → ℕ → Marked → List Step

@@ -1,4 +1,4 @@
--- The eight steps, after document 01, "Eight steps", and slips 1 and 6 of document 02.
+-- The nine steps, after document 01, "Eight steps", and slips 1, 6 and 8 of document 02.
 use mathlib.Core.Bool.{Bool, true, false, not, cond, _&&_}
 use mathlib.Core.List.{List, [], _∷_}
 use Prim.Native.Nat.{ℕ}
@@ -8,7 +8,8 @@ use Rattle.semantics.specs.Lists.{any, null, single, mem, within, without}
 use Rattle.semantics.specs.Programs.{Clause}
 use Rattle.rewriting.specs.Marked.{Entry, Marked, entry, left, deleted}
 use Rattle.rewriting.specs.Reaches.{reach}
-use Rattle.rewriting.specs.Kinds.{Kind, tautology, contradiction, success, noHead, blocked, failure, loop, subsumed, Deed, deletes, dropsPos, dropsNeg, rowOf, number, usesPartner, usesAtom}
+use Rattle.rewriting.specs.Kinds.{Kind, tautology, contradiction, success, noHead, blocked, failure, loop, subsumed, impossible, Deed, deletes, dropsPos, dropsNeg, removes, rowOf, number, usesPartner, usesAtom, onTarget}
+use Rattle.rewriting.specs.Exclusion.{excludes, lacking, removal}
 
 -- "A list is a slice of words, four a step: kind, target, partner, atom."
 pub record Step : Type 0 where
@@ -42,8 +43,9 @@ headed k cs a = not (eqb (number k) 7 && inNoHead cs a)
 -- 6 "the atom is in its positive body and in the head of no kept clause"
 -- 7 "the atom is in its positive body and outside the reach"; slip 6: and in the head of a kept clause, as 32 asks
 -- 8 "each of the partner's three parts is within the target's same part"
+-- 9, slip 8: "The target is a kept constraint with at least one positive and no negative atom; .. the atom a occurs in a kept clause. .. the target's positive atoms are all in D."
 unfoldable pub condition : Kind → List Clause → Clause → Clause → ℕ → Bool
-unfolding inNoHead reach
+unfolding inNoHead reach excludes
 condition tautology cs c d a = mem a (c .head) && mem a (c .pos)
 condition contradiction cs c d a = mem a (c .pos) && mem a (c .neg)
 condition success cs c d a = fact d && (single (eqb a) (d .head) && mem a (c .pos))
@@ -52,6 +54,7 @@ condition blocked cs c d a = fact d && within (d .head) (c .neg)
 condition failure cs c d a = mem a (c .pos) && inNoHead cs a
 condition loop cs c d a = mem a (c .pos) && (headed loop cs a && not (reach cs a))
 condition subsumed cs c d a = within (d .head) (c .head) && (within (d .pos) (c .pos) && within (d .neg) (c .neg))
+condition impossible cs c d a = excludes cs c a
 
 -- 13 "Is the target below m and kept?"
 abbrev pub targetKept : Marked → Step → Bool
@@ -90,11 +93,14 @@ dropPos a c = record { kept = true; clause = record { head = c .head; pos = with
 abbrev pub dropNeg : ℕ → Clause → Entry
 dropNeg a c = record { kept = true; clause = record { head = c .head; pos = c .pos; neg = without a (c .neg) } }
 
--- what a deed leaves of its target c, with the atom a that the step names
+-- what a deed leaves of a clause c that it works on, with the atom a that the step names
 abbrev pub leftBy : Deed → ℕ → Clause → Entry
 leftBy deletes a c = deleted c
 leftBy dropsPos a c = dropPos a c
 leftBy dropsNeg a c = dropNeg a c
+leftBy removes a c = lacking a c
 
+-- kinds 1 to 8 work on the target, kind 9 on every kept clause
 unfoldable pub effect : Marked → Step → Marked
-effect P s = set P (s .target) (leftBy (rowOf (s .kind) .deed) (s .atom) (entry P (s .target) .clause))
+unfolding removal
+effect P s = cond (onTarget (s .kind)) (set P (s .target) (leftBy (rowOf (s .kind) .deed) (s .atom) (entry P (s .target) .clause))) (removal (s .atom) P)

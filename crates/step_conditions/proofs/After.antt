@@ -13,7 +13,9 @@ use Rattle.semantics.proofs.Tests.{so-ext, so-false}
 use Rattle.rewriting.specs.Marked.{Marked, entry, left}
 use Rattle.rewriting.specs.Reaches.{reach}
 use Rattle.rewriting.specs.Steps.{Step, applies, effect}
+use Rattle.rewriting.specs.Kinds.{onTarget}
 use Rattle.rewriting.specs.Uses.{drops, asksHeads}
+use Rattle.rewriting.proofs.Rows.{drop-on-target, heads-on-target}
 use Rattle.rewriting.proofs.Effect.{drop-reach, heads-idle, idle-reach}
 use Rattle.rewriting.proofs.Counts.{heads, heads-effect}
 use Rattle.table.specs.Questions.{Passed}
@@ -26,10 +28,10 @@ use Rattle.step_conditions.specs.Known.{headCount, Heads, Tallied}
 module _ (n : ℕ) (P : Marked) (s : Step) (h : So (applies n P s)) (d : So (drops (s .kind))) where
   drop-heads : (a : ℕ) → headCount (left (effect P s)) a ≡ headCount (left P) a
   unfolding heads
-  drop-heads a = omega (arith, subst (λ b. heads (effect P s) a + bit (not b && mem a (entry P (s .target) .clause .head)) ≡ heads P a) d (heads-effect n P s h a))
+  drop-heads a = omega (arith, subst (λ b. heads (effect P s) a + bit (not b && mem a (entry P (s .target) .clause .head)) ≡ heads P a) d (heads-effect n P s h (drop-on-target (s .kind) d) a))
 
   same-reach : (a : ℕ) → reach (left (effect P s)) a ≡ reach (left P) a
-  same-reach a = let w = drop-reach n P s h d a in so-ext _ _ (w .1) (w .0)
+  same-reach a = let w = drop-reach n P s h (drop-on-target (s .kind) d) d a in so-ext _ _ (w .1) (w .0)
 
 module _ (ws ms : List ℕ) (passed : Passed ws) (long : length ws ≤ length ms) (n : ℕ) (s : Step) (h : So (applies n (view ws ms) s)) (d : So (drops (s .kind))) where
   pub heads-stay : (hs : List ℕ) → Heads ws ms hs → Heads ws (marksAfter ws ms s) hs
@@ -39,12 +41,12 @@ module _ (ws ms : List ℕ) (passed : Passed ws) (long : length ws ≤ length ms
   reached-stays rs k = record { is = λ a. k .is a ∙ sym (same-reach n (view ws ms) s h d a) ∙ ap (λ P. reach (left P) a) (sym (view-after ws ms passed long n s h)) }
 
 -- A clause deleted: one less at each of its head atoms.
-pub heads-lowered : (ws ms : List ℕ) → Passed ws → length ws ≤ length ms → (n : ℕ) (s : Step) → So (applies n (view ws ms) s) → ¬ So (drops (s .kind))
+pub heads-lowered : (ws ms : List ℕ) → Passed ws → length ws ≤ length ms → (n : ℕ) (s : Step) → So (onTarget (s .kind)) → So (applies n (view ws ms) s) → ¬ So (drops (s .kind))
     → (hs hs′ : List ℕ) → Heads ws ms hs → Tallied (entry (view ws ms) (s .target) .clause .head) hs′ hs → Heads ws (marksAfter ws ms s) hs′
 unfolding heads
-heads-lowered ws ms passed long n s h d hs hs′ k c = record {
+heads-lowered ws ms passed long n s o h d hs hs′ k c = record {
   is = λ a.
-      let e = heads-effect n (view ws ms) s h a in
+      let e = heads-effect n (view ws ms) s h o a in
       let q = ap (λ b. bit (not b && mem a (entry (view ws ms) (s .target) .clause .head))) (so-false _ d) in
       let g = k .is a in
       by-cases (decLt a (length hs′))
@@ -58,6 +60,6 @@ heads-lowered ws ms passed long n s h d hs hs′ k c = record {
 pub reached-idle : (ws ms : List ℕ) → Passed ws → length ws ≤ length ms → (n : ℕ) (s : Step) → So (applies n (view ws ms) s) → ¬ So (drops (s .kind)) → So (asksHeads (s .kind))
     → (rs : List ℕ) → Reached ws ms rs → Reached ws (marksAfter ws ms s) rs
 reached-idle ws ms passed long n s h d x rs k = record {
-  is = λ a. let w = idle-reach n (view ws ms) s h d (heads-idle n (view ws ms) s h x d) a in
+  is = λ a. let w = idle-reach n (view ws ms) s h (heads-on-target (s .kind) x) d (heads-idle n (view ws ms) s h (heads-on-target (s .kind) x) x d) a in
       k .is a ∙ so-ext _ _ (w .0) (w .1) ∙ ap (λ P. reach (left P) a) (sym (view-after ws ms passed long n s h));
 }

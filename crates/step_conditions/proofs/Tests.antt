@@ -10,7 +10,7 @@ use lib.ListN.{length, getD, set, List·getD-eq-default}
 use borrow.Author.Tests.{eq-eqb, ne-eqb}
 use Rattle.semantics.specs.Lists.{single}
 use Rattle.rewriting.specs.Steps.{Step, applies}
-use Rattle.rewriting.specs.Kinds.{dropsPos, dropsNeg, rowOf, kindOf, usesPartner}
+use Rattle.rewriting.specs.Kinds.{dropsPos, dropsNeg, rowOf, kindOf, usesPartner, onTarget}
 use Rattle.rewriting.proofs.Left.{kept-lt}
 use Rattle.rewriting.proofs.Sound.{applies-ask}
 use Rattle.rewriting.proofs.Search.{partner-lt}
@@ -18,7 +18,7 @@ use Rattle.table.specs.Places.{posAt, negAt, nextAt, startOf}
 use Rattle.table.specs.View.{view}
 use Rattle.table.specs.Effects.{find, clearedBy, clears, marksAfter}
 use Rattle.table.specs.Slices.{kept-of}
-use Rattle.table.proofs.View.{length-view, clears-lt}
+use Rattle.table.proofs.View.{length-view, clears-lt, after-on}
 use Rattle.table.proofs.Laws.{one-left}
 use Rattle.step_parts.specs.declared.Single.the-variants.{One, Other}
 use Rattle.step_parts.specs.declared.Part.the-variants.{Pos, Neg}
@@ -71,7 +71,8 @@ clears-first ws (suc (suc (suc (suc zero)))) at a n3 n4 = absurd (n4 refl)
 clears-first ws (suc (suc (suc (suc (suc zero))))) at a n3 n4 = refl
 clears-first ws (suc (suc (suc (suc (suc (suc zero)))))) at a n3 n4 = refl
 clears-first ws (suc (suc (suc (suc (suc (suc (suc zero))))))) at a n3 n4 = refl
-clears-first ws (suc (suc (suc (suc (suc (suc (suc (suc k)))))))) at a n3 n4 = refl
+clears-first ws (suc (suc (suc (suc (suc (suc (suc (suc zero)))))))) at a n3 n4 = refl
+clears-first ws (suc (suc (suc (suc (suc (suc (suc (suc (suc k))))))))) at a n3 n4 = refl
 
 -- ---- the place of a word
 
@@ -106,9 +107,8 @@ pub clears-at : (ws : List ℕ) (s : Step) (at t : ℕ) → t ≡ s .target → 
 unfolding clears
 clears-at ws s at t a e = e ∙ rw a
 
-pub after-is : (ws ms : List ℕ) (s : Step) (at : ℕ) → at ≡ clears ws s → set ms at 0 ≡ marksAfter ws ms s
-unfolding marksAfter
-after-is ws ms s at e = rw e
+pub after-is : (ws ms : List ℕ) (s : Step) (at : ℕ) → So (onTarget (s .kind)) → at ≡ clears ws s → set ms at 0 ≡ marksAfter ws ms s
+after-is ws ms s at o e = ap (λ i. set ms i 0) e ∙ sym (after-on ws ms s o)
 
 -- ---- two tests, one after the other
 
@@ -126,5 +126,5 @@ clears-pos ws at a r q = let z : negAt ws at - posAt ws at ≡ getD ws (at + 1) 
 pub clears-neg : (ws : List ℕ) (at a r : ℕ) → r ≡ placeIn ws at Neg a → r ≡ clearedBy ws dropsNeg at a
 clears-neg ws at a r q = let z : nextAt ws at - negAt ws at ≡ getD ws (at + 2) 0 = omega arith in q ∙ rw z
 
-pub clears-fits : (ws ms index : List ℕ) (n : ℕ) (s : Step) (at : ℕ) → Ready ws ms index → So (applies n (view ws ms) s) → at ≡ clears ws s → at < length ms
-clears-fits ws ms index n s at r h e = omega (arith, clears-lt ws ms (r .placed .passed) (r .marks) n s h, r .marks)
+pub clears-fits : (ws ms index : List ℕ) (n : ℕ) (s : Step) (at : ℕ) → Ready ws ms index → So (onTarget (s .kind)) → So (applies n (view ws ms) s) → at ≡ clears ws s → at < length ms
+clears-fits ws ms index n s at r o h e = omega (arith, clears-lt ws ms (r .placed .passed) (r .marks) n s o h, r .marks)

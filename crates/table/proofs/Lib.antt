@@ -7,6 +7,7 @@ pub mod Measures
 pub mod Places
 pub mod Walks
 pub mod Slices
-pub mod View
 pub mod Clearing
+pub mod Cleared
+pub mod View
 pub mod Parts

@@ -1,4 +1,4 @@
--- A program within the limits has at most 8,188 clauses and body literals: no list of steps is longer.
+-- A program within the limits has at most 8,188 clauses and literals: no list of steps is longer.
 use Prim.Native.Nat.{_+_, _*_, _≤_}
 use mathlib.Core.List.{List, [], _∷_, _++_}
 use native.Mathlib.Omega.{arith}

@@ -1,8 +1,8 @@
--- Setting one mark changes one clause: the first word's deletes it, a body literal's drops the atom. So clearing a step's mark is the
--- step's effect on the program, and one more mark at 0.
+-- Setting one mark changes one clause: the first word's deletes it, a body literal's drops the atom. So clearing the mark of a step of kinds 1 to 8 is the
+-- step's effect on the program, and one more mark at 0; kind 9 clears more than one.
 use mathlib.Core.Path.{_≡_, refl, sym, ap, subst, _∙_}
 use mathlib.Core.Logic.{_≢_, _⊎_, inl, inr, by-cases}
-use mathlib.Core.Bool.{Bool, true, false, cond, So}
+use mathlib.Core.Bool.{Bool, true, false, cond, So, false≢true}
 use mathlib.Core.List.{List, [], _∷_, List·Memᴰ·head, List·Memᴰ·tail, List·Memᴰ·not-nil}
 use Prim.Native.Nat.{ℕ, zero, suc, _+_, _≤_, _<_}
 use native.Mathlib.Omega.{arith}
@@ -11,20 +11,25 @@ use lib.Dec.{eqb}
 use lib.ListN.{length, getD, set, take, length-set, length-take}
 use lib.Seq.{getD-set-same, getD-set-other, take-set-lt, getD-take}
 use borrow.Author.Tests.{eqb-true, eqb-false, eq-eqb, ne-eqb}
-use Rattle.semantics.specs.Lists.{_∈_, count, bit, without}
-use Rattle.semantics.proofs.Tests.{and-iff, without-none}
+use Rattle.semantics.specs.Lists.{_∈_, all, count, bit, without}
+use Rattle.semantics.proofs.Tests.{and-iff, without-none, so-dec, so-false}
 use Rattle.rewriting.specs.Marked.{Entry, entry, left, deleted}
 use Rattle.rewriting.specs.Steps.{Step, condition, applies, dropPos, dropNeg, leftBy, effect}
 use Rattle.rewriting.specs.Runs.{accepted, leaves}
-use Rattle.rewriting.specs.Kinds.{Deed, deletes, dropsPos, dropsNeg, rowOf}
+use Rattle.rewriting.specs.Kinds.{Deed, deletes, dropsPos, dropsNeg, removes, atTarget, rowOf, onTarget}
 use Rattle.rewriting.proofs.Left.{kept-lt}
-use Rattle.rewriting.proofs.Rows.{There, drops-there}
+use Rattle.rewriting.proofs.Rows.{There, drops-there, not-on-target}
+use Rattle.rewriting.proofs.Effect.{effect-on, effect-off}
+use Rattle.rewriting.proofs.Measure.{removal-less}
 use Rattle.rewriting.proofs.Sound.{applies-ask}
 use Rattle.table.specs.Questions.{Passed}
 use Rattle.table.specs.Places.{headAt, posAt, negAt, nextAt, startFrom, startOf}
 use Rattle.table.specs.View.{part, entryAt, entriesFrom, view, zeros}
 use Rattle.table.specs.Effects.{find, clearedBy, clears, marksAfter, marksAfterAll}
+use Rattle.table.specs.Clearing.{marksWithout}
 use Rattle.table.proofs.Places.{Rises, Good, passed-good}
+use Rattle.table.proofs.Clearing.{view-without}
+use Rattle.table.proofs.Cleared.{length-without-marks, zeros-without}
 
 -- ---- one mark, one clause
 
@@ -184,10 +189,11 @@ module _ (w k : List ℕ) (n o : ℕ) (g : Good w n o) (long : length w ≤ leng
         v,
       )
 
-  cleared : (x : Deed) (b : ℕ) → There x b (entryAt w k o .clause) → Cleared (clearedBy w x o b) (leftBy x b (entryAt w k o .clause))
-  cleared deletes b m = cleared-first
-  cleared dropsPos b m = cleared-pos b m
-  cleared dropsNeg b m = cleared-neg b m
+  cleared : (x : Deed) (b : ℕ) → So (atTarget x) → There x b (entryAt w k o .clause) → Cleared (clearedBy w x o b) (leftBy x b (entryAt w k o .clause))
+  cleared deletes b q m = cleared-first
+  cleared dropsPos b q m = cleared-pos b m
+  cleared dropsNeg b q m = cleared-neg b m
+  cleared removes b q m = absurd (false≢true q)
 
 -- ---- a step on the marks
 
@@ -199,55 +205,76 @@ pub length-view : (w k : List ℕ) → length (view w k) ≡ getD w 1 0
 unfolding view
 length-view w k = length-entries w k (getD w 1 0) 2
 
+pub after-on : (w k : List ℕ) (s : Step) → So (onTarget (s .kind)) → marksAfter w k s ≡ set k (clears w s) 0
+unfolding marksAfter
+after-on w k s q = rw q
+
+pub after-off : (w k : List ℕ) (s : Step) → onTarget (s .kind) ≡ false → marksAfter w k s ≡ marksWithout w k (s .atom)
+unfolding marksAfter
+after-off w k s q = rw q
+
 module _ (w k : List ℕ) (p : Passed w) (long : length w ≤ length k) where
   -- the step's target, and its mark before and after
-  pub at-step : (n : ℕ) (s : Step) → So (applies n (view w k) s)
+  pub at-step : (n : ℕ) (s : Step) → So (onTarget (s .kind)) → So (applies n (view w k) s)
       → let o = startOf w (s .target) in
       (s .target < getD w 1 0) × (entry (view w k) (s .target) ≡ entryAt w k o) × (o ≤ clears w s) × (clears w s < nextAt w o)
       × (entryAt w (set k (clears w s) 0) o ≡ leftBy (rowOf (s .kind) .deed) (s .atom) (entryAt w k o .clause)) × (getD k (clears w s) 0 ≡ 1)
   unfolding clears
-  at-step n s h =
+  at-step n s q h =
       let (x, y, z) = applies-ask n (view w k) s h in
       let t = s .target in
       let d = entry (view w k) (s .partner) .clause in
       let l : t < getD w 1 0 = omega (arith, kept-lt (view w k) t x, length-view w k) in
       let e = entry-view w k t l in
-      let r = cleared w k (getD w 0 0) (startOf w t) (passed-good w p t l) long (subst (λ c. So (c .kept)) e x) (rowOf (s .kind) .deed) (s .atom)
+      let r = cleared w k (getD w 0 0) (startOf w t) (passed-good w p t l) long (subst (λ c. So (c .kept)) e x) (rowOf (s .kind) .deed) (s .atom) q
       (drops-there (left (view w k)) _ d (s .atom) (s .kind) (subst (λ c. So (condition (s .kind) (left (view w k)) (c .clause) d (s .atom))) e z)) in
       (l, e, r .0, r .1, r .2, r .3)
 
   -- Clearing a step's mark is the step's effect on the program.
-  pub view-after : (n : ℕ) (s : Step) → So (applies n (view w k) s) → view w (marksAfter w k s) ≡ effect (view w k) s
-  unfolding view marksAfter effect
-  view-after n s h =
-      let (l, e, x, y, z, v) = at-step n s h in
+  view-cleared : (n : ℕ) (s : Step) → So (onTarget (s .kind)) → So (applies n (view w k) s) → view w (set k (clears w s) 0) ≡ set (view w k) (s .target) (leftBy (rowOf (s .kind) .deed) (s .atom) (entry (view w k) (s .target) .clause))
+  unfolding view
+  view-cleared n s q h =
+      let (l, e, x, y, z, v) = at-step n s q h in
       entriesFrom-set w k (clears w s) 0 (getD w 1 0) 2 (s .target) x y l
       ∙ ap (λ c. set (view w k) (s .target) c) (z ∙ ap (λ c. leftBy (rowOf (s .kind) .deed) (s .atom) (c .clause)) (sym e))
 
-  -- The mark was 1, so the marks at 0 are one more.
-  pub zeros-after : (n : ℕ) (s : Step) → So (applies n (view w k) s) → zeros w (marksAfter w k s) ≡ suc (zeros w k)
-  unfolding marksAfter
-  zeros-after n s h =
-      let (l, e, x, y, z, v) = at-step n s h in
-      zeros-set w k (clears w s) (omega (arith, passed-good w p (s .target) l .fits)) long v
+  -- and that of kind 9 too
+  pub view-after : (n : ℕ) (s : Step) → So (applies n (view w k) s) → view w (marksAfter w k s) ≡ effect (view w k) s
+  view-after n s h = by-cases (so-dec (onTarget (s .kind)))
+      (λ q. ap (view w) (after-on w k s q) ∙ view-cleared n s q h ∙ sym (effect-on (view w k) s q))
+      (λ q. let o = so-false _ q in ap (view w) (after-off w k s o) ∙ view-without w k (s .atom) p long ∙ sym (effect-off (view w k) s o))
+
+  -- The mark was 1, so the marks at 0 are one more;
+  pub zeros-after : (n : ℕ) (s : Step) → So (onTarget (s .kind)) → So (applies n (view w k) s) → zeros w (marksAfter w k s) ≡ suc (zeros w k)
+  zeros-after n s q h =
+      let (l, e, x, y, z, v) = at-step n s q h in
+      ap (zeros w) (after-on w k s q) ∙ zeros-set w k (clears w s) (omega (arith, passed-good w p (s .target) l .fits)) long v
+
+  -- of kind 9 one or more.
+  pub zeros-more : (n : ℕ) (s : Step) → So (applies n (view w k) s) → zeros w k < zeros w (marksAfter w k s)
+  zeros-more n s h = by-cases (so-dec (onTarget (s .kind)))
+      (λ q. omega (arith, zeros-after n s q h))
+      (λ q. let o = so-false _ q in rw (after-off w k s o) (zeros-without w k (s .atom) p long (removal-less n (view w k) s (not-on-target (s .kind) o) h)))
 
   -- The mark is one of the table's.
-  pub clears-lt : (n : ℕ) (s : Step) → So (applies n (view w k) s) → clears w s < length w
-  clears-lt n s h = let (l, e, x, y, z, v) = at-step n s h in omega (arith, passed-good w p (s .target) l .fits)
+  pub clears-lt : (n : ℕ) (s : Step) → So (onTarget (s .kind)) → So (applies n (view w k) s) → clears w s < length w
+  clears-lt n s q h = let (l, e, x, y, z, v) = at-step n s q h in omega (arith, passed-good w p (s .target) l .fits)
 
 -- ---- a list of steps on the marks
 
 pub length-after : (w k : List ℕ) (s : Step) → length (marksAfter w k s) ≡ length k
-unfolding marksAfter
-length-after w k s = simp length-set
+length-after w k s = by-cases (so-dec (onTarget (s .kind))) (λ q. ap length (after-on w k s q) ∙ simp length-set) (λ q. ap length (after-off w k s (so-false _ q)) ∙ length-without-marks w k (s .atom))
 
--- The marks after an accepted list leave what the list leaves, and each step has set one more to 0.
+-- The marks after an accepted list leave what the list leaves, and each step has set at least one more to 0: exactly one, where kind 9 is not among the steps.
 pub view-afterAll : (n : ℕ) (w k : List ℕ) (l : List Step) → Passed w → length w ≤ length k → So (accepted n (view w k) l)
-    → (view w (marksAfterAll w k l) ≡ leaves n (view w k) l) × (zeros w (marksAfterAll w k l) ≡ length l + zeros w k)
+    → (view w (marksAfterAll w k l) ≡ leaves n (view w k) l) × (length l + zeros w k ≤ zeros w (marksAfterAll w k l)) × (So (all (λ s. onTarget (s .kind)) l) → zeros w (marksAfterAll w k l) ≡ length l + zeros w k)
 unfolding marksAfterAll accepted leaves
-view-afterAll n w k [] p b h = (refl, omega arith)
+view-afterAll n w k [] p b h = (refl, omega arith, λ _. omega arith)
 view-afterAll n w k (s ∷ l) p b h =
     let v = and-iff (applies n (view w k) s) _ .0 h in
     let e = view-after w k p b n s (v .0) in
-    let r = view-afterAll n w (marksAfter w k s) l p (omega (arith, length-after w k s)) (rw e (v .1)) in
-    (rw (v .0) (r .0 ∙ ap (λ P. leaves n P l) e), omega (arith, zeros-after w k p b n s (v .0), r .1))
+    let r = view-afterAll n w (marksAfter w k s) l p (omega (arith, length-after w k s)) (rw e (v .1)) in (
+      rw (v .0) (r .0 ∙ ap (λ P. leaves n P l) e),
+      omega (arith, zeros-more w k p b n s (v .0), r .1),
+      λ q. let o = and-iff (onTarget (s .kind)) (all (λ s. onTarget (s .kind)) l) .0 q in omega (arith, zeros-after w k p b n s (o .0) (v .0), r .2 (o .1)),
+    )
