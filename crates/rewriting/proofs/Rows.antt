@@ -83,6 +83,11 @@ number-kindOf (suc (suc (suc (suc (suc (suc (suc (suc i)))))))) h = omega arith
 pub on-target : (k : Kind) → number k ≤ 8 → So (onTarget k)
 on-target = each-kind (λ k. number k ≤ 8 → So (onTarget k)) (λ l. refl) (λ l. refl) (λ l. refl) (λ l. refl) (λ l. refl) (λ l. refl) (λ l. refl) (λ l. refl) (λ l. absurd (omega arith))
 
+pub target-bounds : (k : Kind) → So (onTarget k) → (1 ≤ number k) × (number k ≤ 8)
+target-bounds = each-kind (λ k. So (onTarget k) → (1 ≤ number k) × (number k ≤ 8))
+    (λ o. (omega arith, omega arith)) (λ o. (omega arith, omega arith)) (λ o. (omega arith, omega arith)) (λ o. (omega arith, omega arith)) (λ o. (omega arith, omega arith))
+    (λ o. (omega arith, omega arith)) (λ o. (omega arith, omega arith)) (λ o. (omega arith, omega arith)) (λ o. absurd (false≢true o))
+
 pub kindOf-on-target : (k : ℕ) → k ≤ 8 → So (onTarget (kindOf k))
 kindOf-on-target zero l = refl
 kindOf-on-target (suc i) l = on-target (kindOf (suc i)) (omega (arith, number-kindOf i (omega arith)))

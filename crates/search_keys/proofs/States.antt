@@ -8,8 +8,8 @@ use native.Mathlib.Omega.{arith}
 use native.Mathlib.Decide.{ℕ-discrete, decLt}
 use lib.ListN.{length, getD, set, length-set}
 use lib.Seq.{getD-set-same, getD-set-other}
-use Rattle.rewriting.specs.Kinds.{Kind, loop, number, kindOf, usesPartner}
-use Rattle.rewriting.proofs.Rows.{kindOf-number, number-bounds}
+use Rattle.rewriting.specs.Kinds.{Kind, loop, number, kindOf, usesPartner, onTarget}
+use Rattle.rewriting.proofs.Rows.{kindOf-number, target-bounds, kindOf-on-target, partner-on-target}
 use Rattle.rewriting.proofs.Quiet.{Quiet, stale, key, quiet-more, quiet-spread, quiet-all}
 use Rattle.table.specs.Questions as Table
 use Rattle.table.specs.View.{view}
@@ -17,7 +17,7 @@ use Rattle.table.proofs.Encoding.{passed-limits}
 use Rattle.step_reach.specs.Bytes.{Reached}
 use Rattle.step_conditions.specs.declared.Step as row
 use Rattle.search_flags.specs.Flags.{flagAt, most, next, highest, Inside, Rows, Raising, AllFlagged, Fenced, mosts, nexts}
-use Rattle.search_keys.specs.State.{Arrays, Calm, Swept, KeySpread, KeyPassed, Settled, Least, Most, Gaps, State, Prepared}
+use Rattle.search_keys.specs.State.{Arrays, Calm, Swept, KeySpread, KeyPassed, Settled, Least, Most, Gaps, Flagged, State, Prepared}
 use Rattle.step_kinds.proofs.Numbers.{kind-number}
 use Rattle.search_flags.proofs.Flags.{apart, outside, rows-set}
 use Rattle.search_spreads.proofs.Limits.{key-lt, target-lt}
@@ -29,23 +29,19 @@ pub quiet-same : (ws ms : List ℕ) → Table.Passed ws → (k : Kind) (f g f' g
     → ((i : ℕ) → i < 2048 → f' i ≡ 0 → f i ≡ 0) → ((i : ℕ) → i < 2048 → g' i ≡ 0 → g i ≡ 0) → Quiet (getD ws 0 0) (view ws ms) k f' g'
 quiet-same ws ms p k f g f' g' q a b = record { calm = λ u e m x h. q .calm u e (a (u .target) (omega (arith, target-lt ws ms u h, passed-limits ws p .fewClauses)) m) (b (key u) (key-lt ws ms p u h) x) h }
 
--- a kind that is not the loop's
-abbrev known : Kind → List ℕ → Type 0
-known k flags = k ≡ loop → flagAt flags 0 0 ≡ 0
-
 seven : (kind : ℕ) → 1 ≤ kind → kind ≤ 8 → kindOf kind ≡ loop → kind ≡ 7
 seven kind a b e = sym (kind-number kind a b) ∙ ap number e
 
 -- the rows of a kind
-row-low : (k : Kind) → number k ≤ 16
-row-low k = omega (arith, number-bounds k)
+row-low : (k : Kind) → So (onTarget k) → number k ≤ 16
+row-low k o = omega (arith, target-bounds k o)
 
-row-high : (k : Kind) → 8 + number k ≤ 16
-row-high k = omega (arith, number-bounds k)
+row-high : (k : Kind) → So (onTarget k) → 8 + number k ≤ 16
+row-high k o = omega (arith, target-bounds k o)
 
 -- a kind with a partner is not the loop's
-partner-loop : (flags : List ℕ) (k : Kind) → So (usesPartner k) → known k flags
-partner-loop flags k p e = absurd (false≢true (subst (λ j. So (usesPartner j)) e p))
+pub partner-loop : (flags : List ℕ) (k : Kind) → So (usesPartner k) → Flagged k flags
+partner-loop flags k p = (partner-on-target k p, λ e. absurd (false≢true (subst (λ j. So (usesPartner j)) e p)))
 
 module _ (ws ms index hs rs flags : List ℕ) (z : State ws ms index hs rs flags) where
   pub few-clauses : getD ws 1 0 ≤ 2048
@@ -59,7 +55,7 @@ module _ (ws ms index hs rs flags : List ℕ) (z : State ws ms index hs rs flags
   state-calm kind a b h s = record {
     rows = z .rows;
     quiet = quiet-same ws ms (z .ready .placed .passed) (kindOf kind) (flagAt flags kind) (flagAt flags (8 + kind)) (flagAt flags kind) stale
-        (subst (λ j. Quiet (getD ws 0 0) (view ws ms) (kindOf kind) (flagAt flags j) (flagAt flags (8 + j))) (kind-number kind a b) (z .quiet (kindOf kind) (λ e. h (seven kind a b e))))
+        (subst (λ j. Quiet (getD ws 0 0) (view ws ms) (kindOf kind) (flagAt flags j) (flagAt flags (8 + j))) (kind-number kind a b) (z .quiet (kindOf kind) (kindOf-on-target kind b, λ e. h (seven kind a b e))))
         (λ i l e. e) (λ i l e. s i l);
     least = λ p u e f h. subst (λ j. flagAt flags j (u .target) ≤ key u + 1) (kind-number kind a b) (z .least (kindOf kind) p u e (subst (λ j. flagAt flags (8 + j) (key u) ≡ 0) (sym (kind-number kind a b)) (s (key u) (key-lt ws ms (z .ready .placed .passed) u h))) h);
     bounded = λ e u f _ h. z .bounded u f (subst (λ j. flagAt flags (8 + j) (key u) ≡ 0) e (s (key u) (key-lt ws ms (z .ready .placed .passed) u h))) h;
@@ -68,8 +64,8 @@ module _ (ws ms index hs rs flags : List ℕ) (z : State ws ms index hs rs flags
 
   -- other flags of the same words and marks
   state-with : (flags' : List ℕ) → Rows (getD ws 1 0) flags' → (flagAt flags' 0 0 ≡ 0 → flagAt flags 0 0 ≡ 0)
-      → ((k : Kind) → known k flags → Quiet (getD ws 0 0) (view ws ms) k (flagAt flags (number k)) (flagAt flags (8 + number k)) → Quiet (getD ws 0 0) (view ws ms) k (flagAt flags' (number k)) (flagAt flags' (8 + number k)))
-      → ((k : Kind) → known k flags → Least ws ms k (flagAt flags' (number k)) (flagAt flags' (8 + number k))) → Most ws ms (most flags') (flagAt flags' 11) → Gaps ws ms flags' → State ws ms index hs rs flags'
+      → ((k : Kind) → Flagged k flags → Quiet (getD ws 0 0) (view ws ms) k (flagAt flags (number k)) (flagAt flags (8 + number k)) → Quiet (getD ws 0 0) (view ws ms) k (flagAt flags' (number k)) (flagAt flags' (8 + number k)))
+      → ((k : Kind) → Flagged k flags → Least ws ms k (flagAt flags' (number k)) (flagAt flags' (8 + number k))) → Most ws ms (most flags') (flagAt flags' 11) → Gaps ws ms flags' → State ws ms index hs rs flags'
   state-with flags' r e q w b g = record {
     ready = z .ready;
     counted = z .counted;
@@ -77,14 +73,14 @@ module _ (ws ms index hs rs flags : List ℕ) (z : State ws ms index hs rs flags
     bytes = z .bytes;
     rows = r;
     reached = λ h. z .reached (e h);
-    quiet = λ k h. q k (λ x. e (h x)) (z .quiet k (λ x. e (h x)));
+    quiet = λ k h. q k (h .0, λ x. e (h .1 x)) (z .quiet k (h .0, λ x. e (h .1 x)));
     least = λ k p. w k (partner-loop flags k p) p;
     bounded = b;
     gaps = g;
   }
 
   -- a target that has a step with a key that is not fresh is flagged, so its flag can only have become less
-  least-at : (flags' : List ℕ) (k : Kind) → known k flags → ((i : ℕ) → i < 2048 → flagAt flags (number k) i ≢ 0 → flagAt flags' (number k) i ≤ flagAt flags (number k) i) → ((i : ℕ) → i < 2048 → flagAt flags' (8 + number k) i ≡ 0 → flagAt flags (8 + number k) i ≡ 0)
+  least-at : (flags' : List ℕ) (k : Kind) → Flagged k flags → ((i : ℕ) → i < 2048 → flagAt flags (number k) i ≢ 0 → flagAt flags' (number k) i ≤ flagAt flags (number k) i) → ((i : ℕ) → i < 2048 → flagAt flags' (8 + number k) i ≡ 0 → flagAt flags (8 + number k) i ≡ 0)
       → Least ws ms k (flagAt flags' (number k)) (flagAt flags' (8 + number k))
   least-at flags' k n a b p u e f h =
       let t = target-lt ws ms u h in
@@ -109,30 +105,30 @@ module _ (ws ms index hs rs flags : List ℕ) (z : State ws ms index hs rs flags
   -- after a flag or more: nothing is lost
   pub state-raised : (flags' : List ℕ) (row top : ℕ) → Raising flags flags' row top → (1 ≤ row → row ≤ 8 → top ≤ getD ws 1 0) → State ws ms index hs rs flags'
   state-raised flags' row top g h = state-with flags' (g .rows (getD ws 1 0) h (z .rows)) (λ e. g .grown 0 0 (omega arith) (omega arith) e)
-      (λ k _. same-at flags' k (λ i l e. g .grown (number k) i (row-low k) l e) (λ i l e. g .grown (8 + number k) i (row-high k) l e))
-      (λ k n. least-at flags' k n (λ i l f. g .lower (number k) i (row-low k) l f) (λ i l e. g .grown (8 + number k) i (row-high k) l e))
+      (λ k n. same-at flags' k (λ i l e. g .grown (number k) i (row-low k (n .0)) l e) (λ i l e. g .grown (8 + number k) i (row-high k (n .0)) l e))
+      (λ k n. least-at flags' k n (λ i l f. g .lower (number k) i (row-low k (n .0)) l f) (λ i l e. g .grown (8 + number k) i (row-high k (n .0)) l e))
       (most-at flags' (g .more) (λ i l e. g .grown 11 i (omega arith) l e)) (gaps-at flags' (g .rest))
 
   -- after bounds were drawn closer
   pub state-fenced : (flags' : List ℕ) (row low end : ℕ) → Fenced flags flags' row low end → Inside flags row low end → end ≤ 2048 → (row ≤ 8 → end ≤ getD ws 1 0) → State ws ms index hs rs flags'
   state-fenced flags' row low end f n h g = state-with flags' (f .rows (getD ws 1 0) (z .rows) n h g) (λ e. sym (f .same 0 0 (omega arith) (omega arith)) ∙ e)
-      (λ k _. same-at flags' k (λ i l e. sym (f .same (number k) i (row-low k) l) ∙ e) (λ i l e. sym (f .same (8 + number k) i (row-high k) l) ∙ e))
-      (λ k n. least-at flags' k n (λ i l _. omega (arith, f .same (number k) i (row-low k) l)) (λ i l e. sym (f .same (8 + number k) i (row-high k) l) ∙ e))
+      (λ k n. same-at flags' k (λ i l e. sym (f .same (number k) i (row-low k (n .0)) l) ∙ e) (λ i l e. sym (f .same (8 + number k) i (row-high k (n .0)) l) ∙ e))
+      (λ k n. least-at flags' k n (λ i l _. omega (arith, f .same (number k) i (row-low k (n .0)) l)) (λ i l e. sym (f .same (8 + number k) i (row-high k (n .0)) l) ∙ e))
       (most-at flags' (f .more) (λ i l e. sym (f .same 11 i (omega arith) l) ∙ e)) (gaps-at flags' (f .rest))
 
   -- after a search
   pub state-swept : (flags' : List ℕ) (kind : ℕ) → 1 ≤ kind → kind ≤ 8 → Swept ws ms flags flags' kind → State ws ms index hs rs flags'
-  state-swept flags' kind a b s = state-with flags' (s .calm .rows) (λ e. sym (s .frame 0 (omega arith) (inl (omega arith))) ∙ e) (λ k _ q. by-cases (ℕ-discrete (number k) kind)
+  state-swept flags' kind a b s = state-with flags' (s .calm .rows) (λ e. sym (s .frame 0 (omega arith) (inl (omega arith))) ∙ e) (λ k n q. by-cases (ℕ-discrete (number k) kind)
       (λ e. quiet-more (getD ws 0 0) (view ws ms) k (flagAt flags' (number k)) stale
       (subst (λ j. Quiet (getD ws 0 0) (view ws ms) j (flagAt flags' (number k)) stale) (ap kindOf (sym e) ∙ kindOf-number k)
       (subst (λ j. Quiet (getD ws 0 0) (view ws ms) (kindOf kind) (flagAt flags' j) stale) (sym e) (s .calm .quiet)))
       (flagAt flags' (number k)) (flagAt flags' (8 + number k)) (λ i e. e) (λ i e. refl))
-      (λ d. same-at flags' k (λ i l e. sym (s .frame (number k * 2048 + i) (omega (arith, number-bounds k)) (aside (number k) i l d)) ∙ e)
-      (λ i l e. sym (s .frame ((8 + number k) * 2048 + i) (omega (arith, number-bounds k)) (aside (8 + number k) i l (λ x. omega (arith, number-bounds k)))) ∙ e) q))
+      (λ d. same-at flags' k (λ i l e. sym (s .frame (number k * 2048 + i) (omega (arith, target-bounds k (n .0))) (aside (number k) i l d)) ∙ e)
+      (λ i l e. sym (s .frame ((8 + number k) * 2048 + i) (omega (arith, target-bounds k (n .0))) (aside (8 + number k) i l (λ x. omega (arith, target-bounds k (n .0))))) ∙ e) q))
       (λ k n. by-cases (ℕ-discrete (number k) kind)
       (λ e p u f g h. subst (λ j. flagAt flags' j (u .target) ≤ key u + 1) (sym e) (s .calm .least (subst (λ j. So (usesPartner j)) (sym (ap kindOf (sym e) ∙ kindOf-number k)) p) u (f ∙ sym (ap kindOf (sym e) ∙ kindOf-number k)) refl h))
-      (λ d. least-at flags' k n (λ i l _. omega (arith, s .frame (number k * 2048 + i) (omega (arith, number-bounds k)) (aside (number k) i l d)))
-      (λ i l e. sym (s .frame ((8 + number k) * 2048 + i) (omega (arith, number-bounds k)) (aside (8 + number k) i l (λ x. omega (arith, number-bounds k)))) ∙ e)))
+      (λ d. least-at flags' k n (λ i l _. omega (arith, s .frame (number k * 2048 + i) (omega (arith, target-bounds k (n .0))) (aside (number k) i l d)))
+      (λ i l e. sym (s .frame ((8 + number k) * 2048 + i) (omega (arith, target-bounds k (n .0))) (aside (8 + number k) i l (λ x. omega (arith, target-bounds k (n .0))))) ∙ e)))
       (most-at flags' (λ i l. omega (arith, s .frame (mosts + i) (omega arith) (inr (omega arith)))) (λ i l e. sym (s .frame (11 * 2048 + i) (omega arith) (inr (omega arith))) ∙ e)) (s .calm .gaps)
     where
       aside : (r i : ℕ) → i < 2048 → r ≢ kind → (r * 2048 + i < kind * 2048) ⊎ (kind * 2048 + 2048 ≤ r * 2048 + i)
@@ -149,28 +145,28 @@ module _ (ws ms index hs rs flags : List ℕ) (z : State ws ms index hs rs flags
     after-spread : State ws ms index hs rs flags'
     after-spread = state-raised flags' kind (getD ws 1 0) (s .raising) (λ _ _. omega arith)
 
-    key-quiet : (k : Kind) → Quiet (getD ws 0 0) (view ws ms) k (flagAt flags (number k)) (flagAt flags (8 + number k)) → Quiet (getD ws 0 0) (view ws ms) k (flagAt gone (number k)) (flagAt gone (8 + number k))
-    key-quiet k q = by-cases (ℕ-discrete (number k) kind)
+    key-quiet : (k : Kind) → Flagged k flags → Quiet (getD ws 0 0) (view ws ms) k (flagAt flags (number k)) (flagAt flags (8 + number k)) → Quiet (getD ws 0 0) (view ws ms) k (flagAt gone (number k)) (flagAt gone (8 + number k))
+    key-quiet k n q = by-cases (ℕ-discrete (number k) kind)
         (λ e. quiet-same ws ms (z .ready .placed .passed) k (flagAt flags' (number k)) (flagAt gone (8 + number k)) (flagAt gone (number k)) (flagAt gone (8 + number k))
-        (quiet-spread (getD ws 0 0) (view ws ms) k (flagAt flags' (number k)) (flagAt flags' (8 + number k)) (raised k q) (flagAt flags' (number k)) (flagAt gone (8 + number k)) x (λ i e. e)
+        (quiet-spread (getD ws 0 0) (view ws ms) k (flagAt flags' (number k)) (flagAt flags' (8 + number k)) (raised q) (flagAt flags' (number k)) (flagAt gone (8 + number k)) x (λ i e. e)
         (λ i d h. by-cases (decLt i 2048) (λ j. sym (elsewhere (8 + number k) i j (inr d)) ∙ h)
         (λ j. sym (getD-set-other flags' ((8 + kind) * 2048 + x) ((8 + number k) * 2048 + i) 0 0 (λ y. omega arith)) ∙ h))
         (λ u f d h. subst (λ r. flagAt flags' r (u .target) ≢ 0) (sym e) (s .flagged u (f ∙ sym (kindOf-number k) ∙ ap kindOf e) d h .0)))
-        (λ i j h. sym (elsewhere (number k) i j (inl (λ y. omega (arith, number-bounds k)))) ∙ h) (λ i j h. h))
-        (λ d. same-with k (raised k q) (λ i j h. sym (elsewhere (number k) i j (inl (λ y. omega (arith, number-bounds k)))) ∙ h) (λ i j h. sym (elsewhere (8 + number k) i j (inl (λ y. d (omega arith)))) ∙ h))
+        (λ i j h. sym (elsewhere (number k) i j (inl (λ y. omega (arith, target-bounds k (n .0))))) ∙ h) (λ i j h. h))
+        (λ d. same-with k (raised q) (λ i j h. sym (elsewhere (number k) i j (inl (λ y. omega (arith, target-bounds k (n .0))))) ∙ h) (λ i j h. sym (elsewhere (8 + number k) i j (inl (λ y. d (omega arith)))) ∙ h))
       where
-        raised : (k : Kind) → Quiet (getD ws 0 0) (view ws ms) k (flagAt flags (number k)) (flagAt flags (8 + number k)) → Quiet (getD ws 0 0) (view ws ms) k (flagAt flags' (number k)) (flagAt flags' (8 + number k))
-        raised k q = same-at flags' k (λ i j e. s .raising .grown (number k) i (row-low k) j e) (λ i j e. s .raising .grown (8 + number k) i (row-high k) j e) q
+        raised : Quiet (getD ws 0 0) (view ws ms) k (flagAt flags (number k)) (flagAt flags (8 + number k)) → Quiet (getD ws 0 0) (view ws ms) k (flagAt flags' (number k)) (flagAt flags' (8 + number k))
+        raised q = same-at flags' k (λ i j e. s .raising .grown (number k) i (row-low k (n .0)) j e) (λ i j e. s .raising .grown (8 + number k) i (row-high k (n .0)) j e) q
 
         same-with : (k : Kind) → Quiet (getD ws 0 0) (view ws ms) k (flagAt flags' (number k)) (flagAt flags' (8 + number k)) → ((i : ℕ) → i < 2048 → flagAt gone (number k) i ≡ 0 → flagAt flags' (number k) i ≡ 0)
             → ((i : ℕ) → i < 2048 → flagAt gone (8 + number k) i ≡ 0 → flagAt flags' (8 + number k) i ≡ 0) → Quiet (getD ws 0 0) (view ws ms) k (flagAt gone (number k)) (flagAt gone (8 + number k))
         same-with k q c d = quiet-same ws ms (z .ready .placed .passed) k (flagAt flags' (number k)) (flagAt flags' (8 + number k)) (flagAt gone (number k)) (flagAt gone (8 + number k)) q c d
 
-    key-least : (k : Kind) → known k flags → Least ws ms k (flagAt gone (number k)) (flagAt gone (8 + number k))
+    key-least : (k : Kind) → Flagged k flags → Least ws ms k (flagAt gone (number k)) (flagAt gone (8 + number k))
     key-least k n p u e f h =
         let t : u .target < 2048 = omega (arith, target-lt ws ms u h, few-clauses) in
         let l' = key-lt ws ms (z .ready .placed .passed) u h in
-        let same = elsewhere (number k) (u .target) t (inl (λ y. omega (arith, number-bounds k))) in
+        let same = elsewhere (number k) (u .target) t (inl (λ y. omega (arith, target-bounds k (n .0)))) in
         by-cases (ℕ-discrete (number k) kind)
         (λ q. by-cases (ℕ-discrete (key u) x)
         (λ d. let w = s .flagged u (e ∙ sym (kindOf-number k) ∙ ap kindOf q) d h .1 (subst (λ j. So (usesPartner j)) (sym (kindOf-number k) ∙ ap kindOf q) p) .0 .1 in
@@ -191,7 +187,7 @@ module _ (ws ms index hs rs flags : List ℕ) (z : State ws ms index hs rs flags
     pub key-passed : KeyPassed ws ms index hs rs flags gone kind x
     key-passed = record {
       state = state-with gone (rows-set flags' (8 + kind) x 0 (omega arith) l (λ _. refl) (getD ws 1 0) (after-spread .rows))
-          (λ e. s .raising .grown 0 0 (omega arith) (omega arith) (sym (elsewhere 0 0 (omega arith) (inl (λ y. omega arith))) ∙ e)) (λ k _. key-quiet k) key-least key-bounded
+          (λ e. s .raising .grown 0 0 (omega arith) (omega arith) (sym (elsewhere 0 0 (omega arith) (inl (λ y. omega arith))) ∙ e)) key-quiet key-least key-bounded
           (gaps-at gone (λ i k. getD-set-other flags' ((8 + kind) * 2048 + x) (nexts + i) 0 0 (λ y. omega arith) ∙ s .raising .rest i k));
       long = simp length-set (s .raising .long);
       reach = elsewhere 0 0 (omega arith) (inl (λ y. omega arith)) ∙ s .raising .frame 0 0 (omega arith) (omega arith) (λ e. omega arith);
@@ -212,12 +208,12 @@ module _ (ws ms index hs rs flags : List ℕ) (z : State ws ms index hs rs flags
     bytes = omega (arith, z .bytes);
     rows = rows-set flags' 0 0 0 (omega arith) (omega arith) (λ _. refl) (getD ws 1 0) (g .rows (getD ws 1 0) (λ _ _. omega arith) (z .rows));
     reached = λ _. r;
-    quiet = λ k h. by-cases (ℕ-discrete (number k) 7)
+    quiet = λ k n. by-cases (ℕ-discrete (number k) 7)
         (λ e. quiet-all (getD ws 0 0) (view ws ms) k (flagAt after (number k)) (flagAt after (8 + number k)) (λ u h x. f (u .target) (target-lt ws ms u h) (sym (other (7 * 2048 + u .target) (omega arith)) ∙ subst (λ j. flagAt after j (u .target) ≡ 0) e x)))
-        (λ d. same-at after k (λ i l e. g .grown (number k) i (row-low k) l (sym (other (number k * 2048 + i) (omega (arith, number-bounds k))) ∙ e))
-        (λ i l e. g .grown (8 + number k) i (row-high k) l (sym (other ((8 + number k) * 2048 + i) (omega (arith, number-bounds k))) ∙ e)) (z .quiet k (λ e. absurd (d (ap number e)))));
-    least = λ k p. least-at after k (partner-loop flags k p) (λ i l f. let w = g .lower (number k) i (row-low k) l f in omega (arith, w, other (number k * 2048 + i) (omega (arith, number-bounds k))))
-        (λ i l e. g .grown (8 + number k) i (row-high k) l (sym (other ((8 + number k) * 2048 + i) (omega (arith, number-bounds k))) ∙ e)) p;
+        (λ d. same-at after k (λ i l e. g .grown (number k) i (row-low k (n .0)) l (sym (other (number k * 2048 + i) (omega (arith, target-bounds k (n .0)))) ∙ e))
+        (λ i l e. g .grown (8 + number k) i (row-high k (n .0)) l (sym (other ((8 + number k) * 2048 + i) (omega (arith, target-bounds k (n .0)))) ∙ e)) (z .quiet k (n .0, λ e. absurd (d (ap number e)))));
+    least = λ k p. let n = partner-loop flags k p in least-at after k n (λ i l f. let w = g .lower (number k) i (row-low k (n .0)) l f in omega (arith, w, other (number k * 2048 + i) (omega (arith, target-bounds k (n .0)))))
+        (λ i l e. g .grown (8 + number k) i (row-high k (n .0)) l (sym (other ((8 + number k) * 2048 + i) (omega (arith, target-bounds k (n .0)))) ∙ e)) p;
     bounded = most-at after (λ i l. omega (arith, g .more i l, other (mosts + i) (omega arith))) (λ i l e. g .grown 11 i (omega arith) l (sym (other (11 * 2048 + i) (omega arith)) ∙ e));
     gaps = gaps-at after (λ i l. other (nexts + i) (omega arith) ∙ g .rest i l);
   }

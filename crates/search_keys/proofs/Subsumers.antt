@@ -1,7 +1,7 @@
 -- Kinds 5 and 8: the targets of a clause that is subsumed are those of the clause that subsumes it.
-use mathlib.Core.Path.{_≡_, refl, ap, subst, _∙_}
+use mathlib.Core.Path.{_≡_, refl, ap, _∙_}
 use mathlib.Core.Logic.{_≢_}
-use mathlib.Core.Bool.{So, cond, false≢true}
+use mathlib.Core.Bool.{So, cond}
 use mathlib.Core.List.{List}
 use Prim.Native.Nat.{ℕ, _+_}
 use native.Mathlib.Omega.{arith}
@@ -19,6 +19,7 @@ use Rattle.search_keys.specs.State.{State, Subsumer}
 use Rattle.search_spreads.specs.Spreads.{PartnerSpread}
 use Rattle.search_spreads.proofs.Clues.{spread-unnamed}
 use Rattle.search_flags.proofs.Flags.{raising-none}
+use Rattle.search_keys.proofs.States.{partner-loop}
 
 module _ (ws ms index hs rs flags : List ℕ) (z : State ws ms index hs rs flags) (kind x q : ℕ) (s : Subsumer ws ms flags kind x q) (k : PartnerKind kind) (d : kind ≢ 3) where
   spared : So (spares (kindOf kind))
@@ -38,7 +39,7 @@ module _ (ws ms index hs rs flags : List ℕ) (z : State ws ms index hs rs flags
       let l = z .least (kindOf kind) (k .uses) u refl stale-key a in
       let y : cond (usesPartner (kindOf kind)) q 0 ≡ q = ap (λ b. cond b q 0) (k .uses) in
       let r : flagAt flags (number (kindOf kind)) t ≡ flagAt flags kind t = ap (λ i. flagAt flags i t) same-row in
-      (((λ m. z .quiet (kindOf kind) (λ e. absurd (false≢true (subst (λ j. So (usesPartner j)) e (k .uses)))) .calm u refl (r ∙ m) stale-key a), omega (arith, l, y, r, s .less)), λ e. absurd (d e))
+      (((λ m. z .quiet (kindOf kind) (partner-loop flags (kindOf kind) (k .uses)) .calm u refl (r ∙ m) stale-key a), omega (arith, l, y, r, s .less)), λ e. absurd (d e))
 
   -- a target of x is one of q, so it is flagged already
   pub subsumer-spread : PartnerSpread ws ms flags flags kind x

@@ -1,6 +1,6 @@
 -- What the search knows: the arrays beside the words and the marks, and which targets it need not look at. In the order in which they are used:
 -- `Quiet` (`rewriting/proofs/Quiet`): of a kind, no step is eligible but at a flagged target or with a fresh key.
--- `State`, between two steps: the arrays are right, and every kind is quiet.
+-- `State`, between two steps: the arrays are right, and every kind but 9 is quiet.
 -- `Settled`, of a kind: no key is fresh. `Prepared`: that, and for kind 7 the reach is known; then its search can begin.
 -- `Calm`, while a kind is searched: quiet with no fresh key, so that a target without a flag has no eligible step.
 -- `Lifted`: a flag went up past clauses that are gone, and the kind is still calm.
@@ -14,7 +14,7 @@ use lib.ListN.{length, getD}
 use Rattle.rewriting.specs.Marked.{entry, left}
 use Rattle.rewriting.specs.Steps.{Step, condition}
 use Rattle.rewriting.specs.Reducer.{eligible}
-use Rattle.rewriting.specs.Kinds.{Kind, success, loop, subsumed, number, kindOf, usesPartner}
+use Rattle.rewriting.specs.Kinds.{Kind, success, loop, subsumed, number, kindOf, usesPartner, onTarget}
 use Rattle.rewriting.proofs.Quiet.{Quiet, stale, key}
 use Rattle.table.specs.View.{view}
 use Rattle.step_parts.specs.Parts.{Ready}
@@ -83,7 +83,11 @@ pub record KeySpread (ws ms flags flags' : List ℕ) (kind x : ℕ) : Type 0 whe
 abbrev pub Settled : List ℕ → ℕ → Type 0
 Settled flags kind = (x : ℕ) → x < 2048 → flagAt flags (8 + kind) x ≡ 0
 
--- Between two steps: the arrays are what the words and the marks say, and no step is eligible but those at flagged targets and fresh keys.
+-- the search of a kind goes by its flags: kind 9 has none, and kind 7 needs the reach
+abbrev pub Flagged : Kind → List ℕ → Type 0
+Flagged k flags = So (onTarget k) × (k ≡ loop → flagAt flags 0 0 ≡ 0)
+
+-- Between two steps: the arrays are what the words and the marks say, and no step of kinds 1 to 8 is eligible but those at flagged targets and fresh keys.
 -- The reach is that of the program while its flag is 0.
 pub record State (ws ms index hs rs flags : List ℕ) : Type 0 where
   pub ready : Ready ws ms index
@@ -92,7 +96,7 @@ pub record State (ws ms index hs rs flags : List ℕ) : Type 0 where
   pub bytes : getD ws 0 0 ≤ length rs
   pub rows : Rows (getD ws 1 0) flags
   pub reached : flagAt flags 0 0 ≡ 0 → Reached ws ms rs
-  pub quiet : (k : Kind) → (k ≡ loop → flagAt flags 0 0 ≡ 0) → Quiet (getD ws 0 0) (view ws ms) k (flagAt flags (number k)) (flagAt flags (8 + number k))
+  pub quiet : (k : Kind) → Flagged k flags → Quiet (getD ws 0 0) (view ws ms) k (flagAt flags (number k)) (flagAt flags (8 + number k))
   pub least : (k : Kind) → Least ws ms k (flagAt flags (number k)) (flagAt flags (8 + number k))
   pub bounded : Most ws ms (most flags) (flagAt flags 11)
   pub gaps : Gaps ws ms flags

@@ -20,6 +20,7 @@ use Rattle.rewriting.specs.Search.{stepWith, firstPartner, firstTarget}
 use Rattle.rewriting.proofs.Order.{firstIn, asked, walked, atom-first, target-gone, partner-end, partner-hit, Before, search-end, search-hit}
 use Rattle.rewriting.proofs.Equal.{eligible-ask}
 use Rattle.rewriting.proofs.Quiet.{key-with}
+use Rattle.rewriting.proofs.Rows.{kindOf-on-target}
 use Rattle.table.specs.View.{part, view}
 use Rattle.table.proofs.View.{length-view}
 use Rattle.table.proofs.Parts.{Straight, view-straight, part-slice}
@@ -50,7 +51,8 @@ walked-is (suc (suc (suc (suc zero)))) c k = refl
 walked-is (suc (suc (suc (suc (suc zero))))) c k = absurd (true≢false (k .alone))
 walked-is (suc (suc (suc (suc (suc (suc zero)))))) c k = refl
 walked-is (suc (suc (suc (suc (suc (suc (suc zero))))))) c k = refl
-walked-is (suc (suc (suc (suc (suc (suc (suc (suc n)))))))) c k = absurd (true≢false (k .alone))
+walked-is (suc (suc (suc (suc (suc (suc (suc (suc zero)))))))) c k = absurd (true≢false (k .alone))
+walked-is (suc (suc (suc (suc (suc (suc (suc (suc (suc n))))))))) c k = absurd (let z = k .high in omega arith)
 
 -- kinds 4 and 6
 pub asked-heads : (kind : ℕ) (cs : List Clause) (c : Clause) (a : ℕ) → AtomKind kind → kind ≢ 1 → kind ≢ 2 → kind ≢ 7 → asked (kindOf kind) cs c a ≡ inNoHead cs a
@@ -62,7 +64,8 @@ asked-heads (suc (suc (suc (suc zero)))) cs c a k x y z = refl
 asked-heads (suc (suc (suc (suc (suc zero))))) cs c a k x y z = absurd (true≢false (k .alone))
 asked-heads (suc (suc (suc (suc (suc (suc zero)))))) cs c a k x y z = refl
 asked-heads (suc (suc (suc (suc (suc (suc (suc zero))))))) cs c a k x y z = absurd (z refl)
-asked-heads (suc (suc (suc (suc (suc (suc (suc (suc n)))))))) cs c a k x y z = absurd (true≢false (k .alone))
+asked-heads (suc (suc (suc (suc (suc (suc (suc (suc zero)))))))) cs c a k x y z = absurd (true≢false (k .alone))
+asked-heads (suc (suc (suc (suc (suc (suc (suc (suc (suc n))))))))) cs c a k x y z = absurd (let z = k .high in omega arith)
 
 -- ---- the walk of a part
 
@@ -84,7 +87,7 @@ module _ (ws ms index : List ℕ) (r : Ready ws ms index) (t kind : ℕ) (h : t 
         fits = q .fits;
         below = words-below ws (r .placed .passed) t h (walkedPart kind) s q;
         finds = ap (firstIn (λ a. step (kindOf kind) t 0 a) (asked (kindOf kind) (left (view ws ms)) c)) (sym p)
-            ∙ sym (atom-first (getD ws 0 0) (view ws ms) (kindOf kind) t (k .alone) e (subst (λ l. So (ascending l)) g (w .0)) (subst (λ l. (a : ℕ) → a ∈ l → a < getD ws 0 0) g (w .1)));
+            ∙ sym (atom-first (getD ws 0 0) (view ws ms) (kindOf kind) t (kindOf-on-target kind (k .high)) (k .alone) e (subst (λ l. So (ascending l)) g (w .0)) (subst (λ l. (a : ℕ) → a ∈ l → a < getD ws 0 0) g (w .1)));
       }
 
   pub walk-gone : entry (view ws ms) t .kept ≡ false → PartWalk ws ms kind t 0 0

@@ -5,6 +5,7 @@ use native.Mathlib.Omega.{arith}
 use lib.ListN.{getD}
 use Rattle.rewriting.specs.Marked.{entry}
 use Rattle.rewriting.proofs.Effect.{target-kept}
+use Rattle.rewriting.proofs.Rows.{kindOf-on-target}
 use Rattle.table.specs.View.{view}
 use Rattle.step_parts.specs.Parts.{Ready}
 use Rattle.step_conditions.specs.Known.{stepOf, Tallied}
@@ -23,6 +24,7 @@ lose-reach-requires c κs = (c .before .before .before .before .before .before .
 lower-heads-requires : tie.Need-lower-heads-requires
 lower-heads-requires c κs =
     let t = c .before .before .before .before .before .before .before .before .before .before .before .before .before .before .before .pre .1 .0 .applies in
+    let high = c .before .before .before .before .before .before .before .before .before .before .before .before .before .before .before .pre .1 .0 .high in
     let u = stepOf (c .before .before .before .before .before .before .before .before .before .before .before .before .before .before .before .args .step) in (
       c .before .before .before .before .before .before .before .before .before .before .before .before .before .before .before .pre .0 .ready,
       (
@@ -40,8 +42,9 @@ make-step-requires c κs = let t = c .before .before .before .before .before .be
 open-head-requires : tie.Need-open-head-requires
 open-head-requires c κs =
     let t = c .before .before .before .before .before .before .before .before .before .before .before .before .before .before .before .before .before .before .before .before .before .before .before .before .pre .1 .0 .applies in
+    let high = c .before .before .before .before .before .before .before .before .before .before .before .before .before .before .before .before .before .before .before .before .before .before .before .before .pre .1 .0 .high in
     let u = stepOf (c .before .before .before .before .before .before .before .before .before .before .before .before .before .before .before .before .before .before .before .before .before .before .before .before .args .step) in (
-      subst (λ k. Ready (c .before .before .before .before .before .before .before .before .before .before .before .before .before .before .before .before .before .before .before .before .before .before .before .before .args .words .now) k (c .before .before .before .before .before .before .before .before .before .before .before .before .before .before .before .before .before .before .before .before .before .before .before .before .args .index .now)) (sym (c .before .before .before .before .make-step .ensures)) (ready-after _ _ _ _ _ _ (c .before .before .before .before .before .before .before .before .before .before .before .before .before .before .before .before .before .before .before .before .before .before .before .before .pre .0) u t),
+      subst (λ k. Ready (c .before .before .before .before .before .before .before .before .before .before .before .before .before .before .before .before .before .before .before .before .before .before .before .before .args .words .now) k (c .before .before .before .before .before .before .before .before .before .before .before .before .before .before .before .before .before .before .before .before .before .before .before .before .args .index .now)) (sym (c .before .before .before .before .make-step .ensures)) (ready-after _ _ _ _ _ _ (c .before .before .before .before .before .before .before .before .before .before .before .before .before .before .before .before .before .before .before .before .before .before .before .before .pre .0) u t (kindOf-on-target _ high)),
       (omega (arith, c .before .before .before .before .before .before .before .before .before .before .before .before .before .before .before .before .before .wide .ensures .0, applied-lt (c .before .before .before .before .before .before .before .before .before .before .before .before .before .before .before .before .before .before .before .before .before .before .before .before .args .words .now) (c .before .before .before .before .before .before .before .before .before .before .before .before .before .before .before .before .before .before .before .before .before .before .before .before .args .marks .now) u t), c .before .before .before .before .before .before .before .before .before .before .before .before .before .lose-reach .ensures .opened .long ∙ c .before .before .before .before .before .before .before .before .before .before .before .before .before .before .before .before .before .before .before .before .before .before .before .before .pre .0 .rows .long),
     )
 
@@ -51,6 +54,7 @@ same-length-3 c = c .before .before .open-head .ensures .0 .long ∙ c .before .
 returns : tie.Need-returns
 returns c =
     let t = c .before .before .before .before .before .before .before .before .before .before .before .before .before .before .before .before .before .before .before .before .before .before .before .before .before .before .before .pre .1 .0 .applies in
+    let high = c .before .before .before .before .before .before .before .before .before .before .before .before .before .before .before .before .before .before .before .before .before .before .before .before .before .before .before .pre .1 .0 .high in
     let u = stepOf (c .before .before .before .before .before .before .before .before .before .before .before .before .before .before .before .before .before .before .before .before .before .before .before .before .before .before .before .args .step) in
     let flags' = c .before .before .open-head .last .1 .1 .1 .0 in
     let hs' = c .before .before .before .before .before .before .before .before .before .before .before .lower-heads .last .1 .1 .1 .1 .0 in
@@ -61,7 +65,7 @@ returns c =
     let b = subst (λ k. AllFresh flags' (entry (view (c .before .before .before .before .before .before .before .before .before .before .before .before .before .before .before .before .before .before .before .before .before .before .before .before .before .before .before .args .words .now) k) (c .before .before .before .before .before .before .before .before .before .before .before .before .before .before .before .before .before .before .before .before .before .before .before .before .before .before .before .args .step .target) .clause .head)) (c .before .before .before .before .before .before .before .make-step .ensures) a in (
       c .before .before .before .before .before .before .before .make-step .ensures,
       subst (λ k. State (c .before .before .before .before .before .before .before .before .before .before .before .before .before .before .before .before .before .before .before .before .before .before .before .before .before .before .before .args .words .now) k (c .before .before .before .before .before .before .before .before .before .before .before .before .before .before .before .before .before .before .before .before .before .before .before .before .before .before .before .args .index .now) hs' (c .before .before .before .before .before .before .before .before .before .before .before .before .before .before .before .before .before .before .before .before .before .before .before .before .before .before .before .args .reach .now) flags') (sym (c .before .before .before .before .before .before .before .make-step .ensures))
-          (state-deleted _ _ _ _ _ _ (c .before .before .before .before .before .before .before .before .before .before .before .before .before .before .before .before .before .before .before .before .before .before .before .before .before .before .before .pre .0) u t flags' (opened-more _ _ _ (g .opened) (o .0)) hs' (c .before .before .before .before .before .before .before .before .before .before .before .before .before .before .before .before .before .before .before .before .before .before .before .before .before .before .before .pre .1 .1) l (λ e. g .keeps (o .0 .grown 0 0 (omega arith) (omega arith) e)) b),
+          (state-deleted _ _ _ _ _ _ (c .before .before .before .before .before .before .before .before .before .before .before .before .before .before .before .before .before .before .before .before .before .before .before .before .before .before .before .pre .0) u t (kindOf-on-target _ high) flags' (opened-more _ _ _ (g .opened) (o .0)) hs' (c .before .before .before .before .before .before .before .before .before .before .before .before .before .before .before .before .before .before .before .before .before .before .before .before .before .before .before .pre .1 .1) l (λ e. g .keeps (o .0 .grown 0 0 (omega arith) (omega arith) e)) b),
     )
 
 pub delete-clause-spec : {M : Type 1} → statement M

@@ -1,6 +1,7 @@
 -- `drop_literal`: the mark, then what the step opens.
 use mathlib.Core.Path.{sym, subst}
 use native.Mathlib.Omega.{arith}
+use Rattle.rewriting.proofs.Rows.{kindOf-on-target}
 use Rattle.step_conditions.specs.Known.{stepOf}
 use Rattle.search_keys.specs.State.{State}
 use Rattle.search_keys.proofs.States.{few-clauses}
@@ -23,7 +24,7 @@ returns c =
     let f = subst (PartnerFresh flags') (c .before .before .before .wide .ensures .0) (c .before .before .open-partner .ensures .1) in (
       c .before .before .before .before .before .before .before .make-step .ensures,
       subst (λ k. State (c .before .before .before .before .before .before .before .before .before .before .before .before .before .before .before .args .words .now) k (c .before .before .before .before .before .before .before .before .before .before .before .before .before .before .before .args .index .now) (c .before .before .before .before .before .before .before .before .before .before .before .before .before .before .before .args .heads .now) (c .before .before .before .before .before .before .before .before .before .before .before .before .before .before .before .args .reach .now) flags') (sym (c .before .before .before .before .before .before .before .make-step .ensures))
-          (state-dropped _ _ _ _ _ _ (c .before .before .before .before .before .before .before .before .before .before .before .before .before .before .before .pre .0) (stepOf (c .before .before .before .before .before .before .before .before .before .before .before .before .before .before .before .args .step)) (c .before .before .before .before .before .before .before .before .before .before .before .before .before .before .before .pre .1 .0 .applies) flags' (c .before .before .open-partner .ensures .0) (c .before .before .before .before .before .before .before .before .before .before .before .before .before .before .before .pre .1 .1) f),
+          (state-dropped _ _ _ _ _ _ (c .before .before .before .before .before .before .before .before .before .before .before .before .before .before .before .pre .0) (stepOf (c .before .before .before .before .before .before .before .before .before .before .before .before .before .before .before .args .step)) (c .before .before .before .before .before .before .before .before .before .before .before .before .before .before .before .pre .1 .0 .applies) (kindOf-on-target _ (c .before .before .before .before .before .before .before .before .before .before .before .before .before .before .before .pre .1 .0 .high)) flags' (c .before .before .open-partner .ensures .0) (c .before .before .before .before .before .before .before .before .before .before .before .before .before .before .before .pre .1 .1) f),
     )
 
 pub drop-literal-spec : {M : Type 1} → statement M
