@@ -2,7 +2,7 @@
 use mathlib.Core.Path.{_≡_, sym, subst, _∙_}
 use mathlib.Core.Bool.{Bool, true, false, So, false≢true, true≢false}
 use mathlib.Core.List.{List}
-use Prim.Native.Nat.{ℕ, _<_}
+use Prim.Native.Nat.{ℕ, _≤_, _<_}
 use lib.ListN.{getD}
 use Rattle.semantics.proofs.Tests.{not-so}
 use Rattle.rewriting.specs.Marked.{entry}
@@ -10,6 +10,7 @@ use Rattle.rewriting.specs.Steps.{applies}
 use Rattle.rewriting.specs.Kinds.{kindOf}
 use Rattle.rewriting.specs.Uses.{drops, asksHeads}
 use Rattle.rewriting.proofs.Effect.{target-kept}
+use Rattle.rewriting.proofs.Rows.{kindOf-on-target}
 use Rattle.table.specs.View.{view}
 use Rattle.table.specs.Effects.{marksAfter}
 use Rattle.step_parts.specs.Parts.{Ready}
@@ -44,9 +45,9 @@ module _ (ws ms index : List ℕ) (r : Ready ws ms index) (s : Step) (ok : So (a
       ),
     )
 
-    module _ (t : ℕ) (z : t ≡ s .target) (d : drops (kindOf (s .kind)) ≡ false) (hs′ : List ℕ) (f : m .heads ≡ true → Tallied (entry (view ws ms) t .clause .head) hs′ hs) where
+    module _ (t : ℕ) (z : t ≡ s .target) (on : s .kind ≤ 8) (d : drops (kindOf (s .kind)) ≡ false) (hs′ : List ℕ) (f : m .heads ≡ true → Tallied (entry (view ws ms) t .clause .head) hs′ hs) where
       lowered : m .heads ≡ true → Heads ws ms′ hs′
-      lowered q = rw e (heads-lowered ws ms (r .placed .passed) (r .marks) (getD ws 0 0) (stepOf s) ok (not-so d) hs hs′ (k q) (subst (λ i. Tallied (entry (view ws ms) i .clause .head) hs′ hs) z (f q)))
+      lowered q = rw e (heads-lowered ws ms (r .placed .passed) (r .marks) (getD ws 0 0) (stepOf s) (kindOf-on-target (s .kind) on) ok (not-so d) hs hs′ (k q) (subst (λ i. Tallied (entry (view ws ms) i .clause .head) hs′ hs) z (f q)))
 
       pub after-idle : asksHeads (kindOf (s .kind)) ≡ true → Left-known ws ms s m ms′ hs′ m
       after-idle x = (e, (lowered, record { stays = λ rs g q. rw e (reached-idle ws ms (r .placed .passed) (r .marks) (getD ws 0 0) (stepOf s) ok (not-so d) x rs (g q)) }))

@@ -1,18 +1,19 @@
 -- Laws of a step: its questions in their order, and what they come to.
 use mathlib.Core.Path.{_≡_, refl, sym, ap, subst, _∙_}
-use mathlib.Core.Logic.{by-cases}
-use mathlib.Core.Bool.{Bool, true, false, not, cond, _&&_, So}
+use mathlib.Core.Logic.{_≢_, by-cases}
+use mathlib.Core.Bool.{Bool, true, false, not, cond, _&&_, So, false≢true}
 use mathlib.Core.List.{List}
 use Prim.Native.Nat.{ℕ, _≤_, _<_}
 use native.Mathlib.Omega.{arith}
 use native.Mathlib.Decide.{ℕ-discrete}
 use lib.Dec.{eqb, ltb, leb}
 use lib.ListN.{length, getD, List·getD-eq-default}
-use borrow.Author.Tests.{le-leb, lt-leb, leb-true, eq-eqb, ne-eqb}
+use borrow.Author.Tests.{le-leb, lt-leb, leb-true, eq-eqb, ne-eqb, lt-ltb, le-ltb}
 use Rattle.semantics.proofs.Tests.{and-iff}
 use Rattle.rewriting.specs.Marked.{Marked, gone, entry, left}
 use Rattle.rewriting.specs.Steps.{inNoHead, targetKept, partnerKept, atomKnown, atomMatches, atomHeaded, condition, conditionHolds, applies}
 use Rattle.rewriting.specs.Kinds.{number, kindOf, usesPartner, usesAtom}
+use Rattle.rewriting.specs.Exclusion.{excludes}
 use Rattle.rewriting.proofs.Left.{kept-lt}
 use Rattle.step_kinds.proofs.Numbers.{kind-number}
 use Rattle.rewriting.proofs.Search.{partner-lt}
@@ -20,7 +21,8 @@ use Rattle.answers.specs.declared.StepQuestion.{StepQuestion}
 use Rattle.answers.specs.declared.StepQuestion.the-variants.{KindKnown, TargetKept, PartnerKept, AtomKnown, AtomMatches, AtomHeaded, ConditionHolds}
 use Rattle.table.specs.View.{view}
 use Rattle.table.specs.Effects.{marksAfter}
-use Rattle.table.proofs.View.{length-view}
+use Rattle.table.specs.Clearing.{marksWithout}
+use Rattle.table.proofs.View.{length-view, after-off}
 use Rattle.step_parts.specs.declared.Single.the-variants.{One, Other}
 use Rattle.step_parts.specs.Parts.{singleOf}
 use Rattle.step_reach.specs.Bytes.{Reached}
@@ -52,14 +54,14 @@ shape-pair R f g h n P k s a b x =
 
 -- ---- kinds by their numbers
 
-pub known-kind : (k : ℕ) → 1 ≤ k → k ≤ 8 → kindKnown k ≡ true
-known-kind k a b = rw (le-leb 1 k a, le-leb k 8 b)
+pub known-kind : (k : ℕ) → 1 ≤ k → k ≤ 9 → kindKnown k ≡ true
+known-kind k a b = rw (le-leb 1 k a, le-leb k 9 b)
 
 pub low-kind : (k : ℕ) → k < 1 → kindKnown k ≡ false
 low-kind k h = rw (lt-leb 1 k h)
 
-pub high-kind : (k : ℕ) → 1 ≤ k → 8 < k → kindKnown k ≡ false
-high-kind k a h = rw (le-leb 1 k a, lt-leb k 8 h)
+pub high-kind : (k : ℕ) → 1 ≤ k → 8 < k → k ≢ 9 → kindKnown k ≡ false
+high-kind k a h d = rw (le-leb 1 k a, lt-leb k 9 (omega arith))
 
 -- ---- questions 12 to 15 and 29
 
@@ -140,39 +142,52 @@ ask-inv true q v e = (refl, e)
 ask-inv false q v e = let z : _≡_ {A = ℕ} 0 1 = cc in absurd (omega arith)
 
 module _ (n : ℕ) (P : Marked) (s : Step) where
-  pub shape-both : (v : Verdict) → Fine ≡ shapeOf n P s v → Shaped n P s × (v ≡ Fine)
+  -- what is answered yes where no question stops the step
+  pub shape-all : (v : Verdict) → Fine ≡ shapeOf n P s v
+      → (kindKnown (s .kind) ≡ true) × (targetKept P (stepOf s) ≡ true) × (partnerKept P (stepOf s) ≡ true) × (atomKnown n (stepOf s) ≡ true) × (atomMatches P (stepOf s) ≡ true) × (v ≡ Fine)
   unfolding shapeQuestions
-  shape-both v e =
+  shape-all v e =
       let (a, e1) = ask-inv _ _ _ (sym e) in
       let (b, e2) = ask-inv _ _ _ e1 in
       let (c, e3) = ask-inv _ _ _ e2 in
       let (d, e4) = ask-inv _ _ _ e3 in
       let (x, e5) = ask-inv _ _ _ e4 in
-      let w = and-iff (leb 1 (s .kind)) (leb (s .kind) 8) .0 a in
-      (record { low = leb-true _ _ (w .0); high = leb-true _ _ (w .1); target = b; partner = c; atom = d; matches = x }, e5)
+      (a, b, c, d, x, e5)
 
-  pub shape-inv : Fine ≡ shapeOf n P s Fine → Shaped n P s
-  shape-inv e = shape-both Fine e .0
+  pub shape-kind : (v : Verdict) → Fine ≡ shapeOf n P s v → (1 ≤ s .kind) × (s .kind ≤ 9)
+  shape-kind v e = let w = and-iff (leb 1 (s .kind)) (leb (s .kind) 9) .0 (shape-all v e .0) in (leb-true _ _ (w .0), leb-true _ _ (w .1))
+
+  pub shape-inv : s .kind ≢ 9 → Fine ≡ shapeOf n P s Fine → Shaped n P s
+  shape-inv d e =
+      let (l, h) = shape-kind Fine e in
+      let (a, b, c, x, y, z) = shape-all Fine e in
+      record { low = l; high = omega (arith, l, h, d); target = b; partner = c; atom = x; matches = y }
 
   shape-no : (q : StepQuestion) (v : Verdict) → No q ≡ shapeOf n P s Fine → No q ≡ shapeOf n P s v
   shape-no q v = shape-pair (λ x y. No q ≡ x → No q ≡ y) No No (λ r e. e) n P (s .kind) (stepOf s) Fine v (λ e. let z : _≡_ {A = ℕ} 0 1 = cc in absurd (omega arith))
 
   shape-on : Shaped n P s → (v : Verdict) → v ≡ shapeOf n P s v
-  shape-on h v = shape-fine n P s v (known-kind (s .kind) (h .low) (h .high)) (h .target) (h .partner) (h .atom) (h .matches)
+  shape-on h v = shape-fine n P s v (known-kind (s .kind) (h .low) (omega (arith, h .high))) (h .target) (h .partner) (h .atom) (h .matches)
+
+  applies-by : So (targetKept P (stepOf s)) → So (partnerKept P (stepOf s)) → So (atomKnown n (stepOf s)) → So (conditionHolds P (stepOf s)) → So (applies n P (stepOf s))
+  unfolding applies
+  applies-by t p a c = and-iff (targetKept P (stepOf s)) (partnerKept P (stepOf s) && (atomKnown n (stepOf s) && conditionHolds P (stepOf s))) .1
+      (t, and-iff (partnerKept P (stepOf s)) (atomKnown n (stepOf s) && conditionHolds P (stepOf s)) .1 (p, and-iff (atomKnown n (stepOf s)) (conditionHolds P (stepOf s)) .1 (a, c)))
 
   pub applies-of : Shaped n P s → conditionHolds P (stepOf s) ≡ true → So (applies n P (stepOf s))
-  unfolding applies
-  applies-of h c = and-iff (targetKept P (stepOf s)) (partnerKept P (stepOf s) && (atomKnown n (stepOf s) && conditionHolds P (stepOf s))) .1
-      (h .target, and-iff (partnerKept P (stepOf s)) (atomKnown n (stepOf s) && conditionHolds P (stepOf s)) .1 (h .partner, and-iff (atomKnown n (stepOf s)) (conditionHolds P (stepOf s)) .1 (h .atom, c)))
+  applies-of h c = applies-by (h .target) (h .partner) (h .atom) c
 
   verdict-no : (q : StepQuestion) → No q ≡ shapeOf n P s Fine → No q ≡ verdictAt n P s
   unfolding stepQuestions
   verdict-no q e = shape-no q _ e
 
   -- 32 and 16 have the last word
-  verdict-last : Shaped n P s → (v : Verdict) → v ≡ conditionOf P s → v ≡ verdictAt n P s
+  verdict-by : ((v : Verdict) → v ≡ shapeOf n P s v) → (v : Verdict) → v ≡ conditionOf P s → v ≡ verdictAt n P s
   unfolding stepQuestions
-  verdict-last h v e = e ∙ shape-on h (conditionOf P s)
+  verdict-by h v e = e ∙ h (conditionOf P s)
+
+  verdict-last : Shaped n P s → (v : Verdict) → v ≡ conditionOf P s → v ≡ verdictAt n P s
+  verdict-last h = verdict-by (shape-on h)
 
 -- ---- questions 32 and 16
 
@@ -239,6 +254,60 @@ module _ (ws ms : List ℕ) (s : Step) where
       → (m .reached ≡ true → Reached ws ms rs) → (m′ .heads ≡ true → Heads ws ms′ hs′) → Reach-stays ws ms ms′ m m′ → Step-taken ws ms ms′ hs′ rs s (Made m′)
   made ms′ hs′ rs m m′ h c e k f g = record { verdict = verdict-last n P s h Fine c; marks = e; holding = λ x z. let y : x ≡ m′ = cc in subst (Holding ws ms′ hs′ rs) (sym y) (record { heads = f; reached = g .stays rs k }) }
 
+-- ---- a step of kind 9
+
+module _ (ws ms : List ℕ) (s : Step) (k : s .kind ≡ 9) where
+  abbrev nineP : Marked
+  nineP = view ws ms
+
+  known-nine : kindKnown (s .kind) ≡ true
+  known-nine = rw k refl
+
+  matches-nine : atomMatches nineP (stepOf s) ≡ true
+  matches-nine = rw k refl
+
+  partner-nine : (b : Bool) → b ≡ eqb (s .partner) 0 → b ≡ partnerKept nineP (stepOf s)
+  partner-nine b e = rw k e
+
+  atom-nine : (b : Bool) → b ≡ ltb (s .atom) (getD ws 0 0) → b ≡ atomKnown (getD ws 0 0) (stepOf s)
+  atom-nine b e = rw k e
+
+  module _ (hs rs : List ℕ) where
+    pub nine-13 : entry nineP (s .target) .kept ≡ false → Step-taken ws ms ms hs rs s (Not TargetKept)
+    nine-13 a = not-shaped ws ms s hs rs TargetKept (shape-13 (getD ws 0 0) nineP s Fine known-nine a)
+
+    pub nine-14 : entry nineP (s .target) .kept ≡ true → (s .partner ≡ 0 → ⊥) → Step-taken ws ms ms hs rs s (Not PartnerKept)
+    nine-14 a b = not-shaped ws ms s hs rs PartnerKept (shape-14 (getD ws 0 0) nineP s Fine known-nine a (sym (partner-nine false (sym (ne-eqb (s .partner) 0 b)))))
+
+    pub nine-15 : entry nineP (s .target) .kept ≡ true → s .partner ≡ 0 → getD ws 0 0 ≤ s .atom → Step-taken ws ms ms hs rs s (Not AtomKnown)
+    nine-15 a b c = not-shaped ws ms s hs rs AtomKnown (shape-15 (getD ws 0 0) nineP s Fine known-nine a (sym (partner-nine true (sym (eq-eqb (s .partner) 0 b)))) (sym (atom-nine false (sym (le-ltb (s .atom) (getD ws 0 0) c)))))
+
+    module _ (a : entry nineP (s .target) .kept ≡ true) (b : s .partner ≡ 0) (c : s .atom < getD ws 0 0) where
+      nine-shaped : (v : Verdict) → v ≡ shapeOf (getD ws 0 0) nineP s v
+      nine-shaped v = shape-fine (getD ws 0 0) nineP s v known-nine a (sym (partner-nine true (sym (eq-eqb (s .partner) 0 b)))) (sym (atom-nine true (sym (lt-ltb (s .atom) (getD ws 0 0) c)))) matches-nine
+
+      nine-headed : atomHeaded nineP (stepOf s) ≡ true
+      unfolding atomHeaded
+      nine-headed = rw k refl
+
+      nine-holds : (t : ℕ) (r : Bool) → t ≡ s .target → r ≡ excludes (left nineP) (entry nineP t .clause) (s .atom) → r ≡ conditionHolds nineP (stepOf s)
+      unfolding conditionHolds condition
+      nine-holds t r q e = e ∙ rw (q, k) refl
+
+      pub nine-16 : (t : ℕ) → t ≡ s .target → false ≡ excludes (left nineP) (entry nineP t .clause) (s .atom) → Step-taken ws ms ms hs rs s (Not ConditionHolds)
+      nine-16 t q e = record {
+        verdict = verdict-by (getD ws 0 0) nineP s nine-shaped (No ConditionHolds) (condition-16 nineP s nine-headed (sym (nine-holds t false q e)));
+        marks = refl;
+        holding = λ m z. let y : _≡_ {A = ℕ} 0 1 = cc in absurd (omega arith);
+      }
+
+      pub nine-made : (t : ℕ) (ms′ : List ℕ) → t ≡ s .target → true ≡ excludes (left nineP) (entry nineP t .clause) (s .atom) → ms′ ≡ marksWithout ws ms (s .atom) → Step-taken ws ms ms′ hs rs s (Made (record { heads = false; reached = false }))
+      nine-made t ms′ q e d = record {
+        verdict = verdict-by (getD ws 0 0) nineP s nine-shaped Fine (condition-fine nineP s nine-headed (sym (nine-holds t true q e)));
+        marks = d ∙ sym (after-off ws ms (stepOf s) (rw k refl));
+        holding = λ m z. let y : m ≡ record { heads = false; reached = false } = cc in subst (Holding ws ms′ hs rs) (sym y) (record { heads = λ x. absurd (false≢true x); reached = λ x. absurd (false≢true x) });
+      }
+
 -- ---- a verdict, whatever follows the questions
 
 -- the whole of the questions, as `shape-pair` has those before 32
@@ -273,4 +342,4 @@ questions-all S stop n P k s go h = questions-pair (λ x y. S x) stop stop h n P
 -- A step that no question is answered no of is applicable.
 pub fine-applies : (n : ℕ) (P : Marked) (s : Step) → Fine ≡ verdictAt n P s → So (applies n P (stepOf s))
 unfolding stepQuestions
-fine-applies n P s e = let w = shape-both n P s (conditionOf P s) e in applies-of n P s (w .0) (condition-inv P s (sym (w .1)))
+fine-applies n P s e = let (a, b, c, d, x, y) = shape-all n P s (conditionOf P s) e in applies-by n P s b c d (condition-inv P s (sym y))

@@ -1,4 +1,4 @@
--- One step: questions 12 to 16 of document 01, with 29 of slip 1 and 32 of slip 6, in their order.
+-- One step: questions 12 to 16 of document 01, with 29 of slip 1 and 32 of slip 6, in their order, and kind 9 of slip 8.
 use mathlib.Core.Bool.{Bool, _&&_}
 use Prim.Native.Nat.{ℕ}
 use lib.Dec.{leb}
@@ -8,9 +8,9 @@ use Rattle.answers.specs.declared.StepQuestion.{StepQuestion}
 use Rattle.answers.specs.declared.StepQuestion.the-variants.{KindKnown, TargetKept, PartnerKept, AtomKnown, AtomMatches, AtomHeaded, ConditionHolds}
 use Rattle.answers.specs.Answers.{ask}
 
--- "12 Is the kind 1 to 8?"
+-- "12 Is the kind 1 to 8?"; slip 8: "Question 12 allows 9"
 abbrev pub kindKnown : ℕ → Bool
-kindKnown k = leb 1 k && leb k 8
+kindKnown k = leb 1 k && leb k 9
 
 module _ {A : Type 0} where
   -- "13 Is the target below m and kept? 14 Is the partner below m, kept and another clause, or 0 where unused? 15 Is the atom below n, or 0

@@ -30,7 +30,7 @@ conditionOf P s = conditionQuestions No P (stepOf s) Fine
 abbrev pub verdictAt : ℕ → Marked → Step → Verdict
 verdictAt n P s = stepQuestions No n P (s .kind) (stepOf s) Fine
 
--- Questions 12 to 15 and 29 are answered yes.
+-- Questions 12 to 15 and 29 are answered yes, and the kind is not 9.
 pub record Shaped (n : ℕ) (P : Marked) (s : Step) : Type 0 where
   pub low : 1 ≤ s .kind
   pub high : s .kind ≤ 8

@@ -1,7 +1,9 @@
 // One step of a list: questions 12 to 16 with 29 and 32 before 16, then the step made; what is known of the program is kept from step to step.
 ghost use mathlib.Core.Path.{_≡_};
+ghost use mathlib.Core.Logic.{_≢_};
+ghost use mathlib.Core.List.{List};
 ghost use mathlib.Core.Bool.{true, not, _&&_};
-ghost use Prim.Native.Nat.{_≤_, _<_};
+ghost use Prim.Native.Nat.{ℕ, _≤_, _<_};
 ghost use lib.Dec.{eqb};
 ghost use lib.ListN.{length, getD};
 ghost use mathlib.Core.Bool.{So};
@@ -92,9 +94,9 @@ fn atom_matches(words: &[u16], marks: &[u8], index: &[u16], s: Step) -> bool
     }
 }
 
-// Questions 12 to 15 and 29.
+// Questions 12 to 15 and 29 of a step of another kind than 9.
 fn shape(words: &[u16], marks: &[u8], index: &[u16], s: Step) -> Verdict
-    requires { ⌜ Ready (now words) (now marks) (now index) ⌝ }
+    requires { ⌜ (Ready (now words) (now marks) (now index)) × (s .kind ≢ 9) ⌝ }
     ensures { λ r. ⌜ r ≡ shapeOf (getD (now (words .entry)) 0 0) (view (now (words .entry)) (now (marks .entry))) s Fine ⌝ }
 {
     let kind = s.kind;
@@ -289,8 +291,32 @@ fn condition(
 
 // ---- a step
 
-// A step is asked, and made if no question is answered no.
-pub fn take_step(
+// A step of kind 9 is asked, and made if no question is answered no. Nothing is known after it.
+fn take_exclusion(words: &[u16], marks: &mut [u8], index: &[u16], s: Step) -> Taken
+    requires { ⌜ (Ready (now words) (now marks) (now index)) × (s .kind ≡ 9) ⌝ }
+    ensures { λ r. ⌜ ((hs rs : List ℕ) → Step-taken (now (words .entry)) (now (marks .entry)) (now (marks .exit)) hs rs s r) ⌝ }
+{
+    if !clause_kept(words, marks, index, s.target) {
+        return Taken::Not(StepQuestion::TargetKept);
+    }
+    if s.partner != 0 {
+        return Taken::Not(StepQuestion::PartnerKept);
+    }
+    if words[0] <= s.atom {
+        return Taken::Not(StepQuestion::AtomKnown);
+    }
+    if !step_exclusion::excluded(words, marks, index, table::wide(s.target), s.atom) {
+        return Taken::Not(StepQuestion::ConditionHolds);
+    }
+    step_exclusion::remove_atom(words, marks, index, s.atom);
+    Taken::Made(Memo {
+        heads: false,
+        reached: false,
+    })
+}
+
+// A step of another kind than 9 is asked, and made if no question is answered no.
+fn take_flagged(
     words: &[u16],
     marks: &mut [u8],
     index: &[u16],
@@ -299,7 +325,7 @@ pub fn take_step(
     memo: Memo,
     s: Step,
 ) -> Taken
-    requires { ⌜ (Ready (now words) (now marks) (now index)) × (((getD (now words) 0 0 ≤ length (now heads)) × (getD (now words) 0 0 ≤ length (now reached))) × (Holding (now words) (now marks) (now heads) (now reached) memo)) ⌝ }
+    requires { ⌜ (Ready (now words) (now marks) (now index)) × (((getD (now words) 0 0 ≤ length (now heads)) × (getD (now words) 0 0 ≤ length (now reached))) × ((Holding (now words) (now marks) (now heads) (now reached) memo) × (s .kind ≢ 9))) ⌝ }
     ensures { λ r. ⌜ Step-taken (now (words .entry)) (now (marks .entry)) (now (marks .exit)) (now (heads .exit)) (now (reached .exit)) s r ⌝ }
 {
     match shape(words, marks, index, s) {
@@ -316,4 +342,23 @@ pub fn take_step(
         Verdict::Fine => {}
     }
     Taken::Made(make(words, marks, index, heads, known, s))
+}
+
+// A step is asked, and made if no question is answered no.
+pub fn take_step(
+    words: &[u16],
+    marks: &mut [u8],
+    index: &[u16],
+    heads: &mut [u16],
+    reached: &mut [u8],
+    memo: Memo,
+    s: Step,
+) -> Taken
+    requires { ⌜ (Ready (now words) (now marks) (now index)) × (((getD (now words) 0 0 ≤ length (now heads)) × (getD (now words) 0 0 ≤ length (now reached))) × (Holding (now words) (now marks) (now heads) (now reached) memo)) ⌝ }
+    ensures { λ r. ⌜ Step-taken (now (words .entry)) (now (marks .entry)) (now (marks .exit)) (now (heads .exit)) (now (reached .exit)) s r ⌝ }
+{
+    if s.kind == 9 {
+        return take_exclusion(words, marks, index, s);
+    }
+    take_flagged(words, marks, index, heads, reached, memo, s)
 }
