@@ -15,7 +15,7 @@ use Rattle.answers.specs.declared.Refusal.the-variants.{Word}
 use Rattle.table.specs.declared.Walk.the-variants.{To, Stop}
 use Rattle.table.specs.Questions.{onWalk}
 use Rattle.answers.specs.Answers.{ask}
-use Rattle.table.specs.Places.{posAt, nextAt, startFrom, startOf}
+use Rattle.table.specs.Places.{headAt, nextAt, startFrom, startOf}
 use Rattle.table.proofs.Laws.{one-left}
 use Rattle.table.proofs.View.{start-le}
 use Rattle.reduced_marks.specs.Allowed.{clearableIn, clearableFrom, allowedWhere, allowed, marksFrom}
@@ -119,20 +119,20 @@ span-same f g at e l h = marks-same f g at (e - at) (λ i a b. h i a (omega arit
 clearable-first : (ws : List ℕ) (at i : ℕ) → at ≤ i → i < at + 1 → clearableIn ws at i ≡ true
 clearable-first ws at i a b = rw (eq-eqb i at (omega arith))
 
-clearable-counts : (ws : List ℕ) (at i : ℕ) → at + 1 ≤ i → i < posAt ws at → clearableIn ws at i ≡ false
-clearable-counts ws at i a b = rw (ne-eqb i at (λ e. omega arith), lt-leb (posAt ws at) i b)
+clearable-counts : (ws : List ℕ) (at i : ℕ) → at + 1 ≤ i → i < headAt at → clearableIn ws at i ≡ false
+clearable-counts ws at i a b = rw (ne-eqb i at (λ e. omega arith), lt-leb (headAt at) i b)
 
-clearable-body : (ws : List ℕ) (at i : ℕ) → posAt ws at ≤ i → i < nextAt ws at → clearableIn ws at i ≡ true
-clearable-body ws at i a b = rw (ne-eqb i at (λ e. omega arith), le-leb (posAt ws at) i a, lt-ltb i (nextAt ws at) b)
+clearable-atoms : (ws : List ℕ) (at i : ℕ) → headAt at ≤ i → i < nextAt ws at → clearableIn ws at i ≡ true
+clearable-atoms ws at i a b = rw (ne-eqb i at (λ e. omega arith), le-leb (headAt at) i a, lt-ltb i (nextAt ws at) b)
 
 clearable-past : (ws : List ℕ) (at i : ℕ) → nextAt ws at ≤ i → clearableIn ws at i ≡ false
-clearable-past ws at i a = rw (ne-eqb i at (λ e. omega arith), le-leb (posAt ws at) i (omega arith), le-ltb i (nextAt ws at) a)
+clearable-past ws at i a = rw (ne-eqb i at (λ e. omega arith), le-leb (headAt at) i (omega arith), le-ltb i (nextAt ws at) a)
 
 clearable-before : (ws : List ℕ) (at i : ℕ) → i < at → clearableIn ws at i ≡ false
-clearable-before ws at i a = rw (ne-eqb i at (λ e. omega arith), lt-leb (posAt ws at) i (omega arith))
+clearable-before ws at i a = rw (ne-eqb i at (λ e. omega arith), lt-leb (headAt at) i (omega arith))
 
--- the three spans of a clause, whose body is from b to d
-pub clause-marks : (ws ms : List ℕ) (at b d : ℕ) → b ≡ posAt ws at → d ≡ nextAt ws at
+-- the three spans of a clause, whose atoms are from b to d
+pub clause-marks : (ws ms : List ℕ) (at b d : ℕ) → b ≡ headAt at → d ≡ nextAt ws at
     → marksFrom (allowedWhere (clearableIn ws at) ms) at (nextAt ws at - at) ≡ onWalk Stop (marksFrom (between ms 0) at (at + 1 - at)) (λ _. onWalk Stop (marksFrom (between ms 1) (at + 1) (b - (at + 1))) (λ _. marksFrom (between ms 0) b (d - b)))
 clause-marks ws ms at b d p q =
     let f = allowedWhere (clearableIn ws at) ms in
@@ -142,7 +142,7 @@ clause-marks ws ms at b d p q =
     ∙ ap (λ w. onWalk Stop (marksFrom (between ms 0) at (at + 1 - at)) (λ _. w))
     (marks-split f (at + 1) b d (omega arith) (omega arith)
     ∙ ap (λ w. onWalk Stop w (λ _. marksFrom f b (d - b))) (span-same f (between ms 1) (at + 1) b (omega arith) (λ i x y. allowed-no (clearableIn ws at) ms i (clearable-counts ws at i x (omega arith))))
-    ∙ ap (λ w. onWalk Stop (marksFrom (between ms 1) (at + 1) (b - (at + 1))) (λ _. w)) (span-same f (between ms 0) b d (omega arith) (λ i x y. allowed-yes (clearableIn ws at) ms i (clearable-body ws at i (omega arith) (omega arith)))))
+    ∙ ap (λ w. onWalk Stop (marksFrom (between ms 1) (at + 1) (b - (at + 1))) (λ _. w)) (span-same f (between ms 0) b d (omega arith) (λ i x y. allowed-yes (clearableIn ws at) ms i (clearable-atoms ws at i (omega arith) (omega arith)))))
 
 -- before the first clause nothing may be cleared
 clearables-before : (ws : List ℕ) (m at i : ℕ) → i < at → clearableFrom ws m at i ≡ false

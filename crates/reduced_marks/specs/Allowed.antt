@@ -9,11 +9,11 @@ use Rattle.answers.specs.declared.Refusal.the-variants.{Word}
 use Rattle.table.specs.declared.Walk.{Walk}
 use Rattle.table.specs.declared.Walk.the-variants.{To, Stop}
 use Rattle.answers.specs.Answers.{ask}
-use Rattle.table.specs.Places.{posAt, nextAt}
+use Rattle.table.specs.Places.{headAt, nextAt}
 
--- "a clause's first word or a body atom": of the clause whose first word is at `at`
+-- "a clause's first word or a body atom", of the clause whose first word is at `at`; slip 8: "question 10 allows 0 at head atoms"
 abbrev pub clearableIn : List ℕ → ℕ → ℕ → Bool
-clearableIn ws at i = eqb i at || (leb (posAt ws at) i && ltb i (nextAt ws at))
+clearableIn ws at i = eqb i at || (leb (headAt at) i && ltb i (nextAt ws at))
 
 -- of one of m clauses, the first of them at `at`
 unfoldable pub clearableFrom : List ℕ → ℕ → ℕ → ℕ → Bool
@@ -24,7 +24,7 @@ clearableFrom ws (suc m) at i = clearableIn ws at i || clearableFrom ws m (nextA
 abbrev pub allowedWhere : (ℕ → Bool) → List ℕ → ℕ → Bool
 allowedWhere f ms i = eqb (getD ms i 0) 1 || (eqb (getD ms i 0) 0 && f i)
 
--- "Is the mark of each table word 0 or 1, and 0 only at a clause's first word or a body atom"
+-- "Is the mark of each table word 0 or 1, and 0 only at a clause's first word or a body atom", or by slip 8 a head atom
 abbrev pub allowed : List ℕ → List ℕ → ℕ → Bool
 allowed ws ms = allowedWhere (clearableFrom ws (getD ws 1 0) 2) ms
 

@@ -26,21 +26,21 @@ fn check_span(marks: &[u8], at: usize, end: usize, least: u8) -> Walk
     Walk::To(end)
 }
 
-// Question 10 for a clause: 0 is allowed at its first word and at its body atoms.
+// Question 10 for a clause: 0 is allowed at its first word and at its atoms, not at its counts.
 fn check_clause_marks(words: &[u16], marks: &[u8], at: usize) -> Walk
     requires { ⌜ ClauseFits (now words) (now marks) at ⌝ }
     ensures { λ r. ⌜ r ≡ marksFrom (allowedWhere (clearableIn (now (words .entry)) at) (now (marks .entry))) at (nextAt (now (words .entry)) at - at) ⌝ }
 {
-    let body = at + 3 + table::wide(words[at]);
+    let atoms = at + 3;
     let first = check_span(marks, at, at + 1, 0);
     let Walk::To(_) = first else {
         return first;
     };
-    let counts = check_span(marks, at + 1, body, 1);
+    let counts = check_span(marks, at + 1, atoms, 1);
     let Walk::To(_) = counts else {
         return counts;
     };
-    check_span(marks, body, table::next_clause(words, at), 0)
+    check_span(marks, atoms, table::next_clause(words, at), 0)
 }
 
 // Question 10.

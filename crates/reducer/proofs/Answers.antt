@@ -24,12 +24,12 @@ use Rattle.table.specs.Questions.{onTable}
 use Rattle.reducer.specs.Runs.{Begun, Reduced}
 use Rattle.answers.specs.Answers.{ask}
 use Rattle.answers.proofs.Slices.{sets-written}
-use Rattle.reducer_results.proofs.Taken.{zeros-allKept, length-words, steps-room}
+use Rattle.reducer_results.proofs.Taken.{length-words, steps-room}
 
 -- ---- the start
 
 pub begun : (ws ms ms' ls : List ℕ) → Passed ws → ms' ≡ allKept ws ms → 4 * room ws ≤ length ls → Begun ws ms' ls
-begun ws ms ms' ls p e l = rw e (record { whole = view-allKept ws ms p; none = zeros-allKept ws ms; room = l })
+begun ws ms ms' ls p e l = rw e (record { whole = view-allKept ws ms p; room = l })
 
 -- ---- the answer
 

@@ -1,7 +1,7 @@
 -- The state in which the reducer begins: every step is open.
 use mathlib.Core.Path.{_≡_, refl, ap, _∙_}
 use mathlib.Core.Logic.{_≢_}
-use mathlib.Core.Bool.{So}
+use mathlib.Core.Bool.{So, false≢true}
 use mathlib.Core.List.{List}
 use Prim.Native.Nat.{ℕ, _+_, _*_, _≤_, _<_}
 use native.Mathlib.Omega.{arith}
@@ -14,7 +14,7 @@ use Rattle.step_parts.specs.Parts.{Ready}
 use Rattle.table.proofs.Slices.{zero-at}
 use Rattle.step_conditions.specs.Known.{Heads}
 use Rattle.search_flags.specs.Flags.{flagAt, Rows, NoFlagLost, Raising, AllFlagged, allFlags, highests, nexts}
-use Rattle.search_keys.specs.State.{State}
+use Rattle.search_keys.specs.State.{Flagged, State}
 use Rattle.search_spreads.proofs.Limits.{target-lt, key-lt}
 use Rattle.reducer.specs.Runs.{AllOpen}
 
@@ -107,13 +107,13 @@ state-begun ws ms index hs rs flags r h a b o = record {
     by-key : (k : Kind) → ((x : ℕ) → x < 2048 → flagAt flags (8 + number k) x ≢ 0) → Quiet (getD ws 0 0) (view ws ms) k (flagAt flags (number k)) (flagAt flags (8 + number k))
     by-key k f = record { calm = λ u e m x y. f (key u) (key-lt ws ms (r .placed .passed) u y) x }
 
-    go : (k : Kind) → (k ≡ loop → flagAt flags 0 0 ≡ 0) → Quiet (getD ws 0 0) (view ws ms) k (flagAt flags (number k)) (flagAt flags (8 + number k))
-    go = each-kind (λ k. (k ≡ loop → flagAt flags 0 0 ≡ 0) → Quiet (getD ws 0 0) (view ws ms) k (flagAt flags (number k)) (flagAt flags (8 + number k)))
+    go : (k : Kind) → Flagged k flags → Quiet (getD ws 0 0) (view ws ms) k (flagAt flags (number k)) (flagAt flags (8 + number k))
+    go = each-kind (λ k. Flagged k flags → Quiet (getD ws 0 0) (view ws ms) k (flagAt flags (number k)) (flagAt flags (8 + number k)))
         (λ e. quiet-all (getD ws 0 0) (view ws ms) tautology (flagAt flags 1) (flagAt flags 9) (λ u x. o .tautology (u .target) (target-lt ws ms u x)))
         (λ e. quiet-all (getD ws 0 0) (view ws ms) contradiction (flagAt flags 2) (flagAt flags 10) (λ u x. o .contradiction (u .target) (target-lt ws ms u x)))
         (λ e. by-key success (fresh success refl))
         (λ e. by-key noHead (λ x l. o .atom x l .noHead))
         (λ e. by-key blocked (fresh blocked refl))
         (λ e. by-key failure (λ x l. o .atom x l .failure))
-        (λ e. absurd (o .reach (e refl)))
-        (λ e. by-key subsumed (fresh subsumed refl))
+        (λ e. absurd (o .reach (e .1 refl)))
+        (λ e. by-key subsumed (fresh subsumed refl)) (λ e. absurd (false≢true (e .0)))

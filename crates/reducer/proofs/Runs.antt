@@ -6,7 +6,6 @@ use mathlib.Core.Option.{Option, none, some}
 use Prim.Native.Nat.{ℕ, zero, suc, _+_, _-_, _*_, _≤_, _<_}
 use native.Mathlib.Omega.{arith}
 use native.Mathlib.Nat.{sub-zero}
-use native.Mathlib.Numerals.{add-one}
 use lib.ListN.{length, getD, set}
 use lib.Seq.{sets, length-sets}
 use Rattle.rewriting.specs.Marked.{Marked, whole}
@@ -17,21 +16,20 @@ use Rattle.rewriting.specs.Measure.{measure}
 use Rattle.rewriting.proofs.Search.{firstStep-some}
 use Rattle.rewriting.proofs.Equal.{eligible-applies}
 use Rattle.rewriting.proofs.Rows.{kindOf-number, number-bounds}
-use Rattle.rewriting.proofs.Measure.{step-measure}
+use Rattle.rewriting.proofs.Measure.{step-less}
 use Rattle.table.specs.Questions.{Passed}
-use Rattle.table.specs.View.{view, zeros}
+use Rattle.table.specs.View.{view}
 use Rattle.table.specs.Effects.{marksAfter, marksAfterAll}
-use Rattle.table.proofs.View.{view-after, zeros-after, length-after}
+use Rattle.table.proofs.View.{view-after, length-after}
 use Rattle.table.proofs.Parts.{view-tidy}
 use Rattle.step_conditions.specs.declared.Step as row
 use Rattle.step_conditions.specs.Known.{stepOf}
 use Rattle.search_targets.specs.declared.Found.the-variants.{One}
 use Rattle.search_targets.specs.Searches.{foundOf}
-use Rattle.step_kinds.proofs.Numbers.{kind-number}
+use Rattle.step_kinds.proofs.Numbers.{known-number}
 use Rattle.reducer_results.specs.Reductions.{room, stepsOf}
 use Rattle.table.specs.StepWords.{wordsOf}
-use Rattle.search_openings.specs.Opened.{StepMade}
-use Rattle.reducer.specs.Runs.{Begun, Reduced}
+use Rattle.reducer.specs.Runs.{Begun, Reduced, StepFound}
 use Rattle.reducer_results.proofs.Room.{room-measure}
 
 -- what is left to do after s steps
@@ -42,8 +40,7 @@ pub record Running (ws ms₀ ls₀ ms ls : List ℕ) (s : ℕ) : Type 0 where
   pub number : s + length (rest ws ms s) ≡ length (stepsOf ws)
   pub marks : marksAfterAll ws ms (rest ws ms s) ≡ marksAfterAll ws ms₀ (stepsOf ws)
   pub list : sets ls (4 * s) (wordsOf (rest ws ms s)) ≡ sets ls₀ 0 (wordsOf (stepsOf ws))
-  pub zeros : zeros ws ms ≡ s
-  pub left : s + measure (view ws ms) ≡ room ws
+  pub left : s + measure (view ws ms) ≤ room ws
   pub long : length ws ≤ length ms
   pub room : 4 * room ws ≤ length ls
 
@@ -53,7 +50,6 @@ running-none ws ms ls l b = record {
   number = omega (arith, ap length same);
   marks = ap (marksAfterAll ws ms) same;
   list = ap (λ l. sets ls 0 (wordsOf l)) same;
-  zeros = b .none;
   left = omega (arith, ap measure (b .whole), room-measure ws);
   long = l;
   room = b .room;
@@ -63,11 +59,11 @@ running-none ws ms ls l b = record {
     same = rw (sub-zero, b .whole)
 
 -- a step that was found
-pub found-made : (ws ms : List ℕ) (s : row.Step) → One s ≡ foundOf (firstStep (getD ws 0 0) (view ws ms)) → StepMade ws ms s × (firstStep (getD ws 0 0) (view ws ms) ≡ some (stepOf s))
+pub found-made : (ws ms : List ℕ) (s : row.Step) → One s ≡ foundOf (firstStep (getD ws 0 0) (view ws ms)) → StepFound ws ms s × (firstStep (getD ws 0 0) (view ws ms) ≡ some (stepOf s))
 unfolding foundOf
 found-made ws ms s e = go (firstStep (getD ws 0 0) (view ws ms)) refl e
   where
-    go : (x : Option Step) → firstStep (getD ws 0 0) (view ws ms) ≡ x → One s ≡ foundOf x → StepMade ws ms s × (firstStep (getD ws 0 0) (view ws ms) ≡ some (stepOf s))
+    go : (x : Option Step) → firstStep (getD ws 0 0) (view ws ms) ≡ x → One s ≡ foundOf x → StepFound ws ms s × (firstStep (getD ws 0 0) (view ws ms) ≡ some (stepOf s))
     go none q h = absurd (let z : _≡_ {A = ℕ} 0 1 = cc in omega arith)
     go (some u) q h =
         let r : s ≡ record { kind = number (u .kind); target = u .target; partner = u .partner; atom = u .atom } = cc in
@@ -96,15 +92,14 @@ module _ (ws ms₀ ls₀ ms ls : List ℕ) (s : ℕ) (p : Passed ws) (r : Runnin
     number = omega (arith, r .number, ap length over);
     marks = sym (ap (marksAfterAll ws ms) over) ∙ r .marks;
     list = sym (ap (λ l. sets ls (4 * s) (wordsOf l)) over) ∙ r .list;
-    zeros = r .zeros;
   }
     where
       over : rest ws ms s ≡ []
       over = stops n (room ws - s) (view ws ms) e
 
   module _ (u : Step) (h : So (applies n (view ws ms) u)) where
-    less : suc (s + measure (effect (view ws ms) u)) ≡ room ws
-    less = omega (arith, r .left, step-measure n (view ws ms) u (view-tidy ws ms p) h)
+    less : suc (s + measure (effect (view ws ms) u)) ≤ room ws
+    less = omega (arith, r .left, step-less n (view ws ms) u (view-tidy ws ms p) h)
 
     -- there is room for its words
     pub running-room : (s < room ws) × (4 * s + 3 < length ls)
@@ -117,7 +112,6 @@ module _ (ws ms₀ ls₀ ms ls : List ℕ) (s : ℕ) (p : Passed ws) (r : Runnin
       number = omega (arith, r .number, ap length more);
       marks = sym (ap (marksAfterAll ws ms) more) ∙ r .marks;
       list = let z : 4 * (s + 1) ≡ suc (suc (suc (suc (4 * s)))) = omega arith in rw z (sym (ap (λ l. sets ls (4 * s) (wordsOf l)) more) ∙ r .list);
-      zeros = zeros-after ws ms p (r .long) n u h ∙ ap suc (r .zeros) ∙ sym (add-one s);
       left = omega (arith, less, ap measure (view-after ws ms p (r .long) n u h));
       long = omega (arith, r .long, length-after ws ms u);
       room = rw (length-sets ls (4 * s) (number (u .kind) ∷ u .target ∷ u .partner ∷ u .atom ∷ [])) (r .room);
@@ -136,8 +130,8 @@ four-words ls at a b c d =
     rw (x, y, z)
 
 -- a step that was found, written and made
-pub running-step : (ws ms₀ ls₀ ms ls : List ℕ) (s : ℕ) → Passed ws → Running ws ms₀ ls₀ ms ls s → (u : row.Step) → StepMade ws ms u → firstStep (getD ws 0 0) (view ws ms) ≡ some (stepOf u)
+pub running-step : (ws ms₀ ls₀ ms ls : List ℕ) (s : ℕ) → Passed ws → Running ws ms₀ ls₀ ms ls s → (u : row.Step) → StepFound ws ms u → firstStep (getD ws 0 0) (view ws ms) ≡ some (stepOf u)
     → Running ws ms₀ ls₀ (marksAfter ws ms (stepOf u)) (sets ls (4 * s) (u .kind ∷ u .target ∷ u .partner ∷ u .atom ∷ [])) (s + 1)
 running-step ws ms₀ ls₀ ms ls s p r u t e =
-    subst (λ k. Running ws ms₀ ls₀ (marksAfter ws ms (stepOf u)) (sets ls (4 * s) (k ∷ u .target ∷ u .partner ∷ u .atom ∷ [])) (s + 1)) (kind-number (u .kind) (t .low) (t .high))
+    subst (λ k. Running ws ms₀ ls₀ (marksAfter ws ms (stepOf u)) (sets ls (4 * s) (k ∷ u .target ∷ u .partner ∷ u .atom ∷ [])) (s + 1)) (known-number (u .kind) (t .low) (t .high))
     (running-on ws ms₀ ls₀ ms ls s p r (stepOf u) (t .applies) e)

@@ -1,15 +1,25 @@
-// The reducer: the smallest applicable step that it does not pass over, again and again, until none applies.
+// The reducer: the smallest applicable step that it does not pass over, again and again, until none applies. After a step of kind 9 the counts of heads, the reach and the flags
+// begin anew.
 ghost use Rattle.search_flags.specs.Flags.{allFlags};
 ghost use mathlib.Core.Path.{_≡_};
 ghost use Prim.Native.Nat.{_+_, _*_, _≤_, _<_};
 ghost use lib.ListN.{length, getD, replicate};
 ghost use lib.Seq.{sets};
 ghost use mathlib.Core.List.{_∷_, []};
+ghost use mathlib.Core.Bool.{So};
+ghost use Rattle.rewriting.specs.Marked.{entry};
+ghost use Rattle.rewriting.specs.Consequences.{definite};
 ghost use Rattle.table.specs.Questions.{Passed};
+ghost use Rattle.table.specs.View.{view};
+ghost use Rattle.table.specs.Clearing.{marksWithout};
+ghost use Rattle.table.specs.Effects.{marksAfter};
+ghost use Rattle.step_parts.specs.Parts.{Ready};
+ghost use Rattle.step_conditions.specs.Known.{stepOf};
+ghost use Rattle.search_exclusion.specs.Smallest.{Idle};
 ghost use Rattle.search_keys.specs.State.{State};
 ghost use Rattle.reducer_results.specs.Reductions.{room};
 ghost use Rattle.reducer_results.specs.Answered.{Answered};
-ghost use Rattle.reducer.specs.Runs.{AllOpen, Begun, Reduced};
+ghost use Rattle.reducer.specs.Runs.{AllOpen, Begun, Reduced, StepFound};
 use answers::Answer;
 use answers::CallQuestion;
 use answers::Refusal;
@@ -17,22 +27,12 @@ use search_targets::Found;
 use step_conditions::Step;
 use table::Checked;
 
-// How many steps a reduction can have: the clauses plus all body literals.
+// How many steps a reduction can have: the clauses plus all literals, which are the words but the first two and two of each clause.
 fn most_steps(words: &[u16]) -> usize
     requires { ⌜ Passed (now words) ⌝ }
     ensures { λ r. ⌜ (r ≡ room (now (words .entry))) × (r ≤ 8192) ⌝ }
 {
-    let m = table::wide(words[1]);
-    let mut at: usize = 2;
-    let mut sum = m;
-    for t in 0..m {
-        let h = table::wide(words[at]);
-        let p = table::wide(words[at + 1]);
-        let q = table::wide(words[at + 2]);
-        sum = sum + p + q;
-        at = at + 3 + h + p + q;
-    }
-    sum
+    words.len() - 2 - 2 * table::wide(words[1])
 }
 
 // The step number s is written to the list.
@@ -45,32 +45,6 @@ fn write_step(list: &mut [u16], s: usize, step: Step)
     list[at + 1] = step.target;
     list[at + 2] = step.partner;
     list[at + 3] = step.atom;
-}
-
-// Steps until none applies, and their number.
-fn run_steps(
-    words: &[u16],
-    marks: &mut [u8],
-    list: &mut [u16],
-    index: &[u16],
-    heads: &mut [u16],
-    reach: &mut [u8],
-    flags: &mut [u16],
-    m: usize,
-) -> usize
-    requires { ⌜ (State (now words) (now marks) (now index) (now heads) (now reach) (now flags)) × ((m ≡ getD (now words) 1 0) × Begun (now words) (now marks) (now list)) ⌝ }
-    ensures { λ r. ⌜ Reduced (now (words .entry)) (now (marks .entry)) (now (list .entry)) (now (marks .exit)) (now (list .exit)) r ⌝ }
-{
-    let mut s: usize = 0;
-    loop {
-        let found = search_first::first_step(words, marks, index, heads, reach, flags, m);
-        let Found::One(step) = found else {
-            return s;
-        };
-        write_step(list, s, step);
-        search_openings::apply_step(words, marks, index, heads, reach, flags, step);
-        s += 1;
-    }
 }
 
 // Every target of kinds 1 and 2 is flagged, every key of kinds 3, 4, 5, 6 and 8 is fresh, and the reach is to be found.
@@ -88,6 +62,91 @@ fn flag_kinds(flags: &mut [u16], m: usize)
     search_flags::flag_all(flags, 16, 2048);
 }
 
+// ---- the steps
+
+// A step of kind 9 is made: the search of the other kinds begins anew.
+fn exclude(
+    words: &[u16],
+    marks: &mut [u8],
+    index: &[u16],
+    heads: &mut [u16],
+    reach: &[u8],
+    flags: &mut [u16],
+    idle: &mut [u8],
+    m: usize,
+    atom: u16,
+)
+    requires { ⌜ (State (now words) (now marks) (now index) (now heads) (now reach) (now flags)) × ((m ≡ getD (now words) 1 0) × ((2048 ≤ length (now idle)) × (Idle (getD (now words) 0 0) (view (now words) (now marks)) (now idle)))) ⌝ }
+    ensures { λ _. ⌜ (now (marks .exit) ≡ marksWithout (now (words .entry)) (now (marks .entry)) atom) × ((State (now (words .entry)) (now (marks .exit)) (now (index .entry)) (now (heads .exit)) (now (reach .entry)) (now (flags .exit))) × (Idle (getD (now (words .entry)) 0 0) (view (now (words .entry)) (now (marks .exit))) (now (idle .exit)))) ⌝ }
+{
+    search_exclusion::exclude_atom(words, marks, index, atom, idle);
+    step_conditions::count_heads(words, marks, index, heads);
+    step_conditions::clear(flags);
+    flag_kinds(flags, m);
+}
+
+// The constraints that exclude no atom, after a step of kind 4 at clause t: none is known where it is definite now.
+fn forget_drop(words: &[u16], marks: &[u8], index: &[u16], idle: &mut [u8], t: usize)
+    requires { ⌜ (Ready (now words) (now marks) (now index)) × ((t < getD (now words) 1 0) × (¬ So (definite (entry (view (now words) (now marks)) t .clause)) → Idle (getD (now words) 0 0) (view (now words) (now marks)) (now idle))) ⌝ }
+    ensures { λ _. ⌜ Idle (getD (now (words .entry)) 0 0) (view (now (words .entry)) (now (marks .entry))) (now (idle .exit)) ⌝ }
+{
+    if step_exclusion::is_definite(words, marks, index, t) {
+        step_reach::clear(idle);
+    }
+}
+
+// A step that was found is made.
+fn make_step(
+    words: &[u16],
+    marks: &mut [u8],
+    index: &[u16],
+    heads: &mut [u16],
+    reach: &[u8],
+    flags: &mut [u16],
+    idle: &mut [u8],
+    m: usize,
+    step: Step,
+)
+    requires { ⌜ (State (now words) (now marks) (now index) (now heads) (now reach) (now flags)) × ((m ≡ getD (now words) 1 0) × (((2048 ≤ length (now idle)) × (Idle (getD (now words) 0 0) (view (now words) (now marks)) (now idle))) × (StepFound (now words) (now marks) step))) ⌝ }
+    ensures { λ _. ⌜ (now (marks .exit) ≡ marksAfter (now (words .entry)) (now (marks .entry)) (stepOf step)) × ((State (now (words .entry)) (now (marks .exit)) (now (index .entry)) (now (heads .exit)) (now (reach .entry)) (now (flags .exit))) × (Idle (getD (now (words .entry)) 0 0) (view (now (words .entry)) (now (marks .exit))) (now (idle .exit)))) ⌝ }
+{
+    if step.kind == 9 {
+        exclude(words, marks, index, heads, reach, flags, idle, m, step.atom);
+        return;
+    }
+    search_openings::apply_step(words, marks, index, heads, reach, flags, step);
+    if step.kind == 4 {
+        forget_drop(words, marks, index, idle, table::wide(step.target));
+    }
+}
+
+// Steps until none applies, and their number.
+fn run_steps(
+    words: &[u16],
+    marks: &mut [u8],
+    list: &mut [u16],
+    index: &[u16],
+    heads: &mut [u16],
+    reach: &mut [u8],
+    flags: &mut [u16],
+    idle: &mut [u8],
+    m: usize,
+) -> usize
+    requires { ⌜ (State (now words) (now marks) (now index) (now heads) (now reach) (now flags)) × ((m ≡ getD (now words) 1 0) × ((Begun (now words) (now marks) (now list)) × ((2048 ≤ length (now idle)) × (Idle (getD (now words) 0 0) (view (now words) (now marks)) (now idle))))) ⌝ }
+    ensures { λ r. ⌜ Reduced (now (words .entry)) (now (marks .entry)) (now (list .entry)) (now (marks .exit)) (now (list .exit)) r ⌝ }
+{
+    let mut s: usize = 0;
+    loop {
+        let found = search_first::first_step(words, marks, index, heads, reach, flags, idle, m);
+        let Found::One(step) = found else {
+            return s;
+        };
+        write_step(list, s, step);
+        make_step(words, marks, index, heads, reach, flags, idle, m, step);
+        s += 1;
+    }
+}
+
 // The reduction of a table all of whose marks are 1.
 fn reduce_kept(words: &[u16], marks: &mut [u8], list: &mut [u16]) -> usize
     requires { ⌜ (Passed (now words)) × ((length (now words) ≤ length (now marks)) × Begun (now words) (now marks) (now list)) ⌝ }
@@ -98,6 +157,7 @@ fn reduce_kept(words: &[u16], marks: &mut [u8], list: &mut [u16]) -> usize
     let mut heads = [0u16; 1024];
     let mut reach = [0u8; 1024];
     let mut flags = [0u16; search_flags::FLAGS];
+    let mut idle = [0u8; 2048];
     step_parts::build_index(words, &mut index);
     step_conditions::count_heads(words, marks, &index, &mut heads);
     flag_kinds(&mut flags, m);
@@ -109,6 +169,7 @@ fn reduce_kept(words: &[u16], marks: &mut [u8], list: &mut [u16]) -> usize
         &mut heads,
         &mut reach,
         &mut flags,
+        &mut idle,
         m,
     )
 }

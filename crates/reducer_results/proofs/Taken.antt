@@ -1,5 +1,5 @@
 -- What a call of the reducer that is taken found and left: its list is the smallest step each time, its marks leave what the list
--- leaves, and number its steps.
+-- leaves, and are no fewer than its steps.
 use mathlib.Core.Path.{_≡_, refl, sym, ap, subst, _∙_}
 use mathlib.Core.Bool.{So}
 use mathlib.Core.List.{List, [], _∷_}
@@ -9,13 +9,14 @@ use lib.Dec.{leb, eqb}
 use lib.ListN.{length, getD, replicate, length-replicate}
 use lib.Seq.{length-sets, take-at}
 use borrow.Author.Tests.{leb-true, le-leb}
-use Rattle.semantics.specs.Lists.{count}
+use Rattle.semantics.specs.Lists.{all, count}
 use Rattle.rewriting.specs.Marked.{whole, entry}
 use Rattle.rewriting.specs.Steps.{Step}
+use Rattle.rewriting.specs.Kinds.{onTarget}
 use Rattle.rewriting.specs.Runs.{accepted, leaves}
 use Rattle.rewriting.specs.Reducer.{eligible, Greedy}
 use Rattle.rewriting.proofs.Measure.{Tidy}
-use Rattle.rewriting.proofs.Greedy.{reduce-greedy, greedy-accepted, accepted-measure}
+use Rattle.rewriting.proofs.Greedy.{reduce-greedy, greedy-accepted, accepted-less}
 use Rattle.answers.specs.declared.CallQuestion.the-variants.{MarksLength, ListRoom}
 use Rattle.answers.specs.declared.Refusal.the-variants.{Call}
 use Rattle.table.specs.Questions.{tableOf, onTable, Passed}
@@ -90,12 +91,12 @@ steps-accepted ws p = greedy-accepted (getD ws 0 0) (steps-greedy ws p)
 
 -- The list is never longer than the room that question 17 asks for.
 pub steps-room : (ws : List ℕ) → Passed ws → length (stepsOf ws) ≤ room ws
-steps-room ws p = omega (arith, accepted-measure (getD ws 0 0) (whole (programOf ws .clauses)) (stepsOf ws) (whole-tidy ws p) (steps-accepted ws p), room-measure ws)
+steps-room ws p = omega (arith, accepted-less (getD ws 0 0) (whole (programOf ws .clauses)) (stepsOf ws) (whole-tidy ws p) (steps-accepted ws p), room-measure ws)
 
 -- It has at most 8,188 steps, so that the list with one step more never meets question 11.
 pub steps-few : (ws : List ℕ) → Passed ws → length (stepsOf ws) ≤ 8188
 steps-few ws p =
-    omega (arith, accepted-measure (getD ws 0 0) (whole (programOf ws .clauses)) (stepsOf ws) (whole-tidy ws p) (steps-accepted ws p), measure-within (programOf ws) (passed-within ws p))
+    omega (arith, accepted-less (getD ws 0 0) (whole (programOf ws .clauses)) (stepsOf ws) (whole-tidy ws p) (steps-accepted ws p), measure-within (programOf ws) (passed-within ws p))
 
 zeros-none : (n : ℕ) → count (λ x. eqb x 0) (replicate n 1) ≡ 0
 zeros-none zero = refl
@@ -111,15 +112,16 @@ unfolding wordsOf
 length-words [] = refl
 length-words (s ∷ l) = omega (arith, length-words l)
 
--- the marks of a call that is taken leave what its list leaves, and number its steps
+-- the marks of a call that is taken leave what its list leaves, and those at 0 are no fewer than its steps: exactly as many, where kind 9 is not among them
 pub marks-after : (ws ms ls : List ℕ) (s : ℕ) → ReducerTaken ws ms ls s
-    → (view ws (reduction ws ms ls .marks) ≡ leaves (getD ws 0 0) (whole (programOf ws .clauses)) (stepsOf ws)) × (zeros ws (reduction ws ms ls .marks) ≡ s)
+    → (view ws (reduction ws ms ls .marks) ≡ leaves (getD ws 0 0) (whole (programOf ws .clauses)) (stepsOf ws)) × (s ≤ zeros ws (reduction ws ms ls .marks))
+    × (So (all (λ u. onTarget (u .kind)) (stepsOf ws)) → zeros ws (reduction ws ms ls .marks) ≡ s)
 marks-after ws ms ls s t =
     let p = t .passed in
     let n = getD ws 0 0 in
     let e = view-allKept ws ms p in
-    let (a, b) = view-afterAll n ws (allKept ws ms) (stepsOf ws) p (omega (arith, length-allKept ws ms (t .marked), t .marked)) (rw e (steps-accepted ws p)) in
-    (rw (t .marks) (a ∙ ap (λ P. leaves n P (stepsOf ws)) e), rw (t .marks) (omega (arith, b, t .count, zeros-allKept ws ms)))
+    let (a, b, c) = view-afterAll n ws (allKept ws ms) (stepsOf ws) p (omega (arith, length-allKept ws ms (t .marked), t .marked)) (rw e (steps-accepted ws p)) in
+    (rw (t .marks) (a ∙ ap (λ P. leaves n P (stepsOf ws)) e), rw (t .marks) (omega (arith, b, t .count, zeros-allKept ws ms)), λ q. rw (t .marks) (omega (arith, c q, t .count, zeros-allKept ws ms)))
 
 pub length-afterAll : (ws : List ℕ) (l : List Step) (ms : List ℕ) → length (marksAfterAll ws ms l) ≡ length ms
 unfolding marksAfterAll

@@ -19,15 +19,15 @@ use Rattle.table.specs.StepWords.{wordsOf}
 use Rattle.table.specs.View.{allKept}
 use Rattle.table.specs.Effects.{marksAfterAll}
 
-unfoldable pub bodyLiterals : List Clause → ℕ
-bodyLiterals [] = 0
-bodyLiterals (c ∷ cs) = length (c .pos) + length (c .neg) + bodyLiterals cs
+unfoldable pub literals : List Clause → ℕ
+literals [] = 0
+literals (c ∷ cs) = length (c .head) + length (c .pos) + length (c .neg) + literals cs
 
--- "m plus all body literals"
+-- "m plus all body literals"; slip 8: "17 counts all literals"
 unfoldable pub room : List ℕ → ℕ
-room ws = getD ws 1 0 + bodyLiterals (programOf ws .clauses)
+room ws = getD ws 1 0 + literals (programOf ws .clauses)
 
--- the reducer's list for a table: from all marks 1, at most as many steps as there are clauses and body literals
+-- the reducer's list for a table: from all marks 1, at most as many steps as there are clauses and literals
 unfoldable pub stepsOf : List ℕ → List Step
 stepsOf ws = reduce (getD ws 0 0) (room ws) (whole (programOf ws .clauses))
 
@@ -46,7 +46,7 @@ leavingBoth ms ls r = record { answer = Refused r; marks = ms; list = ls }
 abbrev pub reduced-by : List ℕ → List ℕ → List ℕ → List Step → Reduction
 reduced-by ws ms ls l = record { answer = Accepted (length l); marks = marksAfterAll ws (allKept ws ms) l; list = written (wordsOf l) ls }
 
--- "Reducing: 9, then 17 Has the list at least 4 times (m plus all body literals) words?"
+-- "Reducing: 9, then 17 Has the list at least 4 times (m plus all body literals) words?", which by slip 8 "counts all literals"
 unfoldable pub reduction : List ℕ → List ℕ → List ℕ → Reduction
 reduction ws ms ls =
     onTable (leavingBoth ms ls) (tableOf ws)

@@ -1,11 +1,11 @@
 -- The search as a walk: the inner search of the kinds with an atom walks a part in place of the atoms below n, that of the kinds with a
--- partner asks once a partner; targets and kinds are passed in order.
+-- partner asks once a partner; targets are passed in order.
 use mathlib.Core.Path.{_≡_, refl, sym, ap, subst, _∙_}
 use mathlib.Core.Logic.{_↔_, _≢_, _⊎_, inl, inr, ⊎-elim}
 use mathlib.Core.Bool.{Bool, true, false, not, cond, _&&_, So, true≢false, false≢true}
 use mathlib.Core.List.{List, [], _∷_, List·Memᴰ·head, List·Memᴰ·tail, List·Memᴰ·cases-cons, List·Memᴰ·not-nil}
 use mathlib.Core.Option.{Option, none, some}
-use Prim.Native.Nat.{ℕ, suc, _<_}
+use Prim.Native.Nat.{ℕ, _<_}
 use native.Mathlib.Omega.{arith}
 use lib.Dec.{ltb}
 use lib.ListN.{length}
@@ -16,9 +16,9 @@ use Rattle.semantics.proofs.Tests.{and-iff, all-iff, mem-iff, so-false, not-so}
 use Rattle.rewriting.specs.Marked.{Marked, entry, left}
 use Rattle.rewriting.specs.Reaches.{reach}
 use Rattle.rewriting.specs.Steps.{Step, step, inNoHead, headed, condition, conditionHolds, applies}
-use Rattle.rewriting.specs.Kinds.{Kind, tautology, contradiction, success, noHead, blocked, failure, loop, subsumed, impossible, kindOf, usesPartner, usesAtom, onTarget}
+use Rattle.rewriting.specs.Kinds.{Kind, tautology, contradiction, success, noHead, blocked, failure, loop, subsumed, impossible, usesPartner, usesAtom, onTarget}
 use Rattle.rewriting.specs.Reducer.{eligible}
-use Rattle.rewriting.specs.Search.{partnerAtom, stepWith, least, given, firstAtom, firstPartner, firstTarget, firstStep}
+use Rattle.rewriting.specs.Search.{partnerAtom, stepWith, least, given, firstAtom, firstPartner, firstTarget}
 use Rattle.rewriting.proofs.Search.{atom-bound}
 use Rattle.rewriting.proofs.Quiet.{least-none, least-some}
 use Rattle.rewriting.proofs.Rows.{alone-atom, atom-settled}
@@ -100,7 +100,7 @@ condition-is subsumed cs c d a o u = absurd (true≢false u)
 condition-is impossible cs c d a o u = absurd (false≢true o)
 
 -- a kind without a partner: the target is kept, and the atom is in its part and passes
-atom-form : (n : ℕ) (P : Marked) (k : Kind) (t a : ℕ) → usesPartner k ≡ false → eligible n P (step k t 0 a) ≡ (entry P t .kept && (ltb a n && condition k (left P) (entry P t .clause) (entry P 0 .clause) a))
+pub atom-form : (n : ℕ) (P : Marked) (k : Kind) (t a : ℕ) → usesPartner k ≡ false → eligible n P (step k t 0 a) ≡ (entry P t .kept && (ltb a n && condition k (left P) (entry P t .clause) (entry P 0 .clause) a))
 unfolding applies conditionHolds
 atom-form n P k t a u = eligible-same n P (step k t 0 a) (λ x. not-so u (spares-partner k x)) ∙ rw (u, alone-atom k u)
 
@@ -153,7 +153,7 @@ partner-hit n P k t p u l h a = ap (λ b. least (cond b (length P) 1) (λ p. fir
     ∙ least-some (length P) (λ p. firstAtom n P k t p) (stepWith P k t p) p l (partner-first n P k t p u ∙ ap (λ b. given b (stepWith P k t p)) a)
     (λ q i. partner-first n P k t q u ∙ ap (λ b. given b (stepWith P k t q)) (h q i))
 
--- ---- targets and kinds in order
+-- ---- targets in order
 
 -- A target that is gone has no step.
 pub target-gone : (n : ℕ) (P : Marked) (k : Kind) (t : ℕ) → ¬ So (entry P t .kept) → firstPartner n P k t ≡ none
@@ -172,11 +172,3 @@ search-end n P k h = least-none (length P) (λ t. firstPartner n P k t) h
 pub search-hit : (n : ℕ) (P : Marked) (k : Kind) (t : ℕ) (s : Step) → t < length P → firstPartner n P k t ≡ some s → Before n P k t → firstTarget n P k ≡ some s
 unfolding firstTarget
 search-hit n P k t s l e h = least-some (length P) (λ t. firstPartner n P k t) s t l e h
-
-pub kinds-end : (n : ℕ) (P : Marked) → ((i : ℕ) → i < 9 → firstTarget n P (kindOf (suc i)) ≡ none) → firstStep n P ≡ none
-unfolding firstStep
-kinds-end n P h = least-none 9 (λ i. firstTarget n P (kindOf (suc i))) h
-
-pub kinds-hit : (n : ℕ) (P : Marked) (i : ℕ) (s : Step) → i < 9 → firstTarget n P (kindOf (suc i)) ≡ some s → ((j : ℕ) → j < i → firstTarget n P (kindOf (suc j)) ≡ none) → firstStep n P ≡ some s
-unfolding firstStep
-kinds-hit n P i s l e h = least-some 9 (λ i. firstTarget n P (kindOf (suc i))) s i l e h

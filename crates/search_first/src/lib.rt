@@ -1,14 +1,19 @@
-// The search for the smallest applicable step: kind after kind, and only flagged targets are looked at.
+// The search for the smallest step that is not passed over: kinds 1 to 8, one after the other, at flagged targets only; then kind 9.
 ghost use mathlib.Core.Path.{_≡_};
 ghost use Prim.Native.Nat.{_≤_};
-ghost use lib.ListN.{getD};
-ghost use Rattle.rewriting.specs.Kinds.{kindOf};
+ghost use lib.ListN.{length, getD};
+ghost use Rattle.rewriting.specs.Kinds.{kindOf, impossible};
 ghost use Rattle.table.specs.View.{view};
 ghost use Rattle.search_flags.specs.Flags.{Inside};
 ghost use Rattle.rewriting.specs.Search.{firstTarget, firstStep};
 ghost use Rattle.search_keys.specs.State.{Arrays, Calm, Swept, State};
+ghost use Rattle.step_parts.specs.Parts.{Ready};
 ghost use Rattle.search_targets.specs.Searches.{foundOf, stoppedAt};
+ghost use Rattle.search_exclusion.specs.Smallest.{Idle};
+ghost use Rattle.search_first.specs.First.{firstFlagged};
+use search_exclusion::Pick;
 use search_targets::Found;
+use step_conditions::Step;
 
 // Where a search stopped: at the target found, or at the end.
 fn stopped_at(found: Found, end: usize) -> usize
@@ -64,8 +69,8 @@ fn first_of_kind(
     found
 }
 
-// The smallest step: kind after kind.
-pub fn first_step(
+// The smallest step of kinds 1 to 8: kind after kind.
+fn first_flagged(
     words: &[u16],
     marks: &[u8],
     index: &[u16],
@@ -75,7 +80,7 @@ pub fn first_step(
     m: usize,
 ) -> Found
     requires { ⌜ (State (now words) (now marks) (now index) (now heads) (now reach) (now flags)) × (m ≡ getD (now words) 1 0) ⌝ }
-    ensures { λ r. ⌜ (r ≡ foundOf (firstStep (getD (now (words .entry)) 0 0) (view (now (words .entry)) (now (marks .entry))))) × State (now (words .entry)) (now (marks .entry)) (now (index .entry)) (now (heads .entry)) (now (reach .exit)) (now (flags .exit)) ⌝ }
+    ensures { λ r. ⌜ (r ≡ foundOf (firstFlagged (getD (now (words .entry)) 0 0) (view (now (words .entry)) (now (marks .entry))))) × State (now (words .entry)) (now (marks .entry)) (now (index .entry)) (now (heads .entry)) (now (reach .exit)) (now (flags .exit)) ⌝ }
 {
     for kind in 1u16..9 {
         let found = first_of_kind(words, marks, index, heads, reach, flags, kind, m);
@@ -85,4 +90,36 @@ pub fn first_step(
         return found;
     }
     Found::Nothing
+}
+
+// The smallest step of kind 9.
+fn first_excluded(words: &[u16], marks: &[u8], index: &[u16], idle: &mut [u8]) -> Found
+    requires { ⌜ (Ready (now words) (now marks) (now index)) × ((2048 ≤ length (now idle)) × (Idle (getD (now words) 0 0) (view (now words) (now marks)) (now idle))) ⌝ }
+    ensures { λ r. ⌜ (r ≡ foundOf (firstTarget (getD (now (words .entry)) 0 0) (view (now (words .entry)) (now (marks .entry))) impossible)) × (Idle (getD (now (words .entry)) 0 0) (view (now (words .entry)) (now (marks .entry))) (now (idle .exit))) ⌝ }
+{
+    match search_exclusion::first_exclusion(words, marks, index, idle) {
+        Pick::One(t, a) => Found::One(Step::new(9, t, 0, a)),
+        Pick::Nothing => Found::Nothing,
+    }
+}
+
+// The smallest step: of kinds 1 to 8, and where there is none, of kind 9.
+pub fn first_step(
+    words: &[u16],
+    marks: &[u8],
+    index: &[u16],
+    heads: &[u16],
+    reach: &mut [u8],
+    flags: &mut [u16],
+    idle: &mut [u8],
+    m: usize,
+) -> Found
+    requires { ⌜ (State (now words) (now marks) (now index) (now heads) (now reach) (now flags)) × ((m ≡ getD (now words) 1 0) × ((2048 ≤ length (now idle)) × (Idle (getD (now words) 0 0) (view (now words) (now marks)) (now idle)))) ⌝ }
+    ensures { λ r. ⌜ (r ≡ foundOf (firstStep (getD (now (words .entry)) 0 0) (view (now (words .entry)) (now (marks .entry))))) × ((State (now (words .entry)) (now (marks .entry)) (now (index .entry)) (now (heads .entry)) (now (reach .exit)) (now (flags .exit))) × (Idle (getD (now (words .entry)) 0 0) (view (now (words .entry)) (now (marks .entry))) (now (idle .exit)))) ⌝ }
+{
+    let found = first_flagged(words, marks, index, heads, reach, flags, m);
+    let Found::One(_) = found else {
+        return first_excluded(words, marks, index, idle);
+    };
+    found
 }

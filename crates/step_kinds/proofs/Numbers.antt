@@ -24,9 +24,12 @@ partner-kind kind a b u = record { low = a; high = b; uses = u }
 pub atom-kind : (kind : ℕ) → 1 ≤ kind → kind ≤ 8 → usesPartner (kindOf kind) ≡ false → AtomKind kind
 atom-kind kind a b u = record { low = a; high = b; alone = u }
 
+pub known-number : (kind : ℕ) → 1 ≤ kind → kind ≤ 9 → number (kindOf kind) ≡ kind
+known-number zero l h = absurd (omega arith)
+known-number (suc i) l h = number-kindOf i (omega arith)
+
 pub kind-number : (kind : ℕ) → 1 ≤ kind → kind ≤ 8 → number (kindOf kind) ≡ kind
-kind-number zero l h = absurd (omega arith)
-kind-number (suc i) l h = number-kindOf i (omega arith)
+kind-number kind l h = known-number kind l (omega arith)
 
 pub by-number : (Q : ℕ → Type 0) (k : ℕ) → 1 ≤ k → k ≤ 8 → (k ≡ 1 → Q 1) → (k ≡ 2 → Q 2) → (k ≡ 3 → Q 3) → (k ≡ 4 → Q 4) → (k ≡ 5 → Q 5) → (k ≡ 6 → Q 6) → (k ≡ 7 → Q 7) → (k ≡ 8 → Q 8) → Q k
 by-number Q zero a b q1 q2 q3 q4 q5 q6 q7 q8 = absurd (omega arith)
