@@ -1,6 +1,6 @@
 -- The clauses that can be targets as bytes, those that are idle, the first that fits, and sets of atoms taken from one another.
 use mathlib.Core.Path.{_≡_, refl, sym, ap, subst, _∙_}
-use mathlib.Core.Logic.{_⊎_, inl, inr, ⊎-elim, by-cases}
+use mathlib.Core.Logic.{inl, inr, ⊎-elim, by-cases}
 use mathlib.Core.Bool.{Bool, true, false, not, _&&_, So, false≢true}
 use mathlib.Core.List.{List}
 use Prim.Native.Nat.{ℕ, _+_, _≤_, _<_}
@@ -13,14 +13,14 @@ use borrow.Author.Tests.{eqb-true, eq-eqb, ne-eqb}
 use Rattle.semantics.specs.Lists.{all, null}
 use Rattle.semantics.specs.Programs.{Atoms}
 use Rattle.semantics.proofs.Tests.{and-iff, not-iff}
-use Rattle.rewriting.specs.Marked.{Entry, Marked, entry, left}
+use Rattle.rewriting.specs.Marked.{Marked, entry, left}
 use Rattle.rewriting.specs.Exclusion.{plainConstraint}
 use Rattle.rewriting.proofs.Left.{kept-lt}
 use Rattle.rewriting.proofs.Exclusion.{excludes-iff}
 use Rattle.step_reach.specs.Bytes.{inBytes}
 use Rattle.step_reach.proofs.Laws.{is-out}
 use Rattle.search_exclusion.specs.declared.Best.{Best}
-use Rattle.search_exclusion.specs.Smallest.{Excluding, Idle}
+use Rattle.search_exclusion.specs.Smallest.{Idle}
 use Rattle.search_exclusion.specs.Tries.{plainKept, Targets, Unset, Fits, FirstFit, Improves, Minus, BestOf, Remembered}
 
 -- ---- a clause that can be a target

@@ -1,7 +1,6 @@
 -- `search_exclusion::better` meets its contract.
 use Rattle.table.specs.View.{view}
 use Rattle.search_exclusion.proofs.Targets.{better-new, better-old}
-use borrow.Author.Needs.{needs}
 use Rattle.search_exclusion.proofs.better.Statement.{statement}
 use Rattle.search_exclusion.proofs.better.Tie as tie
 

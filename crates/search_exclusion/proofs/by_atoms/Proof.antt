@@ -1,7 +1,7 @@
 -- `search_exclusion::by_atoms` meets its contract. The invariant: the best pair is a step, and no step with an atom before a, or with a consequence of such an atom, is smaller.
 use native.Mathlib.Omega.{arith}
 use mathlib.Core.Path.{_≡_, refl, sym, _∙_}
-use Prim.Native.Nat.{ℕ, _≤_, _-_}
+use Prim.Native.Nat.{ℕ, _-_}
 use lib.ListN.{length, getD, length-replicate}
 use borrow.Author.Tests.{not-true, not-false}
 use Rattle.table.specs.View.{view}
