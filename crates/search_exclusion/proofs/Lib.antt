@@ -1,3 +1,4 @@
 pub mod Targets
 pub mod Tries
 pub mod Stays
+pub mod Memory

@@ -21,7 +21,7 @@ use Rattle.rewriting.proofs.Rows.{each-kind, succeeds}
 use Rattle.rewriting.proofs.Effect.{target-kept, asks, partner-asked, at-other, at-target}
 use Rattle.rewriting.proofs.Consequences.{consequences-least, consequences-are}
 use Rattle.rewriting.proofs.Exclusion.{Lacks, lacks, entry-removal, excludes-iff}
-use Rattle.search_exclusion.specs.Smallest.{Excluding, Idle}
+use Rattle.search_exclusion.specs.Smallest.{Excluding, Idle, NoneDefinite}
 
 -- the atom is in every set that the definite clauses of P close
 abbrev pub Follows : Marked → ℕ → Type 0
@@ -149,10 +149,6 @@ module _ (n : ℕ) (P : Marked) (s : Step) (h : So (applies n P s)) (f : number 
   idle-effect x = idle-stays P (effect P s) shrinks-effect n x
 
 -- ---- kind 9
-
--- By the removal of the atom no kept clause gets definite.
-pub record NoneDefinite (P Q : Marked) : Type 0 where
-  pub was : (i : ℕ) → So (entry Q i .kept) → So (definite (entry Q i .clause)) → So (definite (entry P i .clause))
 
 module _ (P : Marked) (a : ℕ) (h : NoneDefinite P (removal a P)) where
   shrinks-lacking : (i : ℕ) (d : Entry) → d ≡ lackingOf a (entry P i) → (So (d .kept) → So (definite (d .clause)) → So (definite (entry P i .clause))) → Shrinks P (entry P i) d

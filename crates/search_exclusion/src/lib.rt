@@ -2,18 +2,19 @@
 // The atoms are tried in order. The closure of the facts is made once a search, and grown from a copy for each atom. An atom among the consequences of an
 // earlier one can't be better and is passed over; and once the best target is the first clause that can be one, no other atom is tried.
 ghost use mathlib.Core.Path.{_≡_};
-ghost use mathlib.Core.Bool.{not, _&&_};
+ghost use mathlib.Core.Bool.{false, not, _&&_};
 ghost use Prim.Native.Nat.{_≤_, _<_};
 ghost use lib.Dec.{eqb};
 ghost use lib.ListN.{length, getD};
 ghost use Rattle.rewriting.specs.Marked.{entry};
 ghost use Rattle.table.specs.View.{view};
+ghost use Rattle.table.specs.Clearing.{marksWithout};
 ghost use Rattle.step_parts.specs.Parts.{Ready};
 ghost use Rattle.step_reach.specs.Bytes.{inBytes, ReachedWith};
 ghost use Rattle.step_reach.specs.Counts.{ReachSettled};
 ghost use Rattle.step_exclusion.specs.Exclusions.{Narrowed};
-ghost use Rattle.search_exclusion.specs.Smallest.{Smallest, Idle};
-ghost use Rattle.search_exclusion.specs.Tries.{plainKept, Targets, Unset, FirstFit, Improves, Minus, BestOf, Answers, Remembered};
+ghost use Rattle.search_exclusion.specs.Smallest.{Smallest, Idle, NoneDefinite};
+ghost use Rattle.search_exclusion.specs.Tries.{plainKept, Targets, Unset, FirstFit, Improves, Minus, BestOf, Answers, Remembered, gotDefinite};
 
 // What the search finds: a target and an atom.
 pub enum Pick {
@@ -275,4 +276,47 @@ pub fn first_exclusion(words: &[u16], marks: &[u8], index: &[u16], idle: &mut [u
     let best = best_pair(words, marks, index, &can, low);
     remember(&can, best.target, idle);
     answer(best, m)
+}
+
+// ---- the step, and what stays idle
+
+// Whether clause t, kept, has got one head atom and no negative atoms by the marks after, and had not by those before.
+fn gets_definite(words: &[u16], before: &[u8], after: &[u8], index: &[u16], t: usize) -> bool
+    requires { ⌜ (Ready (now words) (now before) (now index)) × ((Ready (now words) (now after) (now index)) × (t < getD (now words) 1 0)) ⌝ }
+    ensures { λ r. ⌜ r ≡ gotDefinite (entry (view (now (words .entry)) (now (before .entry))) t) (entry (view (now (words .entry)) (now (after .entry))) t) ⌝ }
+{
+    if !step_parts::kept(words, after, index, t) {
+        return false;
+    }
+    if !step_exclusion::is_definite(words, after, index, t) {
+        return false;
+    }
+    !step_exclusion::is_definite(words, before, index, t)
+}
+
+// Whether some clause has.
+fn any_definite(words: &[u16], before: &[u8], after: &[u8], index: &[u16]) -> bool
+    requires { ⌜ (Ready (now words) (now before) (now index)) × (Ready (now words) (now after) (now index)) ⌝ }
+    ensures { λ r. ⌜ (r ≡ false → NoneDefinite (view (now (words .entry)) (now (before .entry))) (view (now (words .entry)) (now (after .entry)))) ⌝ }
+{
+    for t in 0..table::wide(words[1]) {
+        if gets_definite(words, before, after, index, t) {
+            return true;
+        }
+    }
+    false
+}
+
+// The step's effect on the marks. What is idle stays so, but where a clause gets definite: then more may follow from an atom, and nothing is known to be idle.
+pub fn exclude_atom(words: &[u16], marks: &mut [u8], index: &[u16], atom: u16, idle: &mut [u8])
+    requires { ⌜ (Ready (now words) (now marks) (now index)) × (Idle (getD (now words) 0 0) (view (now words) (now marks)) (now idle)) ⌝ }
+    ensures { λ _. ⌜ (now (marks .exit) ≡ marksWithout (now (words .entry)) (now (marks .entry)) atom) × (Idle (getD (now (words .entry)) 0 0) (view (now (words .entry)) (now (marks .exit))) (now (idle .exit))) ⌝ }
+{
+    let mut before = [0u8; 8192];
+    step_exclusion::copy_marks(words, marks, &mut before);
+    step_exclusion::remove_atom(words, marks, index, atom);
+    if !any_definite(words, &before, marks, index) {
+        return;
+    }
+    step_reach::clear(idle);
 }

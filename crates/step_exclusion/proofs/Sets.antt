@@ -125,6 +125,10 @@ narrow-end ws ms t ks h n = record {
       (λ l. entry-past ws ks s (omega arith) ∙ sym (entry-map (view ws ms) s ∙ ap narrowed (entry-past ws ms s (omega arith)))));
 }
 
+-- marks that are the same leave the same
+pub copy-view : (ws ks ms : List ℕ) → Passed ws → ((i : ℕ) → i < length ws → getD ks i 0 ≡ getD ms i 0) → view ws ks ≡ view ws ms
+copy-view ws ks ms p h = entries-ext (view ws ks) (view ws ms) (length-view ws ks ∙ sym (length-view ws ms)) (λ s. narrow-start ws ms ks p h .after s (omega arith))
+
 left-narrowed : (P : Marked) → left (map narrowed P) ≡ keep definite (left P)
 unfolding left
 left-narrowed [] = refl

@@ -22,7 +22,7 @@ use step_parts::Single;
 // ---- the consequences of an atom
 
 // Whether clause t has one head atom and no negative atoms.
-fn is_definite(words: &[u16], marks: &[u8], index: &[u16], t: usize) -> bool
+pub fn is_definite(words: &[u16], marks: &[u8], index: &[u16], t: usize) -> bool
     requires { ⌜ (Ready (now words) (now marks) (now index)) × (t < getD (now words) 1 0) ⌝ }
     ensures { λ r. ⌜ r ≡ definite (entry (view (now (words .entry)) (now (marks .entry))) t .clause) ⌝ }
 {
@@ -34,7 +34,7 @@ fn is_definite(words: &[u16], marks: &[u8], index: &[u16], t: usize) -> bool
 }
 
 // The marks of the table's words.
-fn copy_marks(words: &[u16], marks: &[u8], only: &mut [u8])
+pub fn copy_marks(words: &[u16], marks: &[u8], only: &mut [u8])
     requires { ⌜ (length (now words) ≤ length (now marks)) × (length (now words) ≤ length (now only)) ⌝ }
     ensures { λ _. ⌜ ((i : ℕ) → i < length (now (words .entry)) → getD (now (only .exit)) i 0 ≡ getD (now (marks .entry)) i 0) ⌝ }
 {
