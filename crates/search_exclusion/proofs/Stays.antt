@@ -1,7 +1,7 @@
 -- An idle constraint stays idle through a step that makes no clause definite: the consequences of an atom grow no further than before. So it is with every step of kinds 1, 2, 3, 5, 6, 7
--- and 8, and with a step of kind 9 by which no clause gets to have one head atom and no negative atoms.
+-- and 8, and with a step of kind 4 or 9 by which no clause gets to have one head atom and no negative atoms.
 use mathlib.Core.Path.{_≡_, refl, sym, subst}
-use mathlib.Core.Logic.{_≢_, _⊎_, inl, inr, ⊎-elim, by-cases}
+use mathlib.Core.Logic.{_⊎_, inl, inr, ⊎-elim, by-cases}
 use mathlib.Core.Bool.{Bool, true, false, not, _&&_, _||_, So, false≢true}
 use mathlib.Core.List.{List, [], _∷_, List·Memᴰ·head, List·Memᴰ·not-nil}
 use Prim.Native.Nat.{ℕ}
@@ -11,7 +11,7 @@ use Rattle.semantics.specs.Programs.{Clause, Atoms, Subset}
 use Rattle.semantics.proofs.Tests.{and-iff, not-iff, any-iff, keep-iff, mem-iff, null-iff, or-left, or-right, without-sub, without-keeps}
 use Rattle.semantics.proofs.Models.{All, Closed}
 use Rattle.rewriting.specs.Marked.{Entry, Marked, entry, left}
-use Rattle.rewriting.specs.Kinds.{Kind, success, rowOf, number, usesPartner}
+use Rattle.rewriting.specs.Kinds.{Kind, success, noHead, rowOf, number, usesPartner, onTarget}
 use Rattle.rewriting.specs.Steps.{Step, condition, applies, leftBy, effect}
 use Rattle.rewriting.specs.Consequences.{definite, consequences}
 use Rattle.rewriting.specs.Exclusion.{occurs, lackingOf, removal}
@@ -99,7 +99,7 @@ module _ (P Q : Marked) (r : (i : ℕ) → Shrinks P (entry P i) (entry Q i)) wh
     none = λ t a m x. h .none t a m (excluding-back n t a (h .headless t m (r t .kept (x .kept))) (h .positive t m (r t .kept (x .kept))) x);
   }
 
--- ---- the eight kinds, all but 4
+-- ---- kinds 1 to 8
 
 shrinks-same : (P : Marked) (e d : Entry) → d ≡ e → Shrinks P e d
 shrinks-same P e d q = subst (Shrinks P e) (sym q) (record { kept = λ k. k; head = λ k b m. m; pos = λ k b m. m; neg = λ k b m. m; lost = λ k b m. inl m; was = λ k h. h })
@@ -126,25 +126,34 @@ shrinks-success P e a k f = record {
   was = λ _ h. h;
 }
 
-module _ (n : ℕ) (P : Marked) (s : Step) (h : So (applies n P s)) (f : number (s .kind) ≢ 4) where
+shrinks-negative : (P : Marked) (e : Entry) (a : ℕ) → So (e .kept) → ¬ So (definite (leftBy (rowOf noHead .deed) a (e .clause) .clause)) → Shrinks P e (leftBy (rowOf noHead .deed) a (e .clause))
+shrinks-negative P e a k f = record { kept = λ _. k; head = λ _ b m. m; pos = λ _ b m. m; neg = λ _ b m. without-sub _ _ _ m; lost = λ _ b m. inl m; was = λ _ h. absurd (f h) }
+
+-- kind 4 may make its target definite
+module _ (n : ℕ) (P : Marked) (s : Step) (h : So (applies n P s)) (on : So (onTarget (s .kind))) (f : number (s .kind) ≡ 4 → ¬ So (definite (entry (effect P s) (s .target) .clause))) where
   abbrev the : Clause
   the = entry P (s .target) .clause
 
   abbrev by : Clause
   by = entry P (s .partner) .clause
 
-  shrinks-target : (k : Kind) → number k ≢ 4 → (So (usesPartner k) → So (entry P (s .partner) .kept)) → So (condition k (left P) the by (s .atom)) → Shrinks P (entry P (s .target)) (leftBy (rowOf k .deed) (s .atom) the)
-  shrinks-target = each-kind (λ k. number k ≢ 4 → (So (usesPartner k) → So (entry P (s .partner) .kept)) → So (condition k (left P) the by (s .atom)) → Shrinks P (entry P (s .target)) (leftBy (rowOf k .deed) (s .atom) the))
+  -- what the kind has to leave of its target
+  abbrev Tame : Kind → Type 0
+  Tame k = So (onTarget k) × (number k ≡ 4 → ¬ So (definite (leftBy (rowOf k .deed) (s .atom) the .clause)))
+
+  shrinks-target : (k : Kind) → Tame k → (So (usesPartner k) → So (entry P (s .partner) .kept)) → So (condition k (left P) the by (s .atom)) → Shrinks P (entry P (s .target)) (leftBy (rowOf k .deed) (s .atom) the)
+  shrinks-target = each-kind (λ k. Tame k → (So (usesPartner k) → So (entry P (s .partner) .kept)) → So (condition k (left P) the by (s .atom)) → Shrinks P (entry P (s .target)) (leftBy (rowOf k .deed) (s .atom) the))
       (λ x y z. shrinks-gone P _ _ false≢true) (λ x y z. shrinks-gone P _ _ false≢true)
       (λ x y z. let w = succeeds (left P) the by (s .atom) z in let v = and-iff (null (by .pos)) _ .0 (w .isFact) in shrinks-success P (entry P (s .target)) (s .atom) (target-kept n P s h) (fact-follows P (s .partner) (s .atom) (y refl) (v .0) (v .1) (w .head)))
-      (λ x y z. absurd (x refl)) (λ x y z. shrinks-gone P _ _ false≢true) (λ x y z. shrinks-gone P _ _ false≢true) (λ x y z. shrinks-gone P _ _ false≢true) (λ x y z. shrinks-gone P _ _ false≢true)
+      (λ x y z. shrinks-negative P (entry P (s .target)) (s .atom) (target-kept n P s h) (x .1 refl))
+      (λ x y z. shrinks-gone P _ _ false≢true) (λ x y z. shrinks-gone P _ _ false≢true) (λ x y z. shrinks-gone P _ _ false≢true) (λ x y z. shrinks-gone P _ _ false≢true) (λ x y z. absurd (false≢true (x .0)))
 
   pub shrinks-effect : (i : ℕ) → Shrinks P (entry P i) (entry (effect P s) i)
   shrinks-effect i = by-cases (ℕ-discrete i (s .target))
-      (λ e. subst (λ j. Shrinks P (entry P j) (entry (effect P s) j)) (sym e) (subst (Shrinks P (entry P (s .target))) (sym (at-target n P s h)) (shrinks-target (s .kind) f (λ u. partner-asked n P s h u .0) (asks n P s h))))
-      (λ d. shrinks-same P _ _ (at-other n P s h i d))
+      (λ e. subst (λ j. Shrinks P (entry P j) (entry (effect P s) j)) (sym e) (subst (Shrinks P (entry P (s .target))) (sym (at-target n P s h on)) (shrinks-target (s .kind) (on, λ e. subst (λ d. ¬ So (definite (d .clause))) (at-target n P s h on) (f e)) (λ u. partner-asked n P s h u .0) (asks n P s h))))
+      (λ d. shrinks-same P _ _ (at-other n P s h on i d))
 
-  -- Every kind but 4 leaves idle constraints idle.
+  -- Such a step leaves idle constraints idle.
   pub idle-effect : (x : List ℕ) → Idle n P x → Idle n (effect P s) x
   idle-effect x = idle-stays P (effect P s) shrinks-effect n x
 
