@@ -1,5 +1,5 @@
--- Demand 3, of every program within the limits: the same stable models before and after any list; and the reducer's own list, in the order that document 01 and slip 7 give, is accepted
--- with the same marks, with no further step open, with as many steps as marks at 0, and leaves a table with the same stable models.
+-- Demand 3, of every program within the limits: the same stable models before and after any list; and the reducer's own list, in the order that document 01 and slips 7 and 8 give, is
+-- accepted with the same marks, with no further step open, with no more steps than marks at 0, and leaves a table with the same stable models.
 use mathlib.Core.Path.{_≡_, refl, sym, ap, subst, _∙_}
 use mathlib.Core.Logic.{_↔_}
 use mathlib.Core.Bool.{So}
@@ -30,9 +30,9 @@ use Rattle.reduced_sizes.specs.Leaves.{leftProgram, reduced}
 use Rattle.step_lists.proofs.Walks.{check-made}
 use Rattle.claims.proofs.Lists.{list-keeps-models, RefusedAt, steps-refused, accepted-marks}
 use Rattle.claims.proofs.Steps.{front-made}
-use Rattle.claims.proofs.Whole.{list-words, reducer-accepted, same-marks, reducer-further, checked-counts, reducer-list-past}
+use Rattle.claims.proofs.Whole.{list-words, reducer-accepted, same-marks, reducer-further, checked-counts, checked-at-most, reducer-list-past}
 use Rattle.claims.proofs.Reduced.{reduced-accepted}
-use Rattle.claims.proofs.Reductions.{reducer-models}
+use Rattle.claims.proofs.Reductions.{withoutNine, reducer-models}
 use Rattle.claims.proofs.Allowed.{reducer-compacts}
 
 -- ---- any list
@@ -86,7 +86,7 @@ pub record Demand3 (P : Program) (ms ls ks : List ℕ) : Type 0 where
   -- the call is taken: "Its result carries the number s of steps made"
   pub s : ℕ
   pub taken : call P ms ls .answer ≡ Accepted s
-  -- "The reducer always takes the applicable step that is smallest by kind, then target, partner, atom, until none applies", but for those that slip 7 passes over
+  -- "The reducer always takes the applicable step that is smallest by kind, then target, partner, atom, until none applies", but for those that slip 7 passes over; slip 8: "The reducer tries it after 8."
   pub steps : List Step
   pub order : Greedy (eligible (P .atoms)) (whole (P .clauses)) steps
   pub list : ownList P ms ls s ≡ wordsOf steps
@@ -98,8 +98,12 @@ pub record Demand3 (P : Program) (ms ls ks : List ℕ) : Type 0 where
   pub same : take (length (encode P)) (checkList (encode P) ks (ownList P ms ls s) .marks) ≡ take (length (encode P)) (call P ms ls .marks)
   -- "No further step of any kind is then open: whatever four words stand behind that list as one step more, that step is refused."
   pub further : (a b c d : ℕ) → (q : StepQuestion) × (checkList (encode P) ks (ownList P ms ls s ++ a ∷ b ∷ c ∷ d ∷ []) .answer ≡ Refused (refusal.Step q s))
-  -- "The steps that the reducer reports number exactly the clauses deleted plus the body literals dropped": "the marks at 0 among the table's words after that list is checked"
-  pub count : s ≡ zeros (encode P) (checkList (encode P) ks (ownList P ms ls s) .marks)
+  -- slip 8: "The count reported is the number of steps written;
+  pub written : s ≡ length steps
+  -- without kind 9 among them it equals the marks at 0," those "among the table's words after that list is checked", which are "the clauses deleted plus the body literals dropped",
+  pub count : So (withoutNine steps) → s ≡ zeros (encode P) (checkList (encode P) ks (ownList P ms ls s) .marks)
+  -- "and otherwise steps number at most the marks at 0."
+  pub few : s ≤ zeros (encode P) (checkList (encode P) ks (ownList P ms ls s) .marks)
   -- every set of atoms, of any size, is a stable model of the program as given exactly when it is one of the program as the list leaves it,
   pub models : (M : Atoms) → Stable P M ↔ Stable (leftProgram (encode P) (call P ms ls .marks)) M
   -- and one of the reduced table, wherever that fits: "A reduced table holds exactly the program that its marks leave"
@@ -125,7 +129,9 @@ demand-3 P w ms ls ks a b c =
       accepted = reducer-accepted ws ms ls ks (length l) h c;
       same = same-marks ws ms ls ks (length l) h c;
       further = reducer-further ws ms ls ks (length l) h c;
+      written = refl;
       count = checked-counts ws ms ls ks (length l) h c;
+      few = checked-at-most ws ms ls ks (length l) h c;
       models = m;
       table = λ out f. held out _ (reducer-compacts ws ms ls out (length l) h f) m;
     }

@@ -21,7 +21,7 @@ use Rattle.table.specs.View.{view}
 use Rattle.step_conditions.specs.declared.Step as words
 use Rattle.step_questions.specs.Questions.{stepQuestions}
 use Rattle.step_questions.specs.Verdicts.{conditionOf, verdictAt}
-use Rattle.step_questions.proofs.Laws.{shape-both, fine-applies}
+use Rattle.step_questions.proofs.Laws.{shape-kind, fine-applies}
 use Rattle.step_lists.specs.Leaves.{wordsAt}
 use Rattle.reducer_results.specs.Reductions.{room}
 use Rattle.claims.proofs.Said.{firstNo}
@@ -73,5 +73,5 @@ either-order ws ms ls rs k x e q h =
     let n = getD ws 0 0 in
     let P = view ws ms in
     let f = none-fine ws ms ls k .0 h in
-    let b = shape-both n P (wordsAt ls k) (conditionOf P (wordsAt ls k)) (sym f) .0 in
-    none-fine ws ms rs k .1 (ap (λ w. verdictAt n P w) q ∙ applies-fine n P (exchanged (wordsAt ls k)) (b .low) (b .high) (mirror-applies n P (stepAt ls k) x e (fine-applies n P (wordsAt ls k) (sym f))))
+    let b = shape-kind n P (wordsAt ls k) (conditionOf P (wordsAt ls k)) (sym f) in
+    none-fine ws ms rs k .1 (ap (λ w. verdictAt n P w) q ∙ applies-fine n P (exchanged (wordsAt ls k)) (b .0) (b .1) (mirror-applies n P (stepAt ls k) x e (fine-applies n P (wordsAt ls k) (sym f))))

@@ -7,6 +7,8 @@ use Rattle.semantics.specs.Lists.{same}
 use Rattle.semantics.specs.Decide.{sublists, stableTest}
 use Rattle.rewriting.specs.Marked.{left}
 use Rattle.rewriting.specs.Reaches.{fire, reachFrom, reach}
+use Rattle.rewriting.specs.Consequences.{consequences}
+use Rattle.rewriting.specs.Exclusion.{excludes, removal}
 use Rattle.rewriting.specs.Steps.{inNoHead, condition, atomHeaded, conditionHolds, applies, effect}
 use Rattle.rewriting.specs.Reducer.{passedOver, eligible}
 use Rattle.rewriting.specs.Search.{least, firstAtom, firstPartner, firstTarget, firstStep, reduce}
@@ -16,6 +18,7 @@ use Rattle.table.specs.Questions as questions
 use Rattle.table.specs.Places.{startFrom}
 use Rattle.table.specs.Programs.{clausesOf, programOf}
 use Rattle.table.specs.View.{part, entryAt, entriesFrom, view}
+use Rattle.table.specs.Clearing.{clearPart, clearClause, clearFrom, marksWithout}
 use Rattle.table.specs.Effects.{find, clears, marksAfter, marksAfterAll}
 use Rattle.models_test.specs.Answer as sets
 use Rattle.dependency.specs.Decide.{turned, leads, cyclic}
@@ -58,5 +61,5 @@ rows =
     ∷ []
 
 pub examples : AllSay rows
-unfolding satisfies reduct models sublists stableTest left fire reachFrom reach inNoHead condition atomHeaded conditionHolds applies effect same passedOver eligible least firstAtom firstPartner firstTarget firstStep reduce ask questions.atomsFrom questions.partsFrom questions.clauseFrom questions.clausesFrom questions.allUsed questions.tableOf startFrom clausesOf programOf part entryAt entriesFrom view find clears marksAfter sets.setOf sets.testOf turned leads cyclic cycles.cycleOf steps.shapeQuestions steps.conditionQuestions steps.stepQuestions lists.stepsFrom lists.checkList wordsOf reductions.bodyLiterals reductions.room reductions.stepsOf reductions.reduction marksAfterAll questions.onWalk questions.onTable
+unfolding satisfies reduct models sublists stableTest left fire reachFrom reach consequences excludes removal inNoHead condition atomHeaded conditionHolds applies effect same passedOver eligible least firstAtom firstPartner firstTarget firstStep reduce ask questions.atomsFrom questions.partsFrom questions.clauseFrom questions.clausesFrom questions.allUsed questions.tableOf startFrom clausesOf programOf part entryAt entriesFrom view find clears clearPart clearClause clearFrom marksWithout marksAfter sets.setOf sets.testOf turned leads cyclic cycles.cycleOf steps.shapeQuestions steps.conditionQuestions steps.stepQuestions lists.stepsFrom lists.checkList wordsOf reductions.literals reductions.room reductions.stepsOf reductions.reduction marksAfterAll questions.onWalk questions.onTable
 examples = (refl, (refl, (refl, (refl, (refl, (refl, (refl, (refl, (refl, ((refl, refl), (refl, ((refl, refl), (refl, (refl, ((refl, refl), ((refl, refl), tt))))))))))))))))

@@ -1,18 +1,20 @@
 -- Checking a list keeps the stable models, whatever its answer; what a refused call leaves; and marks past the table.
 use mathlib.Core.Path.{_≡_, refl, sym, ap, subst, _∙_}
-use mathlib.Core.Logic.{_↔_, _≢_, _⊎_, inl, inr, Iff·trans, Iff·rfl}
+use mathlib.Core.Logic.{_↔_, _≢_, _⊎_, inl, inr, by-cases, Iff·trans, Iff·rfl}
 use mathlib.Core.Bool.{Bool, true, false, So}
 use mathlib.Core.List.{List}
 use mathlib.Core.Option.{none, some}
 use Prim.Native.Nat.{ℕ, zero, suc, _+_, _-_, _/_, _≤_, _<_}
 use native.Mathlib.Omega.{arith}
 use lib.Dec.{leb}
-use lib.ListN.{length, getD, drop, replicate, length-replicate}
-use lib.Seq.{drop-set-lt, drop-at}
+use lib.ListN.{length, getD, drop, replicate, length-replicate, length-drop}
+use lib.Seq.{drop-set-lt, drop-at, ext-getD, getD-drop}
 use borrow.Author.Tests.{leb-true}
 use Rattle.semantics.specs.Programs.{Atoms, program, Stable}
 use Rattle.rewriting.specs.Marked.{left}
-use Rattle.rewriting.specs.Steps.{applies}
+use Rattle.semantics.proofs.Tests.{so-dec, so-false}
+use Rattle.rewriting.specs.Kinds.{onTarget}
+use Rattle.rewriting.specs.Steps.{Step, applies}
 use Rattle.rewriting.proofs.Sound.{step-sound}
 use Rattle.answers.specs.declared.StepQuestion.{StepQuestion}
 use Rattle.answers.specs.declared.StepQuestion.the-variants.{KindKnown, TargetKept, PartnerKept, AtomKnown, AtomMatches, AtomHeaded, ConditionHolds}
@@ -28,10 +30,12 @@ use Rattle.table.specs.Questions.{Passed, tableOf, onTable}
 use Rattle.table.proofs.Refused.{table-refused}
 use Rattle.table.specs.Programs.{programOf}
 use Rattle.table.specs.View.{view, allKept}
+use Rattle.table.specs.Clearing.{marksWithout}
 use Rattle.table.specs.Effects.{marksAfter}
 use Rattle.table.proofs.Laws.{one-left}
 use Rattle.table.proofs.Encoding.{valid-passed}
-use Rattle.table.proofs.View.{view-after, length-after, clears-lt}
+use Rattle.table.proofs.Cleared.{length-without-marks, without-past}
+use Rattle.table.proofs.View.{view-after, length-after, clears-lt, after-on, after-off}
 use Rattle.table.proofs.Parts.{left-allKept, length-allKept}
 use Rattle.answers.specs.declared.Answer.the-variants.{Accepted, Refused}
 use Rattle.step_questions.specs.declared.Verdict.{Verdict}
@@ -67,10 +71,17 @@ module _ (ws ls : List ℕ) (passed : Passed ws) where
       left k ms l Iff·rfl
 
   steps-past : (left k : ℕ) (ms : List ℕ) → length ws ≤ length ms → drop (length ws) (stepsFrom ws ms ls k left .marks) ≡ drop (length ws) ms
-  unfolding marksAfter
   steps-past left k ms l = steps-keep (λ x. drop (length ws) (stepsFrom ws ms ls k left .marks) ≡ drop (length ws) x)
-      (λ x j b h r. r ∙ drop-set-lt (length ws) x _ 0 (clears-lt ws x passed b (getD ws 0 0) (stepAt ls j) h))
+      (λ x j b h r. r ∙ after-past x (stepAt ls j) b h)
       left k ms l refl
+    where
+      -- a step changes no mark past the table
+      after-past : (x : List ℕ) (s : Step) → length ws ≤ length x → So (applies (getD ws 0 0) (view ws x) s) → drop (length ws) (marksAfter ws x s) ≡ drop (length ws) x
+      after-past x s b h = by-cases (so-dec (onTarget (s .kind)))
+          (λ q. ap (drop (length ws)) (after-on ws x s q) ∙ drop-set-lt (length ws) x _ 0 (clears-lt ws x passed b (getD ws 0 0) s q h))
+          (λ q. ap (drop (length ws)) (after-off ws x s (so-false _ q)) ∙ ext-getD 0 (drop (length ws) (marksWithout ws x (s .atom))) (drop (length ws) x)
+          (simp length-drop (ap (λ k. k - length ws) (length-without-marks ws x (s .atom))))
+          (λ i z. getD-drop (length ws) (marksWithout ws x (s .atom)) i 0 ∙ without-past ws x (s .atom) (length ws + i) passed (omega arith) ∙ sym (getD-drop (length ws) x i 0)))
 
 steps-count : (ws ls : List ℕ) (left k : ℕ) (ms : List ℕ) (s : ℕ) → stepsFrom ws ms ls k left .answer ≡ Accepted s → s ≡ k + left
 unfolding stepsFrom onVerdict

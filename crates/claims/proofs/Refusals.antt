@@ -10,6 +10,8 @@ use Rattle.semantics.specs.Lists.{same}
 use Rattle.semantics.specs.Decide.{sublists, stableTest}
 use Rattle.rewriting.specs.Marked.{left}
 use Rattle.rewriting.specs.Reaches.{fire, reachFrom, reach}
+use Rattle.rewriting.specs.Consequences.{consequences}
+use Rattle.rewriting.specs.Exclusion.{excludes, removal}
 use Rattle.rewriting.specs.Steps.{inNoHead, condition, atomHeaded, conditionHolds, applies, effect}
 use Rattle.rewriting.specs.Reducer.{passedOver, eligible}
 use Rattle.rewriting.specs.Search.{least, firstAtom, firstPartner, firstTarget, firstStep}
@@ -21,6 +23,7 @@ use Rattle.table.specs.Encoding.{clausesWords, encode}
 use Rattle.table.specs.Places.{startFrom}
 use Rattle.table.specs.Programs.{clausesOf, programOf}
 use Rattle.table.specs.View.{part, entryAt, entriesFrom, view}
+use Rattle.table.specs.Clearing.{clearPart, clearClause, clearFrom, marksWithout}
 use Rattle.table.specs.Effects.{find, clears, marksAfter, marksAfterAll}
 use Rattle.reduced_marks.specs.Allowed.{clearableFrom, marksFrom}
 use Rattle.models_test.specs.Answer as sets
@@ -102,19 +105,23 @@ rows =
     ∷ row (reduceCall rule (replicate 6 1) []) (refusal 9 0)
     ∷ row (reducedCall rule (replicate 6 1) []) (refusal 9 0)
     ∷ row (checkCall (2 ∷ 0 ∷ 0 ∷ []) [] []) (refusal 8 2)
-    -- 10 "Is the mark of each table word 0 or 1, and 0 only at a clause's first word or a body atom (place of the first that isn't)?": the mark of m; of the head atom; one of 2
-    -- at the body atom; and 0 at the clause's first word and at its body atom, which leave 2 0
+    -- 10 "Is the mark of each table word 0 or 1, and 0 only at a clause's first word or a body atom (place of the first that isn't)?"; slip 8: "question 10 allows 0 at head
+    -- atoms": the mark of m; of a count; one of 2 at the body atom behind a 0 at the head atom; the head atom's alone, which leaves <- 1.; one of 2; and 0 at the clause's first word and at
+    -- its body atom, which leave 2 0
     ∷ row (reducedCall rule (1 ∷ 0 ∷ 1 ∷ 1 ∷ 1 ∷ 0 ∷ 1 ∷ []) []) (refusal 10 1)
-    ∷ row (reducedCall rule (1 ∷ 1 ∷ 1 ∷ 1 ∷ 1 ∷ 0 ∷ 2 ∷ []) []) (refusal 10 5)
+    ∷ row (reducedCall rule (1 ∷ 1 ∷ 1 ∷ 0 ∷ 1 ∷ 0 ∷ 1 ∷ []) []) (refusal 10 3)
+    ∷ row (reducedCall rule (1 ∷ 1 ∷ 1 ∷ 1 ∷ 1 ∷ 0 ∷ 2 ∷ []) []) (refusal 10 6)
+    ∷ row (reducedCall rule (1 ∷ 1 ∷ 1 ∷ 1 ∷ 1 ∷ 0 ∷ 1 ∷ []) (replicate 6 9)) (value 6)
     ∷ row (reducedCall rule (1 ∷ 1 ∷ 1 ∷ 1 ∷ 1 ∷ 1 ∷ 2 ∷ []) []) (refusal 10 6)
     ∷ row (reducedCall rule (1 ∷ 1 ∷ 0 ∷ 1 ∷ 1 ∷ 1 ∷ 0 ∷ []) (0 ∷ 0 ∷ [])) (value 2)
     -- 11 "Is the length a multiple of 4, at most 32,760?": a list of 32,760 words passes it, and its first step, of kind 0, is refused
     ∷ checks (9 ∷ 9 ∷ 9 ∷ []) (refusal 11 0)
     ∷ checks (replicate 32764 0) (refusal 11 0)
     ∷ checks (replicate 32760 0) (refusal 12 0)
-    -- 12 "Is the kind 1 to 8?", at step 0 and at step 1
+    -- 12 "Is the kind 1 to 8?", and slip 8: "Question 12 allows 9"; at step 0 and at step 1
     ∷ checks (0 ∷ 9 ∷ 9 ∷ 9 ∷ []) (refusal 12 0)
-    ∷ checks (6 ∷ 0 ∷ 0 ∷ 1 ∷ 9 ∷ 0 ∷ 0 ∷ 0 ∷ []) (refusal 12 1)
+    ∷ checks (6 ∷ 0 ∷ 0 ∷ 1 ∷ 10 ∷ 0 ∷ 0 ∷ 0 ∷ []) (refusal 12 1)
+    ∷ checks (6 ∷ 0 ∷ 0 ∷ 1 ∷ 9 ∷ 0 ∷ 0 ∷ 0 ∷ []) (refusal 13 1)
     -- 13 "Is the target below m and kept?": not below m; deleted by the step before
     ∷ checks (6 ∷ 1 ∷ 9 ∷ 9 ∷ []) (refusal 13 0)
     ∷ checks (6 ∷ 0 ∷ 0 ∷ 1 ∷ 6 ∷ 0 ∷ 0 ∷ 1 ∷ []) (refusal 13 1)
@@ -129,9 +136,9 @@ rows =
     -- 16 "Does the kind's condition hold?": 0 is in the head, and not in the body
     ∷ checks (1 ∷ 0 ∷ 0 ∷ 0 ∷ []) (refusal 16 0)
     ∷ checks (6 ∷ 0 ∷ 0 ∷ 1 ∷ []) (value 1)
-    -- 17 "Has the list at least 4 times (m plus all body literals) words?": 4 times 2, though 1 step is made
-    ∷ row (reduceCall rule (replicate 7 5) (replicate 7 9)) (refusal 17 0)
-    ∷ row (reduceCall rule (replicate 7 5) (replicate 8 9)) (value 1)
+    -- 17 "Has the list at least 4 times (m plus all body literals) words?", and slip 8: "17 counts all literals": 4 times 3, though 1 step is made
+    ∷ row (reduceCall rule (replicate 7 5) (replicate 11 9)) (refusal 17 0)
+    ∷ row (reduceCall rule (replicate 7 5) (replicate 12 9)) (value 1)
     -- 18 "Does the result fit?": 7 words, none gone
     ∷ row (reducedCall rule (replicate 7 1) (replicate 6 9)) (refusal 18 0)
     ∷ row (reducedCall rule (replicate 7 1) (replicate 7 9)) (value 7)
@@ -173,5 +180,5 @@ rows =
     ∷ []
 
 pub refusals : AllSay rows
-unfolding satisfies reduct models sublists stableTest left fire reachFrom reach inNoHead condition atomHeaded conditionHolds applies effect same passedOver eligible least firstAtom firstPartner firstTarget firstStep search.reduce ask questions.atomsFrom questions.partsFrom questions.clauseFrom questions.clausesFrom questions.allUsed questions.tableOf startFrom clausesOf clausesWords encode programOf part entryAt entriesFrom view find clears marksAfter marksAfterAll clearableFrom marksFrom sets.setOf sets.testOf steps.shapeQuestions steps.conditionQuestions steps.stepQuestions lists.stepsFrom lists.checkList wordsOf reductions.bodyLiterals reductions.room reductions.stepsOf reductions.reduction compaction.markedAnswer compaction.reducedAnswer between width places digits others commas lineText clauseText clausesText render reader.then reader.starts reader.run reader.ended reader.spanAt reader.nextOf reader.scan reader.numbers reader.onSpan reader.valueOf reader.valueAt reader.numberAt reader.countAt insert sorted reader.listOf reader.listAt reader.clauseAt reader.clausesAt reader.restAt reader.programAt reader.readText reader.readAnswer writer.textOf writer.writeAnswer questions.onWalk questions.onTable
-refusals = (refl, (refl, (refl, (refl, (refl, (refl, (refl, (refl, (refl, (refl, (refl, (refl, (refl, (refl, (refl, (refl, (refl, (refl, (refl, (refl, (refl, (refl, (refl, (refl, (refl, (refl, (refl, (refl, (refl, (refl, (refl, (refl, (refl, (refl, (refl, (refl, (refl, (refl, (refl, (refl, (refl, (refl, (refl, (refl, (refl, (refl, (refl, (refl, (refl, (refl, (refl, (refl, (refl, (refl, (refl, (refl, (refl, (refl, (refl, (refl, (refl, (refl, (refl, (refl, (refl, (refl, (refl, (refl, (refl, tt)))))))))))))))))))))))))))))))))))))))))))))))))))))))))))))))))))))
+unfolding satisfies reduct models sublists stableTest left fire reachFrom reach consequences excludes removal inNoHead condition atomHeaded conditionHolds applies effect same passedOver eligible least firstAtom firstPartner firstTarget firstStep search.reduce ask questions.atomsFrom questions.partsFrom questions.clauseFrom questions.clausesFrom questions.allUsed questions.tableOf startFrom clausesOf clausesWords encode programOf part entryAt entriesFrom view find clears clearPart clearClause clearFrom marksWithout marksAfter marksAfterAll clearableFrom marksFrom sets.setOf sets.testOf steps.shapeQuestions steps.conditionQuestions steps.stepQuestions lists.stepsFrom lists.checkList wordsOf reductions.literals reductions.room reductions.stepsOf reductions.reduction compaction.markedAnswer compaction.reducedAnswer between width places digits others commas lineText clauseText clausesText render reader.then reader.starts reader.run reader.ended reader.spanAt reader.nextOf reader.scan reader.numbers reader.onSpan reader.valueOf reader.valueAt reader.numberAt reader.countAt insert sorted reader.listOf reader.listAt reader.clauseAt reader.clausesAt reader.restAt reader.programAt reader.readText reader.readAnswer writer.textOf writer.writeAnswer questions.onWalk questions.onTable
+refusals = (refl, (refl, (refl, (refl, (refl, (refl, (refl, (refl, (refl, (refl, (refl, (refl, (refl, (refl, (refl, (refl, (refl, (refl, (refl, (refl, (refl, (refl, (refl, (refl, (refl, (refl, (refl, (refl, (refl, (refl, (refl, (refl, (refl, (refl, (refl, (refl, (refl, (refl, (refl, (refl, (refl, (refl, (refl, (refl, (refl, (refl, (refl, (refl, (refl, (refl, (refl, (refl, (refl, (refl, (refl, (refl, (refl, (refl, (refl, (refl, (refl, (refl, (refl, (refl, (refl, (refl, (refl, (refl, (refl, (refl, (refl, (refl, tt))))))))))))))))))))))))))))))))))))))))))))))))))))))))))))))))))))))))

@@ -9,6 +9,8 @@ use Rattle.semantics.specs.Lists.{same}
 use Rattle.semantics.specs.Decide.{sublists, stableTest}
 use Rattle.rewriting.specs.Marked.{left}
 use Rattle.rewriting.specs.Reaches.{fire, reachFrom, reach}
+use Rattle.rewriting.specs.Consequences.{consequences}
+use Rattle.rewriting.specs.Exclusion.{excludes, removal}
 use Rattle.rewriting.specs.Steps.{inNoHead, condition, atomHeaded, conditionHolds, applies, effect}
 use Rattle.rewriting.specs.Reducer.{passedOver, eligible}
 use Rattle.rewriting.specs.Search.{least, firstAtom, firstPartner, firstTarget, firstStep, reduce}
@@ -19,6 +21,7 @@ use Rattle.table.specs.Places.{startFrom}
 use Rattle.table.specs.Encoding.{clausesWords, encode}
 use Rattle.table.specs.Programs.{clausesOf, programOf}
 use Rattle.table.specs.View.{part, entryAt, entriesFrom, view}
+use Rattle.table.specs.Clearing.{clearPart, clearClause, clearFrom, marksWithout}
 use Rattle.table.specs.Effects.{find, clears, marksAfter, marksAfterAll}
 use Rattle.dependency.specs.Decide.{turned, leads, cyclic}
 use Rattle.cycle.specs.Answer.{cycleOf}
@@ -240,8 +243,8 @@ rows =
     ∷ writes (1 ∷ 3 ∷ 1 ∷ 0 ∷ 0 ∷ 0 ∷ 1 ∷ 0 ∷ 0 ∷ 0 ∷ 1 ∷ 0 ∷ 0 ∷ 0 ∷ []) (8 ∷ 1 ∷ 0 ∷ 0 ∷ 8 ∷ 2 ∷ 0 ∷ 0 ∷ [])
     ∷ writes (0 ∷ 3 ∷ 0 ∷ 0 ∷ 0 ∷ 0 ∷ 0 ∷ 0 ∷ 0 ∷ 0 ∷ 0 ∷ []) (5 ∷ 1 ∷ 0 ∷ 0 ∷ 5 ∷ 2 ∷ 0 ∷ 0 ∷ [])
     ∷ writes (1 ∷ 3 ∷ 1 ∷ 0 ∷ 0 ∷ 0 ∷ 0 ∷ 0 ∷ 0 ∷ 0 ∷ 0 ∷ 0 ∷ []) (5 ∷ 0 ∷ 1 ∷ 0 ∷ 5 ∷ 2 ∷ 1 ∷ 0 ∷ [])
-    -- equal constraints: 0|1. <- 0. <- 0.
-    ∷ writes (2 ∷ 3 ∷ 2 ∷ 0 ∷ 0 ∷ 0 ∷ 1 ∷ 0 ∷ 1 ∷ 0 ∷ 0 ∷ 0 ∷ 1 ∷ 0 ∷ 0 ∷ []) (8 ∷ 2 ∷ 1 ∷ 0 ∷ [])
+    -- equal constraints: 0|1. <- 0. <- 0., where slip 8 takes the atom out then
+    ∷ writes (2 ∷ 3 ∷ 2 ∷ 0 ∷ 0 ∷ 0 ∷ 1 ∷ 0 ∷ 1 ∷ 0 ∷ 0 ∷ 0 ∷ 1 ∷ 0 ∷ 0 ∷ []) (8 ∷ 2 ∷ 1 ∷ 0 ∷ 9 ∷ 1 ∷ 0 ∷ 0 ∷ [])
     -- "as left": a drop makes the earlier of two equal facts, 0. 1 <- 0. 1., or the later, 1. 0. 1 <- 0.
     ∷ writes (2 ∷ 3 ∷ 1 ∷ 0 ∷ 0 ∷ 0 ∷ 1 ∷ 1 ∷ 0 ∷ 1 ∷ 0 ∷ 1 ∷ 0 ∷ 0 ∷ 1 ∷ []) (3 ∷ 1 ∷ 0 ∷ 0 ∷ 8 ∷ 2 ∷ 1 ∷ 0 ∷ [])
     ∷ writes (2 ∷ 3 ∷ 1 ∷ 0 ∷ 0 ∷ 1 ∷ 1 ∷ 0 ∷ 0 ∷ 0 ∷ 1 ∷ 1 ∷ 0 ∷ 1 ∷ 0 ∷ []) (3 ∷ 2 ∷ 1 ∷ 0 ∷ 8 ∷ 2 ∷ 0 ∷ 0 ∷ [])
@@ -255,5 +258,5 @@ rows =
     ∷ []
 
 pub requests : AllSay rows
-unfolding left fire reachFrom reach inNoHead condition atomHeaded conditionHolds applies effect same passedOver eligible least firstAtom firstPartner firstTarget firstStep reduce ask questions.atomsFrom questions.partsFrom questions.clauseFrom questions.clausesFrom questions.allUsed questions.tableOf startFrom clausesOf programOf part entryAt entriesFrom view find clears marksAfter marksAfterAll steps.shapeQuestions steps.conditionQuestions steps.stepQuestions checking.stepsFrom checking.checkList wordsOf reductions.bodyLiterals reductions.room reductions.stepsOf reductions.reduction questions.onWalk questions.onTable turned leads cyclic cycleOf programs.satisfies programs.reduct programs.models sublists stableTest below entriesOf stableWord modelsOf modelsAnswer modelsOut writtenIf between width places digits others commas lineText clauseText clausesText render textOf writeAnswer outAfter clausesWords encode insert sorted reader.then reader.starts reader.run reader.ended reader.spanAt reader.nextOf reader.scan reader.numbers reader.onSpan reader.valueOf reader.valueAt reader.numberAt reader.countAt reader.listOf reader.listAt reader.clauseAt reader.clausesAt reader.restAt reader.programAt reader.readText reader.readAnswer reader.tableAfter
+unfolding left fire reachFrom reach consequences excludes removal inNoHead condition atomHeaded conditionHolds applies effect same passedOver eligible least firstAtom firstPartner firstTarget firstStep reduce ask questions.atomsFrom questions.partsFrom questions.clauseFrom questions.clausesFrom questions.allUsed questions.tableOf startFrom clausesOf programOf part entryAt entriesFrom view find clears clearPart clearClause clearFrom marksWithout marksAfter marksAfterAll steps.shapeQuestions steps.conditionQuestions steps.stepQuestions checking.stepsFrom checking.checkList wordsOf reductions.literals reductions.room reductions.stepsOf reductions.reduction questions.onWalk questions.onTable turned leads cyclic cycleOf programs.satisfies programs.reduct programs.models sublists stableTest below entriesOf stableWord modelsOf modelsAnswer modelsOut writtenIf between width places digits others commas lineText clauseText clausesText render textOf writeAnswer outAfter clausesWords encode insert sorted reader.then reader.starts reader.run reader.ended reader.spanAt reader.nextOf reader.scan reader.numbers reader.onSpan reader.valueOf reader.valueAt reader.numberAt reader.countAt reader.listOf reader.listAt reader.clauseAt reader.clausesAt reader.restAt reader.programAt reader.readText reader.readAnswer reader.tableAfter
 requests = (refl, (refl, (refl, ((refl, refl), (refl, (refl, (refl, (refl, (refl, (refl, (refl, (refl, (refl, (refl, (refl, (refl, ((refl, refl), (refl, (refl, (refl, (refl, (refl, (refl, (refl, (refl, (refl, (refl, ((refl, refl), ((refl, refl), ((refl, refl), ((refl, refl), ((refl, refl), ((refl, refl), ((refl, refl), ((refl, refl), ((refl, refl), ((refl, refl), ((refl, refl), (refl, (refl, (refl, (refl, (refl, (refl, (refl, (refl, (refl, (refl, (refl, (refl, (refl, (refl, (refl, (refl, (refl, ((refl, refl), ((refl, refl), ((refl, refl), ((refl, refl), ((refl, refl), ((refl, refl), ((refl, refl), (refl, (refl, (refl, (refl, (refl, (refl, ((refl, refl), ((refl, refl), ((refl, refl), ((refl, refl), ((refl, refl), ((refl, refl), (refl, (refl, (refl, (refl, (refl, (refl, (refl, (refl, (refl, ((refl, refl), (refl, (refl, (refl, (refl, (refl, (refl, (refl, (refl, (refl, (refl, ((refl, refl), (refl, (refl, ((refl, refl), (refl, (refl, (refl, (refl, (refl, ((refl, refl), (refl, (refl, ((refl, refl), (refl, (refl, (refl, (refl, ((refl, refl), ((refl, refl), ((refl, refl), ((refl, refl), ((refl, refl), ((refl, refl), ((refl, refl), ((refl, refl), ((refl, refl), ((refl, refl), tt)))))))))))))))))))))))))))))))))))))))))))))))))))))))))))))))))))))))))))))))))))))))))))))))))))))))))))))))))))))))))

@@ -1,5 +1,5 @@
 -- Slip 1 of document 02, "Success steps name their atom", of every list of steps: what a success that is taken names, and which steps 29 refuses.
-use mathlib.Core.Path.{_≡_, sym, ap, subst, _∙_}
+use mathlib.Core.Path.{_≡_, sym, ap, subst, _∙_, refl}
 use mathlib.Core.Logic.{_↔_, _≢_}
 use mathlib.Core.Bool.{Bool, true, false, So}
 use mathlib.Core.List.{List, [], _∷_}
@@ -9,7 +9,7 @@ use native.Mathlib.Omega.{arith}
 use lib.ListN.{length, getD, take}
 use Rattle.semantics.specs.Lists.{_∈_}
 use Rattle.rewriting.specs.Marked.{Marked, entry, left}
-use Rattle.rewriting.specs.Kinds.{success, rowOf, number, kindOf}
+use Rattle.rewriting.specs.Kinds.{success, rowOf, number, kindOf, onTarget}
 use Rattle.rewriting.specs.Steps.{Step, fact, targetKept, partnerKept, atomKnown, atomMatches, atomHeaded, condition, conditionHolds, applies, dropPos, leftBy, effect}
 use Rattle.rewriting.proofs.Rows.{kindOf-number, succeeds, matches-no}
 use Rattle.rewriting.proofs.Effect.{asks, at-target}
@@ -37,7 +37,7 @@ pub record Named (P : Marked) (s : Step) : Type 0 where
 pub success-named : (n : ℕ) (P : Marked) (s : Step) → s .kind ≡ success → So (applies n P s) → Named P s
 success-named n P s k h =
     let w = succeeds (left P) (entry P (s .target) .clause) (entry P (s .partner) .clause) (s .atom) (subst (λ j. So (condition j (left P) (entry P (s .target) .clause) (entry P (s .partner) .clause) (s .atom))) k (asks n P s h)) in
-    record { isFact = w .isFact; head = w .head; there = w .there; drops = at-target n P s h ∙ ap (λ j. leftBy (rowOf j .deed) (s .atom) (entry P (s .target) .clause)) k }
+    record { isFact = w .isFact; head = w .head; there = w .there; drops = at-target n P s h (subst (λ j. So (onTarget j)) (sym k) refl) ∙ ap (λ j. leftBy (rowOf j .deed) (s .atom) (entry P (s .target) .clause)) k }
 
 -- Every success of a list that is taken names its atom, on the program that the steps before it leave: whoever wrote the list. "Lists with the old filler pass only
 -- where the atom is 0": a success with 0 has a partner whose head is 0.

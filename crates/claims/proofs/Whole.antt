@@ -44,7 +44,7 @@ use Rattle.step_lists.specs.Leaves.{wordsAt}
 use Rattle.step_lists.proofs.Walks.{verdictOn, steps-verdict, check-made}
 use Rattle.answers.proofs.Slices.{take-written}
 use Rattle.claims.proofs.Lists.{marks-past-table}
-use Rattle.claims.proofs.Reductions.{reducer-refused}
+use Rattle.claims.proofs.Reductions.{withoutNine, without-nine, reducer-refused}
 use Rattle.claims.proofs.Agree.{afterAll-agree}
 
 -- ---- a step as four words
@@ -72,7 +72,7 @@ next-words ls r k s l e =
     ap (λ i. drop i ls) f ∙ past ls (number (s .kind) ∷ s .target ∷ s .partner ∷ s .atom ∷ []) (wordsOf l ++ r) (4 * k) e
 
 -- a step that applies gets a yes to every question
-pub applies-fine : (n : ℕ) (P : Marked) (w : words.Step) → 1 ≤ w .kind → w .kind ≤ 8 → So (applies n P (stepOf w)) → verdictAt n P w ≡ Fine
+pub applies-fine : (n : ℕ) (P : Marked) (w : words.Step) → 1 ≤ w .kind → w .kind ≤ 9 → So (applies n P (stepOf w)) → verdictAt n P w ≡ Fine
 unfolding stepQuestions shapeQuestions conditionQuestions ask applies
 applies-fine n P w a b h =
     let v = simp and-iff at h in
@@ -177,23 +177,24 @@ module _ (ws ms : List ℕ) (p : Passed ws) (l : length ws ≤ length ms) where
       no (No q) e = (q, e)
 
 -- the marks of the table's words that the reducer's list leaves don't depend on the marks before
-left-agree : (ws ks ms : List ℕ) → length ws ≤ length ks → length ws ≤ length ms
+left-agree : (ws ks ms : List ℕ) → Passed ws → length ws ≤ length ks → length ws ≤ length ms
     → take (length ws) (marksAfterAll ws (allKept ws ks) (stepsOf ws)) ≡ take (length ws) (marksAfterAll ws (allKept ws ms) (stepsOf ws))
-left-agree ws ks ms a b =
+left-agree ws ks ms p a b =
     let x = marksAfterAll ws (allKept ws ks) (stepsOf ws) in
     let y = marksAfterAll ws (allKept ws ms) (stepsOf ws) in
     let u : length (take (length ws) x) ≡ length ws = length-take-le (length ws) x (omega (arith, length-afterAll ws (stepsOf ws) (allKept ws ks), length-allKept ws ks a)) in
     let v : length (take (length ws) y) ≡ length ws = length-take-le (length ws) y (omega (arith, length-afterAll ws (stepsOf ws) (allKept ws ms), length-allKept ws ms b)) in
     ext-getD 0 (take (length ws) x) (take (length ws) y) (u ∙ sym v) (λ i h.
     getD-take (length ws) x i 0 (omega arith)
-    ∙ afterAll-agree ws (stepsOf ws) (allKept ws ks) (allKept ws ms) (omega (arith, length-allKept ws ks a)) (omega (arith, length-allKept ws ms b)) (λ j _ k. allKept-one ws ks j k ∙ sym (allKept-one ws ms j k)) i (omega arith) (omega arith)
+    ∙ afterAll-agree ws p (stepsOf ws) (allKept ws ks) (allKept ws ms) (omega (arith, length-allKept ws ks a)) (omega (arith, length-allKept ws ms b)) (λ j _ k. allKept-one ws ks j k ∙ sym (allKept-one ws ms j k)) i (omega arith) (omega arith)
     ∙ sym (getD-take (length ws) y i 0 (omega arith)))
 
--- the marks at 0 that the reducer's list leaves are its steps
-zeros-left : (ws ms : List ℕ) → Passed ws → length ws ≤ length ms → zeros ws (marksAfterAll ws (allKept ws ms) (stepsOf ws)) ≡ length (stepsOf ws)
+-- the marks at 0 that the reducer's list leaves are no fewer than its steps, and without kind 9 among them just as many
+zeros-left : (ws ms : List ℕ) → Passed ws → length ws ≤ length ms
+    → (length (stepsOf ws) ≤ zeros ws (marksAfterAll ws (allKept ws ms) (stepsOf ws))) × (So (withoutNine (stepsOf ws)) → zeros ws (marksAfterAll ws (allKept ws ms) (stepsOf ws)) ≡ length (stepsOf ws))
 zeros-left ws ms p l =
     let w = view-afterAll (getD ws 0 0) ws (allKept ws ms) (stepsOf ws) p (omega (arith, length-allKept ws ms l)) (subst (λ P. So (accepted (getD ws 0 0) P (stepsOf ws))) (sym (view-allKept ws ms p)) (steps-accepted ws p)) in
-    omega (arith, w .1, zeros-allKept ws ms)
+    (omega (arith, w .1, zeros-allKept ws ms), λ n. omega (arith, w .2 (without-nine (stepsOf ws) n), zeros-allKept ws ms))
 
 -- ---- the reducer's call, and the checker's on its list
 
@@ -216,14 +217,20 @@ module _ (ws ms ls ks : List ℕ) (s : ℕ) (h : reduction ws ms ls .answer ≡ 
       let t = reducer-taken ws ms ls s h in
       ap (λ x. take (length ws) (checkList ws ks x .marks)) (list-words ws ms ls s h)
       ∙ ap (λ o. take (length ws) (o .marks)) (list-accepted ws ks (t .passed) l)
-      ∙ left-agree ws ks ms l (t .marked)
+      ∙ left-agree ws ks ms (t .passed) l (t .marked)
       ∙ ap (take (length ws)) (sym (t .marks))
 
-  -- "s is exactly the marks at 0 among the table's words after that list is checked."
-  pub checked-counts : s ≡ zeros ws (checkList ws ks (take (4 * s) (reduction ws ms ls .list)) .marks)
-  checked-counts =
-      let t = reducer-taken ws ms ls s h in
-      t .count ∙ sym (ap (λ x. zeros ws (checkList ws ks x .marks)) (list-words ws ms ls s h) ∙ ap (λ o. zeros ws (o .marks)) (list-accepted ws ks (t .passed) l) ∙ zeros-left ws ks (t .passed) l)
+  -- the marks after that list is checked are those that the reducer's list leaves
+  checked-zeros : zeros ws (checkList ws ks (take (4 * s) (reduction ws ms ls .list)) .marks) ≡ zeros ws (marksAfterAll ws (allKept ws ks) (stepsOf ws))
+  checked-zeros = ap (λ x. zeros ws (checkList ws ks x .marks)) (list-words ws ms ls s h) ∙ ap (λ o. zeros ws (o .marks)) (list-accepted ws ks (reducer-taken ws ms ls s h .passed) l)
+
+  -- "s is exactly the marks at 0 among the table's words after that list is checked.", by slip 8 without kind 9 among the steps,
+  pub checked-counts : So (withoutNine (stepsOf ws)) → s ≡ zeros ws (checkList ws ks (take (4 * s) (reduction ws ms ls .list)) .marks)
+  checked-counts n = let t = reducer-taken ws ms ls s h in t .count ∙ sym (checked-zeros ∙ zeros-left ws ks (t .passed) l .1 n)
+
+  -- "and otherwise steps number at most the marks at 0"
+  pub checked-at-most : s ≤ zeros ws (checkList ws ks (take (4 * s) (reduction ws ms ls .list)) .marks)
+  checked-at-most = let t = reducer-taken ws ms ls s h in omega (arith, t .count, checked-zeros, zeros-left ws ks (t .passed) l .0)
 
   -- With any four words behind it, it is refused at step s.
   pub reducer-further : (a b c d : ℕ) → (q : StepQuestion) × (checkList ws ks (take (4 * s) (reduction ws ms ls .list) ++ a ∷ b ∷ c ∷ d ∷ []) .answer ≡ Refused (refusal.Step q s))
