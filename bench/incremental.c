@@ -10,13 +10,18 @@
  *  - 7 by a deletion of a clause that brought an atom into the reach, which is found again when 7 is next looked for;
  *  - 8 by a drop, at the clauses that have the rarest literal of the clause that it shortened.
  * Such clauses are found along chains of the places where a literal stands. A step that is passed over is chosen later
- * only where its partner was shortened: a shorter target no longer holds the partner. */
+ * only where its partner was shortened: a shorter target no longer holds the partner.
+ *
+ * Kind 9 (slip 8) is looked for anew where no other kind has a step: what each atom leads to by definite clauses, atoms
+ * ascending, without those that an earlier one leads to, as they lead to nothing more. Plain, the search ends at a step
+ * with the first target that there is; tuned, the target is found first, and the search ends at its first step. The drops
+ * may make facts of clauses that had two heads or more, which then open 3 and 5 as others do. */
 #include <stddef.h>
 #include <stdint.h>
 #include <string.h>
 
 enum { ATOMS = 1024, CLAUSES = 2048, WORDS = 8192, NONE = 0xffff };
-enum { TAUTOLOGY = 1, CONTRADICTION, SUCCESS, NO_HEAD, BLOCKED, FAILURE, LOOP, SUBSUMED, KINDS };
+enum { TAUTOLOGY = 1, CONTRADICTION, SUCCESS, NO_HEAD, BLOCKED, FAILURE, LOOP, SUBSUMED, EXCLUDED };
 enum { HEAD = 0, POS = ATOMS, NEG = 2 * ATOMS, LITERALS = 3 * ATOMS }; /* a literal is its part plus its atom */
 
 /* A set of clauses: a bit each, and a bit for each word that isn't 0. */
@@ -28,6 +33,7 @@ struct set {
 /* Where a clause's parts begin in the table, and what is left of it. */
 struct clause {
     uint16_t first, head, pos, neg, end;
+    uint16_t heads;      /* head atoms left: a constraint has none */
     uint16_t body;       /* body literals left: a fact has none */
     uint16_t conditions; /* positive ones among them */
     uint16_t kept;
@@ -40,7 +46,7 @@ struct reducer {
     size_t steps;
     unsigned atoms, clauses;
 
-    struct set may[KINDS];         /* where a step of a kind may apply */
+    struct set may[EXCLUDED];      /* where a step of a kind below may apply */
     uint16_t chain[LITERALS];      /* the first place of a literal, or 0 */
     uint16_t heads[ATOMS];         /* how many kept clauses have the atom in their head */
     uint16_t fact[ATOMS];          /* the smallest fact whose head is this atom alone, or NONE */
@@ -62,6 +68,8 @@ struct reducer {
     uint16_t place[CLAUSES];      /* where the literal stands that a partner of a success drops */
     uint16_t key[CLAUSES];        /* the rarest literal of a clause */
     uint16_t next_keyed[CLAUSES]; /* the next clause with the same key, or NONE */
+    uint16_t missing[CLAUSES];    /* positive atoms of a clause that the atom followed does not lead to */
+    uint16_t leader[ATOMS];       /* the last atom followed that leads to this one, or NONE */
 };
 
 /* ---- sets of clauses */
@@ -100,7 +108,7 @@ static unsigned take_first(struct set *s)
 static int passed_over(const struct reducer *r, unsigned t, unsigned p)
 {
     const struct clause *c = &r->clause[t], *d = &r->clause[p];
-    return t < p && c->body == d->body && c->pos - c->head == d->pos - d->head;
+    return t < p && c->body == d->body && c->heads == d->heads;
 }
 
 /* ---- chains of places */
@@ -137,12 +145,21 @@ static void open_no_head(struct reducer *r, unsigned atom)
     open_at(r, FAILURE, POS + atom);
 }
 
-/* Clause t has become a fact. The first fact of an atom opens all that later ones would; so does the first without a
+/* The first head atom left of a clause that has one. */
+static unsigned head_atom(const struct reducer *r, unsigned t)
+{
+    unsigned i = r->clause[t].head;
+    while (!r->marks[i])
+        i++;
+    return r->words[i];
+}
+
+/* Clause t has become a fact, or one of fewer heads. The first fact of an atom opens all that later ones would; so does the first without a
  * head, but for itself, which only an earlier one blocks. */
 static void open_fact(struct reducer *r, unsigned t)
 {
     const struct clause *c = &r->clause[t];
-    if (c->head == c->pos) {
+    if (c->heads == 0) {
         if (!r->empty.some)
             for (unsigned other = 0; other < r->clauses; other++)
                 add(&r->may[BLOCKED], other);
@@ -151,8 +168,8 @@ static void open_fact(struct reducer *r, unsigned t)
         add(&r->empty, t);
         return;
     }
-    unsigned atom = r->words[c->head];
-    if (c->pos - c->head > 1) {
+    unsigned atom = head_atom(r, t);
+    if (c->heads > 1) {
         open_at(r, BLOCKED, NEG + atom);
     } else if (r->fact[atom] == NONE) {
         open_at(r, SUCCESS, POS + atom);
@@ -178,6 +195,8 @@ static void delete(struct reducer *r, unsigned t)
     remove_from(&r->empty, t);
     for (unsigned i = c->head; i < c->pos; i++) {
         unsigned atom = r->words[i];
+        if (!r->marks[i])
+            continue;
         if (--r->heads[atom] == 0)
             open_no_head(r, atom);
         if (r->source[atom] == t)
@@ -241,7 +260,7 @@ static int heads_stamped(const struct reducer *r, unsigned p)
 {
     const struct clause *c = &r->clause[p];
     for (unsigned i = c->head; i < c->pos; i++)
-        if (r->stamp[NEG + r->words[i]] != r->now)
+        if (r->marks[i] && r->stamp[NEG + r->words[i]] != r->now)
             return 0;
     return 1;
 }
@@ -261,7 +280,7 @@ static int fits(const struct reducer *r, unsigned kind, unsigned p)
         return 0;
     if (kind == BLOCKED)
         return heads_stamped(r, p);
-    return c->pos - c->head == 1 && r->stamp[POS + r->words[c->head]] == r->now;
+    return c->heads == 1 && r->stamp[POS + head_atom(r, p)] == r->now;
 }
 
 /* The smallest partner of clause t, or NONE. */
@@ -281,7 +300,7 @@ static void success(struct reducer *r, unsigned t)
     if (p == NONE)
         return;
     unsigned i = r->clause[t].pos;
-    while (r->words[i] != r->words[r->clause[p].head])
+    while (r->words[i] != head_atom(r, p))
         i++;
     write_step(r, SUCCESS, t, p, r->words[i]);
     drop(r, t, i);
@@ -425,7 +444,7 @@ static size_t fire(struct reducer *r, unsigned t, uint16_t *queue, size_t end)
 {
     for (unsigned i = r->clause[t].head; i < r->clause[t].pos; i++) {
         unsigned atom = r->words[i];
-        if (r->source[atom] == NONE) {
+        if (r->marks[i] && r->source[atom] == NONE) {
             r->source[atom] = (uint16_t)t;
             queue[end++] = (uint16_t)atom;
         }
@@ -517,7 +536,7 @@ static void open_shortened(struct reducer *r)
         for (uint16_t *link = &r->chain[r->key[p]]; live(r, link); link = &r->next[*link]) {
             unsigned t = r->owner[*link];
             const struct clause *other = &r->clause[t];
-            int within = other->body >= c->body && other->pos - other->head >= c->pos - c->head;
+            int within = other->body >= c->body && other->heads >= c->heads;
             if (t != p && within && !passed_over(r, t, p))
                 add(&r->may[SUBSUMED], t);
         }
@@ -537,6 +556,143 @@ static void subsumed(struct reducer *r, unsigned t)
     delete(r, t);
 }
 
+/* ---- kind 9: the constraints of positive atoms alone, bans, and the atoms that lead to all atoms of one */
+
+/* Whether a kept clause has no negative atom, some positive one, and so many heads. */
+static int positive(const struct clause *c, unsigned heads)
+{
+    return c->kept && c->heads == heads && c->body == c->conditions && c->body > 0;
+}
+
+/* Puts what an atom leads to by definite clauses into the queue. Returns the first ban that it leads to, or NONE. No success
+ * is left, so no positive body has a fact's atom, and facts lead nowhere. */
+static unsigned follow(struct reducer *r, unsigned atom, uint16_t *queue, size_t *end)
+{
+    unsigned ban = NONE;
+    queue[0] = (uint16_t)atom;
+    r->leader[atom] = (uint16_t)atom;
+    *end = 1;
+    for (size_t at = 0; at < *end; at++) {
+        for (uint16_t *link = &r->chain[POS + queue[at]]; live(r, link); link = &r->next[*link]) {
+            unsigned t = r->owner[*link];
+            const struct clause *c = &r->clause[t];
+            if (--r->missing[t] > 0 || c->body > c->conditions || c->heads > 1)
+                continue;
+            if (c->heads == 0) {
+                ban = t < ban ? t : ban;
+            } else if (r->leader[head_atom(r, t)] != atom) {
+                queue[*end] = (uint16_t)head_atom(r, t);
+                r->leader[queue[(*end)++]] = (uint16_t)atom;
+            }
+        }
+    }
+    return ban;
+}
+
+/* The first ban that an atom leads to, or NONE, also where the atom is in no positive body, or an atom that was followed
+ * leads to it: then that one leads to all that it does. */
+static unsigned led_to(struct reducer *r, unsigned atom)
+{
+    uint16_t queue[ATOMS];
+    size_t end;
+    if (r->leader[atom] != NONE || !live(r, &r->chain[POS + atom]))
+        return NONE;
+    unsigned ban = follow(r, atom, queue, &end);
+    while (end > 0)
+        for (uint16_t *link = &r->chain[POS + queue[--end]]; live(r, link); link = &r->next[*link])
+            r->missing[r->owner[*link]]++;
+    return ban;
+}
+
+/* No atom was followed. */
+static void follow_anew(struct reducer *r)
+{
+    for (unsigned t = 0; t < r->clauses; t++)
+        r->missing[t] = r->clause[t].conditions;
+    memset(r->leader, 0xff, sizeof r->leader);
+}
+
+/* The first ban, or NONE. */
+static unsigned first_ban(const struct reducer *r)
+{
+    for (unsigned t = 0; t < r->clauses; t++)
+        if (positive(&r->clause[t], 0))
+            return t;
+    return NONE;
+}
+
+/* A ban below which no atom leads to one, or NONE. */
+#ifdef PLAIN_SEARCH
+static unsigned least_ban(struct reducer *r)
+{
+    return first_ban(r);
+}
+#else
+/* The first one that some atom leads to: atoms that no rule derives are followed first, and most others need not be. */
+static unsigned least_ban(struct reducer *r)
+{
+    uint8_t derived[ATOMS] = {0};
+    unsigned first = first_ban(r), least = NONE;
+    follow_anew(r);
+    for (unsigned t = 0; t < r->clauses; t++)
+        if (positive(&r->clause[t], 1))
+            derived[head_atom(r, t)] = 1;
+    for (unsigned i = 0; i < 2 * r->atoms && least != first; i++) {
+        unsigned atom = i % r->atoms, ban = i < r->atoms && derived[atom] ? NONE : led_to(r, atom);
+        least = ban < least ? ban : least;
+    }
+    return least;
+}
+#endif
+
+/* The first ban that an atom leads to, and the first such atom; or NONE. */
+static unsigned banned(struct reducer *r, unsigned *who)
+{
+    unsigned least = least_ban(r), best = NONE;
+    follow_anew(r);
+    for (unsigned atom = 0; atom < r->atoms && best != least; atom++) {
+        unsigned ban = led_to(r, atom);
+        if (ban < best) {
+            best = ban;
+            *who = atom;
+        }
+    }
+    return best;
+}
+
+/* Drops an atom from the heads and negative bodies where it stands. */
+static void drop_all(struct reducer *r, unsigned atom)
+{
+    for (uint16_t *link = &r->chain[HEAD + atom]; live(r, link);) {
+        unsigned t = r->owner[*link];
+        r->marks[*link] = 0;
+        r->clause[t].heads--;
+        add(&r->shortened, t);
+    }
+    r->heads[atom] = 0;
+    r->source[atom] = NONE;
+    for (uint16_t *link = &r->chain[NEG + atom]; live(r, link);)
+        drop(r, r->owner[*link], *link);
+}
+
+/* The step of kind 9, or 0 where there is none. */
+static int exclude(struct reducer *r)
+{
+    unsigned atom = 0, target = banned(r, &atom);
+    if (target == NONE)
+        return 0;
+    write_step(r, EXCLUDED, target, 0, atom);
+    for (uint16_t *link = &r->chain[POS + atom]; live(r, link);)
+        delete(r, r->owner[*link]);
+    drop_all(r, atom);
+    for (struct set changed = r->shortened; changed.some;) { /* the search for subsumed clauses left none in it */
+        unsigned t = take_first(&changed);
+        if (r->clause[t].body == 0)
+            open_fact(r, t);
+    }
+    return 1;
+}
+
 /* ---- the reduction */
 
 static void read_clauses(struct reducer *r)
@@ -546,7 +702,7 @@ static void read_clauses(struct reducer *r)
         const uint16_t *counts = r->words + at;
         unsigned head = at + 3, pos = head + counts[0], neg = pos + counts[1], end = neg + counts[2];
         struct clause c = {(uint16_t)at, (uint16_t)head, (uint16_t)pos, (uint16_t)neg, (uint16_t)end,
-                           (uint16_t)(counts[1] + counts[2]), counts[1], 1};
+                           counts[0], (uint16_t)(counts[1] + counts[2]), counts[1], 1};
         r->clause[t] = c;
         at = end;
     }
@@ -582,10 +738,10 @@ static void begin(struct reducer *r)
             open_no_head(r, atom);
 }
 
-/* The smallest kind that may have a step, or KINDS. An empty clause has blocked all others before 8 is looked for. */
+/* The smallest kind that may have a step, or EXCLUDED. An empty clause has blocked all others before 8 is looked for. */
 static unsigned next_kind(struct reducer *r)
 {
-    for (unsigned kind = SUCCESS; kind < KINDS; kind++) {
+    for (unsigned kind = SUCCESS; kind < EXCLUDED; kind++) {
         if (kind == LOOP && r->stale)
             find_reach(r);
         if (kind == SUBSUMED && !r->empty.some)
@@ -593,7 +749,7 @@ static unsigned next_kind(struct reducer *r)
         if (r->may[kind].some)
             return kind;
     }
-    return KINDS;
+    return EXCLUDED;
 }
 
 /* The steps of target t that may come next. */
@@ -622,10 +778,12 @@ size_t REDUCE(const uint16_t *table, size_t table_len, uint8_t *marks, uint16_t 
     begin(&r);
     delete_overlapping(&r, TAUTOLOGY);
     delete_overlapping(&r, CONTRADICTION);
-    for (unsigned kind; (kind = next_kind(&r)) < KINDS;) {
-        unsigned t = take_first(&r.may[kind]);
-        if (r.clause[t].kept)
-            search(&r, kind, t);
-    }
+    do {
+        for (unsigned kind; (kind = next_kind(&r)) < EXCLUDED;) {
+            unsigned t = take_first(&r.may[kind]);
+            if (r.clause[t].kept)
+                search(&r, kind, t);
+        }
+    } while (exclude(&r));
     return r.steps;
 }

@@ -2,7 +2,7 @@
 //! implementation before anything is measured.
 use gambrolt_tests::independent::program::{words, Program};
 use gambrolt_tests::independent::reduce;
-use gambrolt_tests::make::programs::{copies, every, program, Size, MIDDLE, SMALL, TINY};
+use gambrolt_tests::make::programs::{bans, copies, every, program, Size, MIDDLE, SMALL, TINY};
 use gambrolt_tests::random::Random;
 use gambrolt_tests::rescan::Reducer;
 
@@ -12,7 +12,7 @@ extern "C" {
 }
 
 /// The steps made, with partners by an index. The table is one that passes questions 1 to 8, and the list has room for its
-/// clauses and body literals.
+/// clauses and literals.
 pub fn tuned(table: &[u16], marks: &mut [u8], list: &mut [u16]) -> usize {
     assert!(marks.len() >= table.len() && list.len() >= 4 * table.len());
     unsafe { tuned_reduce(table.as_ptr(), table.len(), marks.as_mut_ptr(), list.as_mut_ptr()) }
@@ -29,7 +29,7 @@ const DENSE: Size = Size { atoms: 5, clauses: 24, part: 3 };
 /// How programs are drawn, their size, and how many are compared.
 type Draws = (fn(&mut Random, Size) -> Program, Size, u64);
 
-const DRAWS: [Draws; 8] = [
+const DRAWS: [Draws; 12] = [
     (program, TINY, 20_000),
     (program, SMALL, 20_000),
     (program, DENSE, 10_000),
@@ -38,6 +38,10 @@ const DRAWS: [Draws; 8] = [
     (copies, SMALL, 20_000),
     (copies, DENSE, 10_000),
     (copies, MIDDLE, 200),
+    (bans, TINY, 20_000),
+    (bans, SMALL, 20_000),
+    (bans, DENSE, 10_000),
+    (bans, MIDDLE, 200),
 ];
 
 /// Fails where the list, its length or the marks are not the documents'; gives how many programs were compared.

@@ -18,7 +18,7 @@ const TURNS: usize = 25;
 fn main() {
     println!("both C programs give the documents' list and marks on {} programs", incremental::compared());
     println!();
-    println!("| shape | words | steps | by kind 1 to 8 |");
+    println!("| shape | words | steps | by kind 1 to 9 |");
     println!("|---|---|---|---|");
     for shape in &SHAPES {
         contents(shape);
@@ -58,7 +58,7 @@ fn contents(shape: &Shape) {
     let table = shape.table(shape.full);
     let (mut marks, mut list) = (vec![0; table.len()], vec![0; 32768]);
     let steps = incremental::tuned(&table, &mut marks, &mut list);
-    let mut kinds = [0; 8];
+    let mut kinds = [0; 9];
     for step in list.chunks(4).take(steps) {
         kinds[usize::from(step[0]) - 1] += 1;
     }

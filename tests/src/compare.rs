@@ -17,7 +17,7 @@ pub const LAST: usize = 32;
 pub struct Tally {
     pub cases: u64,
     pub met: Met,
-    pub made: [u64; 9],
+    pub made: [u64; 10],
     pub loops: Loops,
     pub equal: EqualClauses,
     pub circles: Circles,
@@ -114,7 +114,7 @@ impl EqualClauses {
         for step in list.chunks(4).map(|words| Step::new(words[0], words[1], words[2], words[3])) {
             let left = Left::new(&table, &marks);
             self.count_state(&given, &left, step);
-            marks[left.cleared(&table, step)] = 0;
+            left.make(&table, step, &mut marks);
         }
     }
 

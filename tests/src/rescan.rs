@@ -1,7 +1,9 @@
 //! A straightforward reducer: it looks through all kinds, targets and partners or atoms again after every step. What a
-//! round needs of the whole program (heads, facts, the reach) it works out once a round. Of two clauses that are equal as left the
-//! earlier is no target of the later.
+//! round needs of the whole program (heads, facts, the reach, what an atom derives) it works out once a round. Of two clauses that
+//! are equal as left the earlier is no target of the later.
 use crate::independent::program::{Clause as Given, Program};
+use std::cell::OnceCell;
+use std::collections::BTreeSet;
 
 #[derive(PartialEq)]
 struct Clause {
@@ -21,12 +23,17 @@ fn subset(small: &[u16], large: &[u16]) -> bool {
 
 impl Clause {
     fn new(given: &Given) -> Clause {
-        let part = |set: &std::collections::BTreeSet<u16>| set.iter().copied().collect();
+        let part = |set: &BTreeSet<u16>| set.iter().copied().collect();
         Clause { head: part(&given.head), pos: part(&given.pos), neg: part(&given.neg) }
     }
 
     fn is_fact(&self) -> bool {
         self.pos.is_empty() && self.neg.is_empty()
+    }
+
+    /// A constraint of positive atoms alone, and not none.
+    fn is_ban(&self) -> bool {
+        self.head.is_empty() && !self.pos.is_empty() && self.neg.is_empty()
     }
 }
 
@@ -65,6 +72,7 @@ impl Reducer {
                 atom_of(7, &|c| first(&c.pos, &|atom| !reach[usize::from(atom)]))
             })
             .or_else(|| self.subsumed())
+            .or_else(|| self.excluded())
     }
 
     /// The kept clauses with their numbers.
@@ -130,12 +138,81 @@ impl Reducer {
         kind != 3 && target < partner && clause(target) == clause(partner)
     }
 
+    /// Kind 9: the first ban that some atom leads to by definite clauses, and the first such atom.
+    fn excluded(&self) -> Option<[u16; 4]> {
+        let definite = Definite::new(self);
+        let occurring: BTreeSet<u16> =
+            self.kept().flat_map(|(_, c)| [&c.head, &c.pos, &c.neg]).flatten().copied().collect();
+        let closures = vec![OnceCell::new(); self.atoms];
+        self.kept().filter(|(_, clause)| clause.is_ban()).find_map(|(target, ban)| {
+            let leads = |atom: &&u16| {
+                let closure = closures[usize::from(**atom)].get_or_init(|| definite.closure(**atom));
+                ban.pos.iter().all(|&banned| closure[usize::from(banned)])
+            };
+            occurring.iter().find(leads).map(|&atom| [9, target, 0, atom])
+        })
+    }
+
+    /// Clauses with the atom in their positive body go, the others lose it.
+    fn exclude(&mut self, atom: u16) {
+        for place in &mut self.clauses {
+            let Some(clause) = place else { continue };
+            if clause.pos.contains(&atom) {
+                *place = None;
+            } else {
+                clause.head.retain(|&other| other != atom);
+                clause.neg.retain(|&other| other != atom);
+            }
+        }
+    }
+
     fn make(&mut self, [kind, target, _, atom]: [u16; 4]) {
         let target = usize::from(target);
         match kind {
             3 => self.clauses[target].as_mut().unwrap().pos.retain(|&other| other != atom),
             4 => self.clauses[target].as_mut().unwrap().neg.retain(|&other| other != atom),
+            9 => self.exclude(atom),
             _ => self.clauses[target] = None,
         }
+    }
+}
+
+/// The definite clauses, those of one head atom and no negative one: their heads, how many positive atoms each has, and which of
+/// them wait for an atom.
+struct Definite {
+    heads: Vec<u16>,
+    missing: Vec<usize>,
+    waiting: Vec<Vec<usize>>,
+}
+
+impl Definite {
+    fn new(reducer: &Reducer) -> Definite {
+        let clauses: Vec<&Clause> =
+            reducer.kept().map(|(_, clause)| clause).filter(|c| c.head.len() == 1 && c.neg.is_empty()).collect();
+        let mut waiting = vec![Vec::new(); reducer.atoms];
+        for (number, clause) in clauses.iter().enumerate() {
+            clause.pos.iter().for_each(|&atom| waiting[usize::from(atom)].push(number));
+        }
+        let heads = clauses.iter().map(|clause| clause.head[0]).collect();
+        Definite { heads, missing: clauses.iter().map(|clause| clause.pos.len()).collect(), waiting }
+    }
+
+    /// What follows from the atom: the smallest set that holds it and the head of each clause whose positive atoms it holds.
+    fn closure(&self, atom: u16) -> Vec<bool> {
+        let mut missing = self.missing.clone();
+        let facts = (0..missing.len()).filter(|&number| missing[number] == 0).map(|number| self.heads[number]);
+        let (mut open, mut closure) = (facts.chain([atom]).collect::<Vec<_>>(), vec![false; self.waiting.len()]);
+        while let Some(next) = open.pop() {
+            if std::mem::replace(&mut closure[usize::from(next)], true) {
+                continue;
+            }
+            for &number in &self.waiting[usize::from(next)] {
+                missing[number] -= 1;
+                if missing[number] == 0 {
+                    open.push(self.heads[number]);
+                }
+            }
+        }
+        closure
     }
 }

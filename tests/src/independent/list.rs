@@ -1,5 +1,5 @@
 //! Checking a list: 9, 11, then 12 to 15, 29, 32 and 16 step by step.
-use super::steps::{has_atom, has_partner, Left, Step};
+use super::steps::{has_atom, has_partner, Left, Step, KINDS};
 use super::table::Table;
 use super::{ask, Answer, Refused};
 
@@ -27,7 +27,7 @@ fn check_on(questions: Questions, words: &[u16], marks: &mut [u8], list: &[u16])
         let step = Step::new(step[0], step[1], step[2], step[3]);
         let left = Left::new(&table, marks);
         questions(&left, step, number)?;
-        marks[left.cleared(&table, step)] = 0;
+        left.make(&table, step, marks);
     }
     Ok(list.len() as u64 / 4)
 }
@@ -41,7 +41,7 @@ pub fn questions(left: &Left, step: Step, number: usize) -> Result<(), Refused> 
 
 /// Questions 12 to 15 and 29 of one step.
 pub fn first_questions(left: &Left, step: Step, number: usize) -> Result<(), Refused> {
-    ask((1..=8).contains(&step.kind), 12, number)?;
+    ask(KINDS.contains(&step.kind), 12, number)?;
     ask(left.kept(step.target).is_some(), 13, number)?;
     let partner_is_right = match has_partner(step.kind) {
         true => left.kept(step.partner).is_some() && step.partner != step.target,

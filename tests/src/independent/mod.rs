@@ -1,4 +1,4 @@
-//! Document 01 and slips 1 to 7 of document 02, sentence by sentence, literal rather than fast. It shares nothing with the library.
+//! Document 01 and slips 1 to 8 of document 02, sentence by sentence, literal rather than fast. It shares nothing with the library.
 
 pub mod cycle;
 pub mod filter;

@@ -1,5 +1,5 @@
 //! Reducing: 9, 17, then the smallest applicable step that is not passed over, until there is none.
-use super::steps::{Left, Step};
+use super::steps::{Left, Step, KINDS};
 use super::table::Table;
 use super::{ask, Answer};
 
@@ -13,14 +13,14 @@ pub fn reduce(words: &[u16], marks: &[u8], list: &[u16]) -> (Answer, Vec<u8>, Ve
 fn reduce_on(words: &[u16], marks: &mut [u8], list: &mut [u16]) -> Answer {
     let table = Table::read(words)?;
     ask(marks.len() >= words.len(), 9, 0)?;
-    ask(list.len() >= 4 * table.clauses_and_body_literals(), 17, 0)?;
+    ask(list.len() >= 4 * table.clauses_and_literals(), 17, 0)?;
     marks[..words.len()].fill(1);
     let mut steps = 0;
     loop {
         let left = Left::new(&table, marks);
         let Some(step) = smallest(&left) else { return Ok(steps as u64) };
         list[4 * steps..4 * steps + 4].copy_from_slice(&step.words());
-        marks[left.cleared(&table, step)] = 0;
+        left.make(&table, step, marks);
         steps += 1;
     }
 }
@@ -57,7 +57,7 @@ pub fn smallest_by(applies: fn(&Left, Step) -> bool, left: &Left) -> Option<Step
     let clauses = left.clauses.len() as u16;
     let of = |kind: u16, target: u16| left.choices(kind, target).into_iter().find(|&step| applies(left, step));
     let kept = (0..clauses).filter(|&target| left.kept(target).is_some());
-    (1..=8).find_map(|kind| kept.clone().find_map(|target| of(kind, target)))
+    KINDS.into_iter().find_map(|kind| kept.clone().find_map(|target| of(kind, target)))
 }
 
 /// The list of a reducer that takes these steps, from all marks 1.
@@ -67,7 +67,7 @@ pub fn list_by(words: &[u16], next: fn(&Left) -> Option<Step>) -> Vec<[u16; 4]> 
     loop {
         let left = Left::new(&table, &marks);
         let Some(step) = next(&left) else { return list };
-        marks[left.cleared(&table, step)] = 0;
+        left.make(&table, step, &mut marks);
         list.push(step.words());
     }
 }
@@ -75,6 +75,6 @@ pub fn list_by(words: &[u16], next: fn(&Left) -> Option<Step>) -> Vec<[u16; 4]> 
 /// Every applicable step, those that the reducer passes over among them: "The checker still takes either order."
 pub fn applicable(left: &Left) -> Vec<Step> {
     let clauses = left.clauses.len() as u16;
-    let steps = (1..=8).flat_map(|kind| (0..clauses).flat_map(move |target| left.choices(kind, target)));
+    let steps = KINDS.into_iter().flat_map(|kind| (0..clauses).flat_map(move |target| left.choices(kind, target)));
     steps.filter(|&step| left.applies(step)).collect()
 }

@@ -1,6 +1,6 @@
 //! The reduced table: 9, 10, 18, then the kept clauses with their kept literals.
 use super::program;
-use super::table::Table;
+use super::table::{Span, Table};
 use super::{ask, Answer};
 
 /// The answer, and the out slice afterwards.
@@ -22,7 +22,8 @@ fn reduced_on(words: &[u16], marks: &[u8], out: &mut [u16]) -> Answer {
     Ok(reduced.len() as u64)
 }
 
-/// "0 only at a clause's first word or a body atom"
+/// "0 only at a clause's first word or a body atom"; slip 8: "question 10 allows 0 at head atoms"
 fn may_be_gone(table: &Table, place: usize) -> bool {
-    table.spans.iter().any(|span| span.first == place || span.pos.contains(&place) || span.neg.contains(&place))
+    let literal = |span: &Span| [&span.head, &span.pos, &span.neg].iter().any(|part| part.contains(&place));
+    table.spans.iter().any(|span| span.first == place || literal(span))
 }

@@ -1,7 +1,11 @@
-//! The eight steps.
+//! The nine steps.
 use super::program::{Clause, Set};
-use super::table::Table;
+use super::table::{Span, Table};
 use std::cell::OnceCell;
+use std::ops::{Range, RangeInclusive};
+
+/// "12 Is the kind 1 to 8?"; slip 8: "Question 12 allows 9".
+pub const KINDS: RangeInclusive<u16> = 1..=9;
 
 #[derive(Clone, Copy, Debug, PartialEq, Eq)]
 pub struct Step {
@@ -21,7 +25,7 @@ impl Step {
     }
 }
 
-/// "Kinds 1, 2, 4, 6, 7 have no partner word"
+/// "Kinds 1, 2, 4, 6, 7 have no partner word"; slip 8, of kind 9: "the partner is unused"
 pub fn has_partner(kind: u16) -> bool {
     matches!(kind, 3 | 5 | 8)
 }
@@ -37,11 +41,13 @@ pub struct Left {
     pub clauses: Vec<Option<Clause>>,
     heads: OnceCell<Set>,
     reach: OnceCell<Set>,
+    derived: Vec<OnceCell<Set>>,
 }
 
 impl Left {
     pub fn new(table: &Table, marks: &[u8]) -> Left {
-        Left { atoms: table.atoms, clauses: table.left(marks), heads: OnceCell::new(), reach: OnceCell::new() }
+        let derived = vec![OnceCell::new(); usize::from(table.atoms)];
+        Left { atoms: table.atoms, clauses: table.left(marks), heads: OnceCell::new(), reach: OnceCell::new(), derived }
     }
 
     pub fn kept(&self, clause: u16) -> Option<&Clause> {
@@ -72,6 +78,38 @@ impl Left {
         })
     }
 
+    /// Slip 8: "the atom a occurs in a kept clause".
+    pub fn occurs(&self, atom: u16) -> bool {
+        let has = |clause: &Clause| [&clause.head, &clause.pos, &clause.neg].iter().any(|part| part.contains(&atom));
+        self.clauses.iter().flatten().any(has)
+    }
+
+    /// Slip 8: "Let D be the smallest set that holds a and the head of each kept clause with one head atom, no negative atoms
+    /// and all positive atoms in D."
+    pub fn derived_from(&self, atom: u16) -> &Set {
+        self.derived[usize::from(atom)].get_or_init(|| {
+            let mut derived = Set::from([atom]);
+            loop {
+                let before = derived.len();
+                for clause in self.clauses.iter().flatten() {
+                    if clause.head.len() == 1 && clause.neg.is_empty() && clause.pos.is_subset(&derived) {
+                        derived.extend(&clause.head);
+                    }
+                }
+                if derived.len() == before {
+                    return derived;
+                }
+            }
+        })
+    }
+
+    /// Slip 8: "The target is a kept constraint with at least one positive and no negative atom .. The step applies when the
+    /// target's positive atoms are all in D."
+    fn excludes(&self, target: &Clause, atom: u16) -> bool {
+        let bans = target.head.is_empty() && !target.pos.is_empty() && target.neg.is_empty();
+        bans && self.occurs(atom) && target.pos.is_subset(self.derived_from(atom))
+    }
+
     /// Whether the step's condition holds. The target and the partner are kept, different clauses.
     pub fn condition(&self, step: Step) -> bool {
         let Some(target) = self.kept(step.target) else { return false };
@@ -90,6 +128,7 @@ impl Left {
                     && small.pos.is_subset(&target.pos)
                     && small.neg.is_subset(&target.neg)
             }),
+            9 => self.excludes(target, *atom),
             _ => false,
         }
     }
@@ -124,15 +163,36 @@ impl Left {
             .collect()
     }
 
-    /// The mark that a step clears: of the clause's first word, or of the literal dropped.
-    pub fn cleared(&self, table: &Table, step: Step) -> usize {
-        let span = &table.spans[usize::from(step.target)];
-        let literal =
-            |part: &std::ops::Range<usize>, atom: u16| part.clone().find(|&i| table.words[i] == atom).unwrap();
-        match step.kind {
-            3 => literal(&span.pos, step.atom),
-            4 => literal(&span.neg, step.atom),
-            _ => span.first,
+    /// Makes a step: the marks that it clears, of a clause's first word or of a literal dropped, become 0.
+    pub fn make(&self, table: &Table, step: Step, marks: &mut [u8]) {
+        for place in self.cleared(table, step) {
+            marks[place] = 0;
         }
     }
+
+    fn cleared(&self, table: &Table, step: Step) -> Vec<usize> {
+        let span = &table.spans[usize::from(step.target)];
+        match step.kind {
+            3 => places(table, &span.pos, step.atom),
+            4 => places(table, &span.neg, step.atom),
+            9 => self.excluded(table, step.atom),
+            _ => vec![span.first],
+        }
+    }
+
+    /// Slip 8: "It deletes kept clauses with a in the positive body and drops a from the heads and negative bodies of the other
+    /// kept ones."
+    fn excluded(&self, table: &Table, atom: u16) -> Vec<usize> {
+        let kept = table.spans.iter().zip(&self.clauses).filter_map(|(span, clause)| Some((span, clause.as_ref()?)));
+        let of = |(span, clause): (&Span, &Clause)| match clause.pos.contains(&atom) {
+            true => vec![span.first],
+            false => [places(table, &span.head, atom), places(table, &span.neg, atom)].concat(),
+        };
+        kept.flat_map(of).collect()
+    }
+}
+
+/// Where an atom stands in a part: one place, or none.
+fn places(table: &Table, part: &Range<usize>, atom: u16) -> Vec<usize> {
+    part.clone().filter(|&place| table.words[place] == atom).collect()
 }

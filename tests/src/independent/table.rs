@@ -59,9 +59,9 @@ impl<'a> Table<'a> {
         Ok(Span { first, head, pos, neg })
     }
 
-    /// "m plus all body literals"
-    pub fn clauses_and_body_literals(&self) -> usize {
-        self.spans.iter().map(|span| 1 + span.pos.len() + span.neg.len()).sum()
+    /// "m plus all body literals"; slip 8: "17 counts all literals"
+    pub fn clauses_and_literals(&self) -> usize {
+        self.spans.iter().map(|span| 1 + span.head.len() + span.pos.len() + span.neg.len()).sum()
     }
 
     /// "those of its atoms whose mark is 1"

@@ -31,7 +31,7 @@ fn any_steps(random: &mut Random, table: &[u16]) -> Vec<u16> {
 
 fn any_step(random: &mut Random, table: &[u16]) -> Step {
     let most = |place: usize| usize::from(table.get(place).copied().unwrap_or(0).min(2048));
-    let kind = random.upto(9) as u16;
+    let kind = random.upto(10) as u16;
     let target = random.upto(most(1)) as u16;
     let partner = if random.once_in(2) { 0 } else { random.upto(most(1)) as u16 };
     let atom = if random.once_in(2) { 0 } else { random.upto(most(0)) as u16 };
@@ -97,7 +97,7 @@ fn right(random: &mut Random, table: &Table, most: usize) -> (Vec<u16>, Vec<u8>)
             break;
         }
         let step = random.pick(&open);
-        marks[left.cleared(table, step)] = 0;
+        left.make(table, step, &mut marks);
         list.extend(step.words());
     }
     (list, marks)

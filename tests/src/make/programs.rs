@@ -117,6 +117,37 @@ pub fn copies(random: &mut Random, size: Size) -> Program {
     Program { atoms: atoms + 2, clauses }
 }
 
+/// A program in which atoms often can't be: bans of one or two positive atoms, definite clauses that lead to them, and
+/// disjunctions and negations that keep both from going otherwise.
+pub fn bans(random: &mut Random, size: Size) -> Program {
+    const COUNTS: [(usize, usize, usize); 16] = [
+        (0, 1, 0),
+        (0, 1, 0),
+        (0, 2, 0),
+        (0, 1, 1),
+        (1, 1, 0),
+        (1, 1, 0),
+        (1, 1, 0),
+        (1, 2, 0),
+        (1, 0, 1),
+        (1, 0, 1),
+        (1, 1, 1),
+        (2, 0, 0),
+        (2, 0, 0),
+        (2, 1, 0),
+        (2, 0, 1),
+        (3, 0, 1),
+    ];
+    let atoms = 2 + random.upto(size.atoms - 2) as u16;
+    let clause = |random: &mut Random| {
+        let (heads, positive, negative) = random.pick(&COUNTS);
+        let mut of = |count: usize| part(random, atoms, count);
+        Clause { head: of(heads), pos: of(positive), neg: of(negative) }
+    };
+    let clauses = (0..=random.upto(size.clauses)).map(|_| clause(random)).collect();
+    Program { atoms, clauses }
+}
+
 /// A disjunctive fact of each so many of the atoms: a set that satisfies them lacks fewer than so many.
 pub fn one_of_any(atoms: Range<u16>, many: u32) -> Vec<Clause> {
     let numbers = (0u32..1 << atoms.len()).filter(|bits| bits.count_ones() == many);

@@ -10,7 +10,7 @@ pub struct Shape {
     pub program: fn(usize) -> Program,
 }
 
-pub const SHAPES: [Shape; 15] = [
+pub const SHAPES: [Shape; 20] = [
     Shape { name: "random sparse", full: 2048, program: sparse },
     Shape { name: "random sparse with constraints", full: 2048, program: sparse_with_constraints },
     Shape { name: "chain of facts against clause order", full: 1024, program: chain },
@@ -26,6 +26,11 @@ pub const SHAPES: [Shape; 15] = [
     Shape { name: "subsumption with late partners", full: 511, program: late_partners },
     Shape { name: "kinds that open one another", full: 255, program: cascade },
     Shape { name: "bodies of twelve that all go", full: 500, program: bodies },
+    Shape { name: "a thousand bans that never fire", full: 512, program: idle_bans },
+    Shape { name: "a circle of six hundred atoms that can't be", full: 200, program: banned_circle },
+    Shape { name: "a ban handed on along a chain", full: 1000, program: banned_chain },
+    Shape { name: "disjunctions that bans make facts", full: 255, program: shrinking_heads },
+    Shape { name: "a chain behind a ban that never fires", full: 1000, program: chain_behind_idle_ban },
 ];
 
 fn clause(head: &[usize], pos: &[usize], neg: &[usize]) -> Clause {
@@ -174,6 +179,53 @@ fn bodies(size: usize) -> Program {
     let mut clauses: Vec<Clause> = (0..size).map(|i| clause(&[i / 2], &body(i / 2), &negative)).collect();
     clauses.extend(facts.clone().map(|atom| clause(&[atom], &[], &[])));
     program(pairs + 11, clauses)
+}
+
+/// One atom of each two holds, and no atom leads to both atoms of a ban.
+fn idle_bans(size: usize) -> Program {
+    let mut clauses: Vec<Clause> = (0..size).map(|i| clause(&[2 * i, 2 * i + 1], &[], &[])).collect();
+    clauses.extend((2..2 * size).map(|i| clause(&[], &[i - 2, i], &[])));
+    program(2 * size, clauses)
+}
+
+/// A circle in which every third atom has a rule from outside too, and its last atom is banned: each of those that have one
+/// leads to the ban, goes, and takes the two behind it along, which then are in no head.
+fn banned_circle(size: usize) -> Program {
+    let ring = 3 * size;
+    let mut clauses: Vec<Clause> = (0..ring).map(|i| clause(&[(i + 1) % ring], &[i], &[])).collect();
+    clauses.extend((0..size).map(|i| clause(&[3 * i], &[], &[ring + i])));
+    clauses.extend((0..size).map(|i| clause(&[ring + i, ring + size], &[], &[])));
+    clauses.push(clause(&[], &[ring - 1], &[]));
+    program(ring + size + 1, clauses)
+}
+
+/// 0 <- 1. 1 <- 2. and so on, and 0 is banned: each rule that loses its head is the ban of the next atom.
+fn banned_chain(size: usize) -> Program {
+    let mut clauses: Vec<Clause> = (1..size).map(|i| clause(&[i - 1], &[i], &[])).collect();
+    clauses.push(clause(&[size - 1], &[], &[size]));
+    clauses.push(clause(&[size], &[], &[size - 1]));
+    clauses.push(clause(&[], &[0], &[]));
+    program(size + 1, clauses)
+}
+
+/// Rounds against clause order: a ban makes a disjunction a fact, which opens success, blocked and failure, and shortens the
+/// next round's ban to one atom.
+fn shrinking_heads(size: usize) -> Program {
+    let mut clauses = Vec::new();
+    for (a, b, c, d) in (0..size).rev().map(|i| (4 * i, 4 * i + 1, 4 * i + 2, 4 * i + 3)) {
+        let ban = if a > 0 { clause(&[], &[a - 2, a], &[]) } else { clause(&[], &[a], &[]) };
+        clauses.extend([clause(&[c], &[d], &[]), clause(&[d], &[], &[b]), ban]);
+        clauses.extend([clause(&[c], &[b], &[]), clause(&[a, b], &[], &[])]);
+    }
+    program(4 * size, clauses)
+}
+
+/// The chain of `banned_chain`, behind a ban of two atoms that none leads to: each search follows every atom.
+fn chain_behind_idle_ban(size: usize) -> Program {
+    let Program { atoms, clauses } = banned_chain(size);
+    let [a, b, c, d] = [0, 1, 2, 3].map(|i| usize::from(atoms) + i);
+    let idle = [clause(&[], &[a, b], &[]), clause(&[a, c], &[], &[]), clause(&[b, d], &[], &[])];
+    program(usize::from(atoms) + 4, [idle.to_vec(), clauses].concat())
 }
 
 impl Shape {
