@@ -20,7 +20,8 @@
  * from 0. The program "0. 1 <- 0, ~2." with three atoms is the words 3 2  1 0 0 0  1 1 1 1 0 2.
  *
  * The marks. A byte for each word of the table, 1 for kept and 0 for gone. The mark of a clause's first word is 0 where
- * the clause is deleted, that of a body atom where the literal is dropped.
+ * the clause is deleted, that of an atom where it is dropped, from a body or, by kind 9, from a head. Heads and bodies are
+ * read as the marks leave them: a clause that has lost its last head atom is a constraint.
  *
  * The list. Four words a step: kind, target, partner, atom. An unused word is 0. A step that drops a literal names its
  * atom. 4 times the table's length always suffices for the list of a reduction.
@@ -54,7 +55,7 @@ extern "C" {
 
 /* ---- Version --------------------------------------------------------------------------------------------------------- */
 
-#define GAMBROLT_VERSION "6.0.0"
+#define GAMBROLT_VERSION "7.0.0"
 
 static inline const char *gambrolt_version(void)
 {
@@ -82,8 +83,17 @@ enum gambrolt_kind {
     GAMBROLT_BLOCKED       = 5, /* partner: a fact whose head is within the negative body; the clause is deleted */
     GAMBROLT_FAILURE       = 6, /* atom: in the positive body and in no head; the clause is deleted */
     GAMBROLT_LOOP          = 7, /* atom: in the positive body and in a head, but underivable; the clause is deleted */
-    GAMBROLT_SUBSUMED      = 8  /* partner: each part within the target's same part; the clause is deleted */
+    GAMBROLT_SUBSUMED      = 8, /* partner: each part within the target's same part; the clause is deleted */
+    GAMBROLT_EXCLUDED      = 9  /* atom: in a kept clause, and with it the target, a constraint, would be violated */
 };
+
+/*
+ * A step of kind 9, excluded, is about an atom that no stable model holds. Its target is a constraint with some positive
+ * and no negative atom, and its positive atoms are all among what follows from the atom: the smallest set that holds the
+ * atom and the head of each kept clause of one head atom, no negative atoms, and all positive atoms in the set. Every kept
+ * clause with the atom in its positive body is deleted, and the atom is dropped from the heads and negative bodies of the
+ * others: one step may clear several marks.
+ */
 
 /* The name of a kind of step: its constant's, in small letters. */
 static inline const char *gambrolt_kind_name(unsigned kind)
@@ -97,6 +107,7 @@ static inline const char *gambrolt_kind_name(unsigned kind)
     case GAMBROLT_FAILURE: return "failure";
     case GAMBROLT_LOOP: return "loop";
     case GAMBROLT_SUBSUMED: return "subsumed";
+    case GAMBROLT_EXCLUDED: return "excluded";
     default: return "none";
     }
 }
@@ -133,12 +144,12 @@ enum gambrolt_question {
     GAMBROLT_MARKS_LENGTH    = 9,  /* are there at least as many marks as words? */
     GAMBROLT_MARK_ALLOWED    = 10, /* is each mark 0 or 1, and 0 only where a step can clear it? place of the first not */
     GAMBROLT_LIST_LENGTH     = 11, /* is the list's length a multiple of 4, at most 32760? */
-    GAMBROLT_KIND_KNOWN      = 12, /* is the kind 1 to 8? 12 to 16, 29 and 32: place of the step, from 0 */
+    GAMBROLT_KIND_KNOWN      = 12, /* is the kind 1 to 9? 12 to 16, 29 and 32: place of the step, from 0 */
     GAMBROLT_TARGET_KEPT     = 13, /* is the target below m and kept? */
     GAMBROLT_PARTNER_KEPT    = 14, /* is the partner below m, kept and another clause, or 0 where unused? */
     GAMBROLT_ATOM_KNOWN      = 15, /* is the atom below n, or 0 where unused? */
     GAMBROLT_CONDITION_HOLDS = 16, /* does the kind's condition hold? */
-    GAMBROLT_LIST_ROOM       = 17, /* has the list 4 words for each clause and each body literal? */
+    GAMBROLT_LIST_ROOM       = 17, /* has the list 4 words for each clause and each of its atoms? */
     GAMBROLT_TABLE_ROOM      = 18, /* does the reduced table fit? */
     GAMBROLT_SET_LENGTH      = 19, /* has the set at most 16 entries? */
     GAMBROLT_ENTRY_BELOW     = 20, /* is the entry below n? place of the entry */
@@ -172,12 +183,12 @@ static inline const char *gambrolt_message(unsigned number)
     case GAMBROLT_MARKS_LENGTH: return "there are fewer marks than words";
     case GAMBROLT_MARK_ALLOWED: return "a mark is not 0 or 1, or is 0 where nothing can be gone";
     case GAMBROLT_LIST_LENGTH: return "the list is not made of whole steps, or has more than 32760 words";
-    case GAMBROLT_KIND_KNOWN: return "the kind of a step is not 1 to 8";
+    case GAMBROLT_KIND_KNOWN: return "the kind of a step is not 1 to 9";
     case GAMBROLT_TARGET_KEPT: return "the target of a step is not a kept clause";
     case GAMBROLT_PARTNER_KEPT: return "the partner of a step is not another kept clause, or is unused and not 0";
     case GAMBROLT_ATOM_KNOWN: return "the atom of a step is not below the number of atoms, or is unused and not 0";
     case GAMBROLT_CONDITION_HOLDS: return "the condition of a step does not hold";
-    case GAMBROLT_LIST_ROOM: return "the list has not 4 words for each clause and body literal";
+    case GAMBROLT_LIST_ROOM: return "the list has not 4 words for each clause and each of its atoms";
     case GAMBROLT_TABLE_ROOM: return "the reduced table does not fit";
     case GAMBROLT_SET_LENGTH: return "the set has more than 16 entries";
     case GAMBROLT_ENTRY_BELOW: return "an entry of the set is not below the number of atoms";
@@ -218,9 +229,9 @@ uint64_t gambrolt_check(const uint16_t *table, size_t table_len, uint8_t *marks,
  * Reduces a program: takes the applicable step that is smallest by kind, target, partner, atom, until none applies: 9, 17.
  * Passed over are steps of kinds 5 and 8 whose partner is a later clause, equal to the target as left: of two such clauses
  * the later goes by the earlier.
- * Value: the number s of steps made.
+ * Value: the number s of steps made, which is the number of marks at 0, or less where a step of kind 9 is among them.
  * marks (at least table_len, of any values): those after the steps.
- * list (at least 4 words for each clause and each body literal; 4 * table_len always suffices): the steps, in its first
+ * list (at least 4 words for each clause and each of its atoms; 4 * table_len always suffices): the steps, in its first
  * 4s words.
  */
 uint64_t gambrolt_reduce(const uint16_t *table, size_t table_len, uint8_t *marks, size_t marks_len,

@@ -180,6 +180,14 @@ impl Listed {
     }
 }
 
+/// Slip 8: "The count reported is the number of steps written; without kind 9 among them it equals the marks at 0, and otherwise
+/// steps number at most the marks at 0."
+pub fn counted(list: &[u16], marks: &[u8]) {
+    let (steps, zeros) = (list.len() / 4, marks.iter().filter(|&&mark| mark == 0).count());
+    let excludes = list.chunks(4).any(|step| step[0] == 9);
+    assert!(if excludes { steps <= zeros } else { steps == zeros }, "{steps} steps, {zeros} marks at 0: {list:?}");
+}
+
 /// "the refusal's number times 2^48 plus its place, or, taken, the value"
 fn code(answer: Answer) -> u64 {
     match answer {

@@ -4,26 +4,13 @@
 #![deny(warnings)]
 use gambrolt_tests::compare::Tally;
 use gambrolt_tests::independent::program::{parse, words, Clause, Program};
-use gambrolt_tests::independent::reduce::{applicable, list_by, smallest, smallest_applicable};
-use gambrolt_tests::independent::steps::{Left, Step};
-use gambrolt_tests::independent::table::Table;
+use gambrolt_tests::independent::reduce::{applicable, list_by, smallest, smallest_applicable, states};
+use gambrolt_tests::independent::steps::Left;
 use gambrolt_tests::library;
 use gambrolt_tests::make::programs::{any_size, copies, every, MIDDLE};
 use gambrolt_tests::make::shapes::SHAPES;
 use gambrolt_tests::random::Random;
 use gambrolt_tests::rescan::Reducer;
-
-/// The program as left before each step of a list, and behind the last.
-fn states(words: &[u16], list: &[[u16; 4]]) -> Vec<Left> {
-    let table = Table::read(words).unwrap();
-    let mut marks = vec![1; words.len()];
-    let mut states = vec![Left::new(&table, &marks)];
-    for &[kind, target, partner, atom] in list {
-        marks[states.last().unwrap().cleared(&table, Step::new(kind, target, partner, atom))] = 0;
-        states.push(Left::new(&table, &marks));
-    }
-    states
-}
 
 /// Whether a step of kind 5 or 8 deletes a clause by a later one that is equal to it.
 fn passed_over(state: &Left, &[kind, target, partner, _]: &[u16; 4]) -> bool {
@@ -199,9 +186,9 @@ fn empty_clauses() {
 
 #[test]
 fn equal_rules() {
-    // nothing but 8 applies: the disjunction gives heads and reach, and is no fact for 3
-    reduces(2, "0|1. <- 0. <- 0.", &[[8, 2, 1, 0]], "0|1. <- 0.");
-    reduces(2, "<- 0. 0|1. <- 0. <- 0.", &[[8, 2, 0, 0], [8, 3, 0, 0]], "<- 0. 0|1.");
+    // nothing below 8 applies: the disjunction gives heads and reach, and is no fact for 3; then the ban of 0 leaves the fact 1
+    reduces(2, "0|1. <- 0. <- 0.", &[[8, 2, 1, 0], [9, 1, 0, 0]], "1.");
+    reduces(2, "<- 0. 0|1. <- 0. <- 0.", &[[8, 2, 0, 0], [8, 3, 0, 0], [9, 0, 0, 0]], "1.");
     reduces(3, "0|1. 2 <- 0, ~1. 2 <- 0, ~1.", &[[8, 2, 1, 0]], "0|1. 2 <- 0, ~1.");
     // equal clauses that go by other kinds do so one after the other, as before
     reduces(1, "<- 0. <- 0.", &[[6, 0, 0, 0], [6, 1, 0, 0]], "");
@@ -273,7 +260,7 @@ fn within_and_not_equal() {
     reduces(3, "1|2. 0 <- 1. 0.", &[[8, 1, 2, 0]], "1|2. 0.");
     reduces(3, "1|2. 0 <- ~1. 0.", &[[8, 1, 2, 0]], "1|2. 0.");
     reduces(3, "1|2. 0|1 <- 2. 0 <- 2.", &[[8, 1, 2, 0]], "1|2. 0 <- 2.");
-    reduces(2, "0|1. <- 0, 1. <- 0.", &[[8, 1, 2, 0]], "0|1. <- 0.");
+    reduces(2, "0|1. <- 0, 1. <- 0.", &[[8, 1, 2, 0], [9, 2, 0, 0]], "1.");
     // as many atoms in all, the same heads, or the same bodies: neither is within the other
     for program in ["1|2. 0 <- 1. 0 <- ~1.", "1|2. 0 <- 1, ~2. 0 <- 2, ~1.", "1|2. 0 <- 1. <- 1, ~0.", "0|1. 0|2."] {
         reduces(3, program, &[], program);

@@ -1,6 +1,6 @@
 //! Document 01's examples, asked of the library: those that are run and compared, with the values that it gives.
 #![deny(warnings)]
-use gambrolt_tests::compare::Tally;
+use gambrolt_tests::compare::{counted, Tally};
 use gambrolt_tests::independent::program::{parse, words, Clause, Program};
 use gambrolt_tests::independent::table::Table;
 use gambrolt_tests::independent::{Answer, Refused};
@@ -17,11 +17,12 @@ fn table(atoms: u16, program: &str) -> Vec<u16> {
     words(&parse(atoms, program))
 }
 
-/// The reducer's steps, and the marks that they leave; as many marks are 0, and the list's other words stay.
+/// The reducer's steps, and the marks that they leave; as many marks are 0 as there are steps, or more where one is of kind 9,
+/// and the list's other words stay.
 fn reduce(table: &[u16]) -> (Vec<[u16; 4]>, Vec<u8>) {
     let (steps, marks, list) = library::reduce(table, &vec![7; table.len()], &vec![9; 4 * table.len()]);
     let (made, rest) = list.split_at(4 * steps as usize);
-    assert_eq!(marks.iter().filter(|&&mark| mark == 0).count(), steps as usize);
+    counted(made, &marks);
     assert!(rest.iter().all(|&word| word == 9));
     (made.chunks(4).map(|step| step.try_into().unwrap()).collect(), marks)
 }
@@ -51,7 +52,7 @@ fn reduced_by(table: &[u16], expected: &[[u16; 4]]) {
     assert_eq!(steps(table), expected);
     let read = Table::read(table).unwrap();
     if table.len() < 2000 {
-        let room = vec![9; 4 * read.clauses_and_body_literals()];
+        let room = vec![9; 4 * read.clauses_and_literals()];
         let (answer, _, list) = Tally::new().reduce(table, &vec![7; table.len()], &room);
         assert_eq!((answer, &list[..4 * expected.len()]), (Ok(expected.len() as u64), &expected.concat()[..]));
     } else {
@@ -60,11 +61,10 @@ fn reduced_by(table: &[u16], expected: &[[u16; 4]]) {
     assert_eq!(check(table, &expected.concat()), Ok(expected.len() as u64));
 }
 
-/// The checker's answer, whose marks at 0 are the steps that it takes.
+/// The checker's answer, whose marks at 0 are counted as the steps that it takes.
 fn check(table: &[u16], list: &[u16]) -> Answer {
     let (answer, marks) = Tally::new().check(table, &vec![7; table.len()], list);
-    let zeros = marks.iter().filter(|&&mark| mark == 0).count() as u64;
-    assert_eq!(answer.unwrap_or_else(|refused| refused.place), zeros);
+    counted(&list[..4 * answer.unwrap_or_else(|refused| refused.place) as usize], &marks);
     answer
 }
 

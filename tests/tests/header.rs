@@ -57,12 +57,12 @@ fn of_steps_and_sets() -> Vec<(&'static str, u64)> {
         ("MARKS_LENGTH", number(Tally::new().check(&rule, &[1; 6], &[]).0)),
         ("MARK_ALLOWED", number(Tally::new().reduced_table(&rule, &[2; 7], &[0; 7]).0)),
         ("LIST_LENGTH", step(&[6, 0, 0])),
-        ("KIND_KNOWN", step(&[9, 0, 0, 1])),
+        ("KIND_KNOWN", step(&[10, 0, 0, 1])),
         ("TARGET_KEPT", step(&[6, 1, 0, 1])),
         ("PARTNER_KEPT", step(&[8, 0, 0, 0])),
         ("ATOM_KNOWN", step(&[6, 0, 0, 2])),
         ("CONDITION_HOLDS", step(&[6, 0, 0, 0])),
-        ("LIST_ROOM", number(Tally::new().reduce(&rule, &[1; 7], &[0; 7]).0)),
+        ("LIST_ROOM", number(Tally::new().reduce(&rule, &[1; 7], &[0; 11]).0)),
         ("TABLE_ROOM", number(Tally::new().reduced_table(&rule, &[1; 7], &[0; 6]).0)),
         ("SET_LENGTH", test(&(0..17).collect::<Vec<_>>())),
         ("ENTRY_BELOW", test(&[20])),
@@ -131,9 +131,10 @@ fn kinds() {
         ("FAILURE", first("0 <- 1.")),
         ("LOOP", first("0 <- 1. 1 <- 0.")),
         ("SUBSUMED", first("0|1. 0|1.")),
+        ("EXCLUDED", first("0|1. <- 0.")),
     ];
     assert_eq!(values("gambrolt_kind"), named(&expected));
-    assert!(expected.iter().map(|(_, number)| *number).eq(1..=8));
+    assert!(expected.iter().map(|(_, number)| *number).eq(1..=9));
 }
 
 #[test]

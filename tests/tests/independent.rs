@@ -230,7 +230,7 @@ fn choices_are_all_that_pass() {
         let words = words(&parse(3, program));
         let table = table::Table::read(&words).unwrap();
         let left = Left::new(&table, &vec![1; words.len()]);
-        let all = (0..5 * 5 * 5 * 10u16).map(|k| Step::new(k / 125, k / 25 % 5, k / 5 % 5, k % 5));
+        let all = (0..5 * 5 * 5 * 11u16).map(|k| Step::new(k / 125, k / 25 % 5, k / 5 % 5, k % 5));
         let passed: Vec<Step> = all.filter(|&step| list::questions(&left, step, 0).is_ok()).collect();
         assert_eq!(reduce::applicable(&left), passed, "{program}");
     }
@@ -241,7 +241,7 @@ fn marks_left() {
     let table = words(&parse(2, "0. 1 <- 0."));
     let (answer, marks) = list::check(&table, &[7; 13], &[3, 1, 0, 0, 8, 1, 0, 0]);
     assert_eq!((answer, &marks[..]), (refused(16, 1), &[1, 1, 1, 1, 1, 1, 1, 1, 1, 1, 0, 7, 7][..]));
-    let (answer, marks) = list::check(&table, &[7; 12], &[9, 0, 0, 0]);
+    let (answer, marks) = list::check(&table, &[7; 12], &[10, 0, 0, 0]);
     assert_eq!((answer, &marks[..]), (refused(12, 0), &[1, 1, 1, 1, 1, 1, 1, 1, 1, 1, 1, 7][..]));
     assert_eq!(list::check(&table, &[7; 10], &[]), (refused(9, 0), vec![7; 10]));
 }
@@ -253,7 +253,7 @@ fn reduced_tables() {
     let (answer, out) = reduced::reduced_table(&table, &marks, &[5; 7]);
     assert_eq!((answer, &out[..]), (Ok(6), &[2, 1, 1, 0, 0, 1, 5][..]));
     assert_eq!(reduced::reduced_table(&table, &marks, &[5; 5]), (refused(18, 0), vec![5; 5]));
-    for place in [0, 1, 3, 4, 5, 7, 8, 9] {
+    for place in [0, 1, 3, 4, 7, 8] {
         let mut marks = [1; 11];
         marks[place] = 0;
         assert_eq!(reduced::reduced_table(&table, &marks, &[5; 11]).0, refused(10, place as u64));

@@ -1,6 +1,7 @@
 //! Whole lists of large tables, step for step: the library beside a reducer that looks through everything again after every
 //! step. Each shape has half its full size, where that reducer is quick enough, and the longest list its full size.
 #![deny(warnings)]
+use gambrolt_tests::compare::counted;
 use gambrolt_tests::library;
 use gambrolt_tests::make::shapes::{Shape, SHAPES};
 use gambrolt_tests::random::Random;
@@ -15,7 +16,7 @@ fn compared(shape: &Shape, size: usize) -> u64 {
     let (made, rest) = list.split_at(4 * expected.len());
     assert!(made == expected.concat(), "{name}: the lists differ");
     assert!(rest.iter().all(|&word| word == 9), "{name}: a word past the list was changed");
-    assert_eq!(marks.iter().filter(|&&mark| mark == 0).count() as u64, steps, "{name}: marks at 0");
+    counted(made, &marks);
     let fresh = vec![8; table.len()];
     assert!(library::check(&table, &fresh, made) == (steps, marks.clone()), "{name}: the list is not accepted");
     for more in steps_more(&table, made) {
@@ -31,9 +32,9 @@ fn compared(shape: &Shape, size: usize) -> u64 {
 fn steps_more(table: &[u16], list: &[u16]) -> Vec<[u16; 4]> {
     let mut random = Random::new(list.len() as u64);
     let mut below = |limit: u16| random.upto(usize::from(limit.max(1)) - 1) as u16;
-    let mut steps: Vec<[u16; 4]> = (1..=8).map(|kind| [kind, below(table[1]), 0, 0]).collect();
+    let mut steps: Vec<[u16; 4]> = (1..=9).map(|kind| [kind, below(table[1]), 0, 0]).collect();
     steps.extend([3, 5, 8].map(|kind| [kind, below(table[1]), below(table[1]), 0]));
-    steps.extend([1, 2, 4, 6, 7].map(|kind| [kind, below(table[1]), 0, below(table[0])]));
+    steps.extend([1, 2, 4, 6, 7, 9, 9, 9].map(|kind| [kind, below(table[1]), 0, below(table[0])]));
     steps.extend([0; 4].map(|_| [3, below(table[1]), below(table[1]), below(table[0])]));
     steps.extend([[0; 4], [65535; 4]]);
     let own = |step: &[u16]| [step[0], step[1], step[2], step[3]];

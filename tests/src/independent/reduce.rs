@@ -72,6 +72,18 @@ pub fn list_by(words: &[u16], next: fn(&Left) -> Option<Step>) -> Vec<[u16; 4]> 
     }
 }
 
+/// The program as left before each step of a list, and behind the last.
+pub fn states(words: &[u16], list: &[[u16; 4]]) -> Vec<Left> {
+    let table = Table::read(words).unwrap();
+    let mut marks = vec![1; words.len()];
+    let mut states = vec![Left::new(&table, &marks)];
+    for &[kind, target, partner, atom] in list {
+        states.last().unwrap().make(&table, Step::new(kind, target, partner, atom), &mut marks);
+        states.push(Left::new(&table, &marks));
+    }
+    states
+}
+
 /// Every applicable step, those that the reducer passes over among them: "The checker still takes either order."
 pub fn applicable(left: &Left) -> Vec<Step> {
     let clauses = left.clauses.len() as u16;

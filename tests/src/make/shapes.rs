@@ -188,14 +188,14 @@ fn idle_bans(size: usize) -> Program {
     program(2 * size, clauses)
 }
 
-/// A circle in which every third atom has a rule from outside too, and its last atom is banned: each of those that have one
-/// leads to the ban, goes, and takes the two behind it along, which then are in no head.
+/// A circle in which every third atom has a rule from outside too, and its last atom is banned beside another: each of those that
+/// have one leads to the ban, goes, and takes the two behind it along, which then are in no head.
 fn banned_circle(size: usize) -> Program {
     let ring = 3 * size;
     let mut clauses: Vec<Clause> = (0..ring).map(|i| clause(&[(i + 1) % ring], &[i], &[])).collect();
     clauses.extend((0..size).map(|i| clause(&[3 * i], &[], &[ring + i])));
     clauses.extend((0..size).map(|i| clause(&[ring + i, ring + size], &[], &[])));
-    clauses.push(clause(&[], &[ring - 1], &[]));
+    clauses.push(clause(&[], &[ring / 2, ring - 1], &[]));
     program(ring + size + 1, clauses)
 }
 
