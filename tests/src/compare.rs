@@ -1,4 +1,5 @@
 //! One call of the library beside document 01: the same answer, and the same memory afterwards.
+use crate::independent::program::Clause;
 use crate::independent::reduce::{list_by, passed_over, smallest_applicable};
 use crate::independent::steps::{Left, Step};
 use crate::independent::table::Table;
@@ -11,8 +12,8 @@ use std::ops::{Deref, DerefMut};
 pub const LAST: usize = 32;
 
 /// How many calls were compared, how often each question refused one, how many steps of each kind were made, which loop steps
-/// were refused, which steps the reducer passed over, how many programs had which circles, what the lists of stable models
-/// were, and what the texts were that were read.
+/// were refused, which steps the reducer passed over, what steps of kind 9 did, how many programs had which circles, what the
+/// lists of stable models were, and what the texts were that were read.
 #[derive(Default)]
 pub struct Tally {
     pub cases: u64,
@@ -20,6 +21,7 @@ pub struct Tally {
     pub made: [u64; 10],
     pub loops: Loops,
     pub equal: EqualClauses,
+    pub exclusions: Exclusions,
     pub circles: Circles,
     pub listed: Listed,
     pub texts: Texts,
@@ -130,6 +132,77 @@ impl EqualClauses {
         let shortened = |clause: u16| u64::from(given.kept(clause) != left.kept(clause));
         self.target_shortened += shortened(smallest.target);
         self.partner_shortened += shortened(smallest.partner);
+    }
+}
+
+/// Lists of the reducer: how many have no step of kind 9, one or more, and another kind behind one. Steps of kind 9 in lists that
+/// were made: how many, of how many the target stays, and how many delete other clauses, drop the atom from heads, from negative
+/// bodies, make a constraint, a fact, or serve a target that had lost its head. Those that were refused: by 14; by 16 as the target
+/// is no ban, as the atom is in no kept clause, though it derives the ban, or was in one before, or as it does not derive the ban.
+#[derive(Debug, Default)]
+pub struct Exclusions {
+    pub lists_without: u64,
+    pub lists_with: u64,
+    pub others_behind: u64,
+    pub made: u64,
+    pub target_stays: u64,
+    pub others_deleted: u64,
+    pub heads_dropped: u64,
+    pub negatives_dropped: u64,
+    pub constraints_made: u64,
+    pub facts_made: u64,
+    pub target_had_head: u64,
+    pub with_partner: u64,
+    pub no_ban: u64,
+    pub in_no_clause: u64,
+    pub lost: u64,
+    pub not_derived: u64,
+}
+
+impl Exclusions {
+    /// The reducer's list.
+    pub fn count_list(&mut self, list: &[u16]) {
+        let first = list.chunks(4).position(|step| step[0] == 9);
+        *(if first.is_some() { &mut self.lists_with } else { &mut self.lists_without }) += 1;
+        let behind = first.is_some_and(|first| list.chunks(4).skip(first).any(|step| step[0] != 9));
+        self.others_behind += u64::from(behind);
+    }
+
+    /// A step of kind 9 on what the steps before it left, with its answer, and the marks afterwards.
+    pub fn count(&mut self, table: &Table, before: &[u8], step: Step, answer: Answer, after: &[u8]) {
+        let left = Left::new(table, before);
+        match answer {
+            Ok(_) => self.count_made(table, &left, step, &Left::new(table, after)),
+            Err(Refused { number: 14, .. }) => self.with_partner += 1,
+            Err(_) => self.count_refused(table, &left, step),
+        }
+    }
+
+    fn count_refused(&mut self, table: &Table, left: &Left, step: Step) {
+        let target = left.kept(step.target).unwrap();
+        let derived = target.pos.is_subset(left.derived_from(step.atom));
+        match target.head.is_empty() && target.neg.is_empty() && !target.pos.is_empty() {
+            false => self.no_ban += 1,
+            true if derived => self.in_no_clause += 1,
+            true => self.not_derived += 1,
+        }
+        let given = Left::new(table, &vec![1; table.words.len()]);
+        self.lost += u64::from(given.occurs(step.atom) && !left.occurs(step.atom));
+    }
+
+    fn count_made(&mut self, table: &Table, left: &Left, step: Step, after: &Left) {
+        let pairs = || left.clauses.iter().zip(&after.clauses).filter_map(|(a, b)| Some((a.as_ref()?, b.as_ref()?)));
+        let any = |test: &dyn Fn(&Clause, &Clause) -> bool| u64::from(pairs().any(|(before, now)| test(before, now)));
+        let deleted = left.clauses.iter().flatten().count() - pairs().count();
+        let stays = after.kept(step.target).is_some();
+        self.made += 1;
+        self.target_stays += u64::from(stays);
+        self.others_deleted += u64::from(deleted > usize::from(!stays));
+        self.heads_dropped += any(&|before, now| before.head != now.head);
+        self.negatives_dropped += any(&|before, now| before.neg != now.neg);
+        self.constraints_made += any(&|before, now| !before.head.is_empty() && now.head.is_empty());
+        self.facts_made += any(&|before, now| before.head.len() != 1 && now.is_fact() && now.head.len() == 1);
+        self.target_had_head += u64::from(!table.spans[usize::from(step.target)].head.is_empty());
     }
 }
 

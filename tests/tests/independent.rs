@@ -217,6 +217,28 @@ fn steps_passed_over() {
     assert_eq!(over(2, "0 <- 0. 0 <- 0. 0.", &[]), [[8, 0, 1, 0]]);
 }
 
+/// Slip 8 of document 02: each effect, what D goes through, and the reducer's lists.
+#[test]
+fn atoms_that_cannot_be() {
+    let left = |atoms: u16, program: &str, list: &[u16]| {
+        let table = words(&parse(atoms, program));
+        let (answer, marks) = list::check(&table, &vec![1; table.len()], list);
+        answer.map(|_| table::Table::read(&table).unwrap().program_left(&marks))
+    };
+    assert_eq!(left(3, "<- 0. 0|1. 2 <- 0. 2 <- ~0.", &[9, 0, 0, 0]), Ok(parse(3, "1. 2.")));
+    assert_eq!(left(3, "<- 0. 0 <- 1. 1 <- ~2. 2 <- ~1.", &[9, 0, 0, 1]), Ok(parse(3, "<- 0. <- ~2. 2.")));
+    assert_eq!(check(2, "0. <- 0.", &[9, 1, 0, 1]), refused(16, 0), "in no kept clause");
+    assert_eq!(check(4, "0 <- 1, ~2. <- 0. 1|3. 2 <- 1.", &[9, 1, 0, 1]), refused(16, 0), "a negative atom");
+    assert_eq!(check(4, "0|2 <- 1. <- 0. 1|3.", &[9, 1, 0, 1]), refused(16, 0), "two head atoms");
+    assert_eq!(models(&parse(4, "0 <- 1, ~2. <- 0. 1|3. 2 <- 1.")), [set(&[1, 2]), set(&[3])]);
+    assert_eq!(models(&parse(4, "0|2 <- 1. <- 0. 1|3.")), [set(&[1, 2]), set(&[3])]);
+    assert_eq!(check(2, "0|1. <- 0.", &[9, 1, 1, 0]), refused(14, 0));
+    assert_eq!(check(2, "0|1. <- 0.", &[9, 1, 0, 2]), refused(15, 0));
+    assert_eq!(check(2, "0|1. <- 0.", &[10, 1, 0, 0]), refused(12, 0));
+    assert_eq!(steps(3, "<- 0. 0 <- 1. 1 <- ~2. 2 <- ~1."), [[9, 0, 0, 0], [9, 1, 0, 1], [5, 2, 3, 0]]);
+    assert_eq!(steps(2, "0|1. <- 0. <- 0, 1."), [[8, 2, 1, 0], [9, 1, 0, 0]]);
+}
+
 /// The steps that the reducer chooses among are those that the questions let through, of all four words near the program's.
 #[test]
 fn choices_are_all_that_pass() {
@@ -226,6 +248,7 @@ fn choices_are_all_that_pass() {
         "<- 1. 1 <- 2, ~1. 2 <- 1. 2.",
         "0|2. 1 <- 0, 2. 0 <- 1.",
         "0 <- 1. 1 <- 0. 0 <- 2. <- 1, 2.",
+        "<- 0. 0 <- 1. 1 <- ~2. 2|0. <- 1, 2.",
     ] {
         let words = words(&parse(3, program));
         let table = table::Table::read(&words).unwrap();

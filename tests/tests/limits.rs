@@ -65,6 +65,11 @@ fn reduced_tables() {
     let left = [&[1024, 2, 1024, 0, 0], &table[5..1029], &table[6152..]].concat();
     assert_eq!(reduced(&table, &marks, 3069), (Ok(3069), left));
     assert_eq!(reduced(&table, &marks, 3068), (refused(18, 0), vec![9; 3068]));
+    // the whole head of clause 0 is dropped too
+    marks[5..1029].fill(0);
+    let left = [&[1024, 2, 0, 0, 0], &table[6152..]].concat();
+    assert_eq!(reduced(&table, &marks, 2045), (Ok(2045), left));
+    assert_eq!(reduced(&table, &marks, 2044), (refused(18, 0), vec![9; 2044]));
     // every other clause is deleted
     let (table, mut marks) = (empty_clauses(2048, 6146), vec![1; 6146]);
     marks[5..].iter_mut().step_by(6).for_each(|mark| *mark = 0);
@@ -186,6 +191,25 @@ fn long_chains() {
     assert_eq!(wide(true, &[1, 1, 0, 0, 1023]), 1);
     assert_eq!(wide(true, &[1, 0, 1, 0, 1023]), 0);
     assert_eq!(wide(false, &[1, 1, 0, 0, 1023]), 0);
+}
+
+/// 17 counts clauses and all literals: of the full table 3 and 8,181, so that the longest list that may be asked for is below the
+/// longest that is checked. The library alone is asked.
+#[test]
+fn room_of_a_list() {
+    let (table, room) = (full(), 4 * (3 + 8181));
+    let reduce = |room: usize| library::reduce(&table, &vec![7; 8192], &vec![9; room]);
+    let (steps, marks, list) = reduce(room);
+    // every clause has atom 0 in its head and its positive body
+    assert_eq!((steps, &list[..12]), (3, &[1, 0, 0, 0, 1, 1, 0, 0, 1, 2, 0, 0][..]));
+    assert_eq!(marks.iter().filter(|&&mark| mark == 0).count(), 3);
+    assert_eq!(reduce(room - 1), (17 << 48, vec![7; 8192], vec![9; room - 1]));
+    // one clause of all three parts; 2,048 empty clauses
+    let one = [vec![1024, 1, 1024, 1024, 1024], (0..3).flat_map(|_| 0..1024).collect()].concat();
+    for (table, room) in [(one, 4 * (1 + 3072)), (empty_clauses(2048, 6146), 4 * 2048)] {
+        let reduce = |room: usize| library::reduce(&table, &vec![7; table.len()], &vec![9; room]).0;
+        assert_eq!((reduce(room) >> 48, reduce(room - 1)), (0, 17 << 48));
+    }
 }
 
 #[test]

@@ -77,6 +77,49 @@ pub fn around_loop(random: &mut Random, table: &Table) -> Option<(Vec<u16>, usiz
     Some((list, place))
 }
 
+/// A step of kind 9 on a kept target: any; or the target is a ban; or the atom is one that steps before dropped somewhere, or leads
+/// to all of a ban but one atom; or the partner word is not 0.
+fn excluding(random: &mut Random, table: &Table, left: &Left) -> Option<Step> {
+    let given = Left::new(table, &vec![1; table.words.len()]);
+    let targets = (0..left.clauses.len() as u16).filter(|&target| left.kept(target).is_some());
+    let all: Vec<Step> =
+        targets.flat_map(|target| (0..left.atoms).map(move |atom| Step::new(9, target, 0, atom))).collect();
+    let target = |step: &Step| left.kept(step.target).unwrap();
+    let bans = |step: &Step| target(step).head.is_empty() && target(step).neg.is_empty();
+    let missed = |step: &Step| target(step).pos.difference(left.derived_from(step.atom)).count();
+    let groups: [&dyn Fn(&Step) -> bool; 6] = [
+        &|_| true,
+        &|step| bans(step),
+        &|step| bans(step) && missed(step) == 1,
+        &|step| bans(step) && missed(step) == 0 && !left.occurs(step.atom),
+        &|step| missed(step) == 0 && !bans(step),
+        &|step| given.occurs(step.atom) && !left.occurs(step.atom),
+    ];
+    let some: Vec<_> = groups.into_iter().filter(|group| all.iter().any(group)).collect();
+    if some.is_empty() {
+        return None;
+    }
+    let group = random.pick(&some);
+    let steps: Vec<Step> = all.into_iter().filter(group).collect();
+    let partner = if random.once_in(12) { random.upto(left.clauses.len()) as u16 } else { 0 };
+    Some(Step { partner, ..random.pick(&steps) })
+}
+
+/// Steps that apply, then one of kind 9 that may, where there is one, then at times more; and that step's number.
+pub fn around_exclusion(random: &mut Random, table: &Table) -> Option<(Vec<u16>, usize)> {
+    let (mut list, marks) = right(random, table, 8);
+    let place = list.len() / 4;
+    let left = Left::new(table, &marks);
+    let right_ones: Vec<Step> = applicable(&left).into_iter().filter(|step| step.kind == 9).collect();
+    let step = match right_ones.is_empty() || random.once_in(2) {
+        true => excluding(random, table, &left)?,
+        false => random.pick(&right_ones),
+    };
+    list.extend(step.words());
+    list.extend(right(random, table, 3).0);
+    Some((list, place))
+}
+
 /// One of the list's failures is named a loop.
 fn failure_as_loop(random: &mut Random, list: &mut [u16]) {
     let failures: Vec<usize> = (0..list.len()).step_by(4).filter(|&place| list[place] == 6).collect();
@@ -107,7 +150,7 @@ fn right(random: &mut Random, table: &Table, most: usize) -> (Vec<u16>, Vec<u8>)
 fn half_right(random: &mut Random, table: &Table) -> Vec<u16> {
     let (mut list, marks) = right(random, table, 12);
     let left = Left::new(table, &marks);
-    match random.upto(7) {
+    match random.upto(8) {
         0 => list.extend(any_step(random, table.words).words()),
         1 if !list.is_empty() => {
             let place = random.upto(list.len() - 1);
@@ -116,6 +159,7 @@ fn half_right(random: &mut Random, table: &Table) -> Vec<u16> {
         2 => list.extend(renamed(random, &left).iter().flat_map(Step::words)),
         3 => list.extend(loop_step(random, table, &left).iter().flat_map(Step::words)),
         4 => failure_as_loop(random, &mut list),
+        5 => list.extend(excluding(random, table, &left).iter().flat_map(Step::words)),
         _ => {}
     }
     list

@@ -16,7 +16,7 @@ pub fn any(random: &mut Random, words: usize) -> Vec<u8> {
 pub fn leaving(random: &mut Random, table: &[u16]) -> Vec<u8> {
     let mut marks = vec![1; table.len()];
     if let Ok(table) = Table::read(table) {
-        let places = table.spans.iter().flat_map(|span| [span.first].into_iter().chain(span.pos.start..span.neg.end));
+        let places = table.spans.iter().flat_map(|span| [span.first].into_iter().chain(span.head.start..span.neg.end));
         let gone = 1 + random.upto(5);
         for place in places {
             marks[place] = u8::from(!random.once_in(gone));

@@ -118,13 +118,14 @@ pub fn copies(random: &mut Random, size: Size) -> Program {
 }
 
 /// A program in which atoms often can't be: bans of one or two positive atoms, definite clauses that lead to them, and
-/// disjunctions and negations that keep both from going otherwise.
+/// disjunctions and negations that keep both from going otherwise; at times an atom more, which is in no clause.
 pub fn bans(random: &mut Random, size: Size) -> Program {
-    const COUNTS: [(usize, usize, usize); 16] = [
+    const COUNTS: [(usize, usize, usize); 17] = [
         (0, 1, 0),
         (0, 1, 0),
         (0, 2, 0),
         (0, 1, 1),
+        (1, 0, 0),
         (1, 1, 0),
         (1, 1, 0),
         (1, 1, 0),
@@ -145,7 +146,7 @@ pub fn bans(random: &mut Random, size: Size) -> Program {
         Clause { head: of(heads), pos: of(positive), neg: of(negative) }
     };
     let clauses = (0..=random.upto(size.clauses)).map(|_| clause(random)).collect();
-    Program { atoms, clauses }
+    Program { atoms: atoms + random.upto(1) as u16, clauses }
 }
 
 /// A disjunctive fact of each so many of the atoms: a set that satisfies them lacks fewer than so many.

@@ -1,5 +1,5 @@
 //! Tables, sound and damaged.
-use super::programs::{choices as choosing, circular as circling, copies as copying, program, Size};
+use super::programs::{bans as banning, choices as choosing, circular as circling, copies as copying, program, Size};
 use crate::independent::program::words;
 use crate::random::Random;
 
@@ -21,6 +21,11 @@ pub fn circular(random: &mut Random, size: Size) -> Vec<u16> {
 /// The words of a random program with many equal clauses.
 pub fn copies(random: &mut Random, size: Size) -> Vec<u16> {
     words(&copying(random, size))
+}
+
+/// The words of a random program with atoms that can't be.
+pub fn bans(random: &mut Random, size: Size) -> Vec<u16> {
+    words(&banning(random, size))
 }
 
 /// The words of a random program, most often damaged in one to three places.

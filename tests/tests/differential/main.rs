@@ -9,7 +9,7 @@ mod steps;
 mod tables;
 mod texts;
 
-use gambrolt_tests::compare::{Circles, EqualClauses, Listed, Loops, Tally, Texts, LAST};
+use gambrolt_tests::compare::{Circles, EqualClauses, Exclusions, Listed, Loops, Tally, Texts, LAST};
 use gambrolt_tests::make::shapes::SHAPES;
 use gambrolt_tests::random::Random;
 use std::time::Instant;
@@ -17,7 +17,7 @@ use std::time::Instant;
 /// A group of cases: its name, how many draws it makes, and what one draw compares.
 type Group = (&'static str, u64, fn(&mut Random, &mut Tally));
 
-const GROUPS: [Group; 25] = [
+const GROUPS: [Group; 27] = [
     ("tables", 120_000, tables::damaged),
     ("lists", 100_000, steps::checked),
     ("reducing", 60_000, steps::reduced),
@@ -43,6 +43,8 @@ const GROUPS: [Group; 25] = [
     ("texts read, refused late", 4_000, texts::late),
     ("lists with a loop step", 30_000, steps::loops),
     ("reducing, equal clauses", 20_000, steps::equal_clauses),
+    ("lists with a step of kind 9", 60_000, steps::exclusions),
+    ("reducing, atoms that can't be", 20_000, steps::excluded_atoms),
 ];
 
 fn main() {
@@ -80,6 +82,7 @@ fn report(tally: &Tally) {
     assert!(tally.made[1..].iter().all(|&steps| steps > 0), "a kind of step was never made");
     loops(&tally.loops);
     equal_clauses(&tally.equal);
+    exclusions(&tally.exclusions);
     println!("{:?}", tally.circles);
     let Circles { positive, negative, none } = tally.circles;
     assert!(positive.min(negative).min(none) > 1_000, "too few circles, or programs without");
@@ -108,6 +111,22 @@ fn equal_clauses(equal: &EqualClauses) {
     let shortened = target_shortened.min(partner_shortened);
     assert!(kinds.min(shortened).min(partner_goes).min(elsewhere) > &1_000, "too few equal clauses of a kind");
     assert!(by_another > &200, "too few clauses that a third deletes");
+}
+
+/// Fails where steps of kind 9 were made or refused too seldom in some way.
+fn exclusions(steps: &Exclusions) {
+    println!("lists of the reducer, and steps of kind 9 in lists: {steps:?}");
+    let Exclusions { lists_without, lists_with, others_behind, made, target_stays, others_deleted, .. } = steps;
+    let Exclusions { heads_dropped, negatives_dropped, constraints_made, facts_made, target_had_head, .. } = steps;
+    let Exclusions { with_partner, no_ban, in_no_clause, lost, not_derived, .. } = steps;
+    let lists = lists_without.min(lists_with).min(others_behind);
+    let drops = heads_dropped.min(negatives_dropped).min(constraints_made).min(facts_made);
+    let refused = no_ban.min(not_derived).min(with_partner);
+    assert!(
+        lists.min(made).min(target_stays).min(others_deleted).min(drops).min(refused) > &1_000,
+        "too few of a kind"
+    );
+    assert!(in_no_clause.min(lost).min(target_had_head) > &300, "too few of a rare kind");
 }
 
 /// Fails where the lists of stable models were refused too seldom by some question, or were too much alike.

@@ -1,9 +1,10 @@
 //! Lists of steps: checked, and made by the reducer.
 use gambrolt_tests::compare::{counted, Tally};
 use gambrolt_tests::independent::reduce::{applicable, passed_over};
-use gambrolt_tests::independent::steps::{Left, Step};
+use gambrolt_tests::independent::steps::{has_partner, Left, Step};
 use gambrolt_tests::independent::table::Table;
 use gambrolt_tests::independent::Refused;
+use gambrolt_tests::library;
 use gambrolt_tests::make::programs::{any_size, Size, MIDDLE};
 use gambrolt_tests::make::{lists, marks, tables};
 use gambrolt_tests::random::Random;
@@ -63,6 +64,47 @@ pub fn equal_clauses(random: &mut Random, tally: &mut Tally) {
     }
 }
 
+/// A step of kind 9 behind steps and before others, most often in a program with bans: made, or refused by 14 where it has a
+/// partner, and else by 16.
+pub fn exclusions(random: &mut Random, tally: &mut Tally) {
+    let size = any_size(random);
+    let table = if random.once_in(5) { tables::table(random, size) } else { tables::bans(random, size) };
+    let read = Table::read(&table).unwrap();
+    let Some((list, place)) = lists::around_exclusion(random, &read) else { return };
+    let marks = random.bytes(table.len());
+    let (before, step) = list[..4 * place + 4].split_at(4 * place);
+    let (_, left) = tally.check(&table, &marks, before);
+    let (answer, after) = tally.check(&table, &marks, &list[..4 * place + 4]);
+    tally.check(&table, &marks, &list);
+    let step = Step::new(step[0], step[1], step[2], step[3]);
+    tally.exclusions.count(&read, &left, step, answer, &after);
+    let number = answer.map_or_else(|refused| refused.number, |_| 0);
+    let expected = if step.partner != 0 { [14; 2] } else { [0, 16] };
+    assert!(expected.contains(&number), "{table:?}, {list:?}: {answer:?}");
+    assert!(number == 0 || after == left, "a refused step changes marks: {table:?}, {list:?}");
+}
+
+/// A program with atoms that can't be: the reducer's list, and behind it every step near the program's words, which is refused.
+pub fn excluded_atoms(random: &mut Random, tally: &mut Tally) {
+    let size = any_size(random);
+    let table = tables::bans(random, size);
+    let marks = random.bytes(table.len());
+    let (steps, left, list) = tally.reduce(&table, &marks, &vec![0; 4 * table.len()]);
+    let list = &list[..4 * steps.expect("room for every list") as usize];
+    counted(list, &left);
+    tally.exclusions.count_list(list);
+    assert_eq!(tally.check(&table, &marks, list), (steps, left.clone()), "{table:?}");
+    let (clauses, atoms) = (usize::from(table[1]), usize::from(table[0]));
+    for _ in 0..20 {
+        let kind = random.pick(&[1, 2, 3, 4, 5, 6, 7, 8, 9, 9, 9, 9]);
+        let partner = if has_partner(kind) { random.upto(clauses) as u16 } else { 0 };
+        let step = [kind, random.upto(clauses) as u16, partner, random.upto(atoms) as u16];
+        let (refused, after) = library::check(&table, &marks, &[list, &step].concat());
+        assert!(refused >> 48 > 0 && Ok(refused & 0xffff_ffff_ffff) == steps, "{table:?}, {step:?} behind {list:?}");
+        assert!(after == left, "{table:?}, {step:?} behind {list:?}");
+    }
+}
+
 pub fn reduced(random: &mut Random, tally: &mut Tally) {
     let size = any_size(random);
     reduce_and_check(random, tally, size);
@@ -75,7 +117,11 @@ pub fn reduced_middle(random: &mut Random, tally: &mut Tally) {
 /// "The reducer's list .. is accepted, and with any four words behind it, it is refused at step s"; s is the marks at 0, or less
 /// where a step of kind 9 is among them.
 fn reduce_and_check(random: &mut Random, tally: &mut Tally, size: Size) {
-    let table = if random.once_in(3) { tables::copies(random, size) } else { tables::mostly_sound(random, size) };
+    let table = match random.upto(5) {
+        0 | 1 => tables::copies(random, size),
+        2 => tables::bans(random, size),
+        _ => tables::mostly_sound(random, size),
+    };
     let marks = marks::any(random, table.len());
     let needed = Table::read(&table).map_or(0, |table| 4 * table.clauses_and_literals());
     let room = match random.upto(9) {
