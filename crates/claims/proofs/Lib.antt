@@ -10,6 +10,8 @@ pub mod Digits
 pub mod TextLists
 pub mod Failures
 pub mod EqualClauses
+pub mod ExcludedAtoms
+pub mod ExclusionRows
 pub mod OpenSteps
 pub mod Refusals
 pub mod Said

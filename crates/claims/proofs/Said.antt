@@ -71,7 +71,7 @@ firstNo ws ms ls k = stepQuestions some (getD ws 0 0) (view ws ms) (kindAt ls k)
 -- ---- rows of tables that are computed
 
 -- a call says this; or the reducer writes this list for a table; or these are the words of its stable models; or these are the bytes of its text; or of a number; or a
--- text is read as this table
+-- text is read as this table; or checking a list says this and leaves these marks
 pub data Example : Type 0 where
   row : Call → Said → Example
   writes : List ℕ → List ℕ → Example
@@ -79,6 +79,7 @@ pub data Example : Type 0 where
   texts : List ℕ → List ℕ → Example
   digitsAre : ℕ → List ℕ → Example
   readsAs : List ℕ → List ℕ → Example
+  checked : List ℕ → List ℕ → Said → List ℕ → Example
 
 -- the reducer's call, lent a mark for each word and 64 words for the list, at first all 0
 abbrev pub reduced64 : List ℕ → Reduction
@@ -92,6 +93,8 @@ Says (lists ws l) = (modelsAnswer ws 6 ≡ Accepted (length l)) × (modelsOut ws
 -- into a slice of 64 bytes, at first all dots
 Says (texts ws bs) = (writeAnswer ws 64 ≡ Accepted (length bs)) × (outAfter ws (replicate 64 46) ≡ written bs (replicate 64 46))
 Says (digitsAre v bs) = digits v ≡ bs
+-- from marks that are all 7
+Says (checked ws ls s ms) = (saidBy (checkList ws (replicate (length ws) 7) ls .answer) ≡ s) × (checkList ws (replicate (length ws) 7) ls .marks ≡ ms)
 -- into a slice of 8,192 words, at first all 7
 Says (readsAs ts ws) = (readAnswer ts 8192 ≡ Accepted (length ws)) × (take (length ws) (tableAfter ts (replicate 8192 7)) ≡ ws)
 
