@@ -1,4 +1,4 @@
-//! The rows of `crates/claims/proofs/Refusals.antt`, `OpenSteps.antt` and `Requests.antt`, in their order: the literal implementation of the documents and the library
+//! The rows of `crates/claims/proofs/Refusals.antt`, `OpenSteps.antt`, `Requests.antt` and `ExclusionRows.antt`, in their order: the literal implementation of the documents and the library
 //! give the values that are proved there.
 #![deny(warnings)]
 use gambrolt_tests::compare::Tally;
@@ -42,7 +42,9 @@ fn marks() {
     assert_eq!(reduced(&[1; 6], &[]), no(9, 0));
     assert_eq!(Tally::new().check(&[2, 0, 0], &[], &[]).0, no(8, 2));
     assert_eq!(reduced(&[1, 0, 1, 1, 1, 0, 1], &[]), no(10, 1));
-    assert_eq!(reduced(&[1, 1, 1, 1, 1, 0, 2], &[]), no(10, 5));
+    assert_eq!(reduced(&[1, 1, 1, 0, 1, 0, 1], &[]), no(10, 3));
+    assert_eq!(reduced(&[1, 1, 1, 1, 1, 0, 2], &[]), no(10, 6));
+    assert_eq!(reduced(&[1, 1, 1, 1, 1, 0, 1], &[9; 6]), Ok(6));
     assert_eq!(reduced(&[1, 1, 1, 1, 1, 1, 2], &[]), no(10, 6));
     assert_eq!(reduced(&[1, 1, 0, 1, 1, 1, 0], &[0, 0]), Ok(2));
     assert_eq!(reduced(&[1; 7], &[9; 6]), no(18, 0));
@@ -57,7 +59,8 @@ fn lists() {
     assert_eq!(check(&[0; 32764]), no(11, 0));
     assert_eq!(check(&[0; 32760]), no(12, 0));
     assert_eq!(check(&[0, 9, 9, 9]), no(12, 0));
-    assert_eq!(check(&[6, 0, 0, 1, 9, 0, 0, 0]), no(12, 1));
+    assert_eq!(check(&[6, 0, 0, 1, 10, 0, 0, 0]), no(12, 1));
+    assert_eq!(check(&[6, 0, 0, 1, 9, 0, 0, 0]), no(13, 1));
     assert_eq!(check(&[6, 1, 9, 9]), no(13, 0));
     assert_eq!(check(&[6, 0, 0, 1, 6, 0, 0, 1]), no(13, 1));
     assert_eq!(check(&[8, 0, 1, 9]), no(14, 0));
@@ -69,8 +72,8 @@ fn lists() {
     assert_eq!(check(&[1, 0, 0, 0]), no(16, 0));
     assert_eq!(check(&[6, 0, 0, 1]), Ok(1));
     let reduce = |room: usize| Tally::new().reduce(&RULE, &[5; 7], &vec![9; room]).0;
-    assert_eq!(reduce(7), no(17, 0));
-    assert_eq!(reduce(8), Ok(1));
+    assert_eq!(reduce(11), no(17, 0));
+    assert_eq!(reduce(12), Ok(1));
 }
 
 #[test]
@@ -304,7 +307,7 @@ fn equal_clauses() {
     writes(&[0, 3, 0, 0, 0, 0, 0, 0, 0, 0, 0], &[5, 1, 0, 0, 5, 2, 0, 0]);
     writes(&[1, 3, 1, 0, 0, 0, 0, 0, 0, 0, 0, 0], &[5, 0, 1, 0, 5, 2, 1, 0]);
     // 0|1. <- 0. <- 0.
-    writes(&[2, 3, 2, 0, 0, 0, 1, 0, 1, 0, 0, 0, 1, 0, 0], &[8, 2, 1, 0]);
+    writes(&[2, 3, 2, 0, 0, 0, 1, 0, 1, 0, 0, 0, 1, 0, 0], &[8, 2, 1, 0, 9, 1, 0, 0]);
     // 0. 1 <- 0. 1., then 1. 0. 1 <- 0.
     writes(&[2, 3, 1, 0, 0, 0, 1, 1, 0, 1, 0, 1, 0, 0, 1], &[3, 1, 0, 0, 8, 2, 1, 0]);
     writes(&[2, 3, 1, 0, 0, 1, 1, 0, 0, 0, 1, 1, 0, 1, 0], &[3, 2, 1, 0, 8, 2, 0, 0]);
@@ -318,11 +321,125 @@ fn equal_clauses() {
     writes(&third, &[8, 0, 3, 0, 8, 1, 3, 0, 4, 2, 0, 0, 8, 3, 2, 0]);
 }
 
+/// 0|1. <- 0.
+const BAN: [u16; 11] = [2, 2, 2, 0, 0, 0, 1, 0, 1, 0, 0];
+/// <- 0. 0 <- 1. 1 <- ~2. 2 <- ~1.
+const CHAIN: [u16; 21] = [3, 4, 0, 1, 0, 0, 1, 1, 0, 0, 1, 1, 0, 1, 1, 2, 1, 0, 1, 2, 1];
+/// 0|1. 0 <- 0, ~0. <- 0.
+const CONTRADICTING: [u16; 17] = [2, 3, 2, 0, 0, 0, 1, 1, 1, 1, 0, 0, 0, 0, 1, 0, 0];
+/// 0. <- 0. 2 <- ~1.
+const NEGATIVE: [u16; 15] = [3, 3, 1, 0, 0, 0, 0, 1, 0, 0, 1, 0, 1, 2, 1];
+/// 0 <- 1, ~2. <- 0. 1|3. 2 <- 1.
+const THROUGH_NEGATIVE: [u16; 22] = [4, 4, 1, 1, 1, 0, 1, 2, 0, 1, 0, 0, 2, 0, 0, 1, 3, 1, 1, 0, 2, 1];
+/// <- 2. 1|2 <- 0. <- 1. 0|2|3.
+const THROUGH_TWO_HEADS: [u16; 22] = [4, 4, 0, 1, 0, 2, 2, 1, 0, 1, 2, 0, 0, 1, 0, 1, 3, 0, 0, 0, 2, 3];
+/// <- 0. 0|1. 2 <- 1.
+const SHRINKS: [u16; 16] = [3, 3, 0, 1, 0, 0, 2, 0, 0, 0, 1, 1, 1, 0, 2, 1];
+
+/// `ExclusionRows.antt`, slip 8.
+#[test]
+fn exclusions() {
+    let checked = |words: &[u16], list: &[u16], answer: Answer, marks: &[u8]| {
+        assert_eq!(Tally::new().check(words, &vec![7; words.len()], list), (answer, marks.to_vec()));
+    };
+    // "It deletes kept clauses with a in the positive body and drops a from the heads and negative bodies of the other kept ones": from a head; the target goes, which has it in its body: 0|1. <- 0.
+    checked(&BAN, &[9, 1, 0, 0], Ok(1), &[1, 1, 1, 1, 1, 0, 1, 0, 1, 1, 1]);
+    // each effect once, in one step: two clauses deleted, a head and a negative literal dropped: <- 0. 0|1. 2 <- 0. 2 <- ~0.
+    checked(
+        &[3, 4, 0, 1, 0, 0, 2, 0, 0, 0, 1, 1, 1, 0, 2, 0, 1, 0, 1, 2, 0],
+        &[9, 0, 0, 0],
+        Ok(1),
+        &[1, 1, 0, 1, 1, 1, 1, 1, 1, 0, 1, 0, 1, 1, 1, 1, 1, 1, 1, 1, 0],
+    );
+    // the atom need not be in the target: D is 1 and 0, and the target stays: <- 0. 0 <- 1. 1 <- ~2. 2 <- ~1.
+    checked(&CHAIN, &[9, 0, 0, 1], Ok(1), &[1, 1, 1, 1, 1, 1, 0, 1, 1, 1, 1, 1, 1, 1, 0, 1, 1, 1, 1, 1, 0]);
+    // a clause that is gone keeps its marks: 0|1. 0 <- 0, ~0. <- 0.
+    checked(&CONTRADICTING, &[1, 1, 0, 0, 9, 2, 0, 0], Ok(2), &[1, 1, 1, 1, 1, 0, 1, 0, 1, 1, 1, 1, 1, 0, 1, 1, 1]);
+    // of a clause that it deletes the first word's mark alone goes, so that these are the same: 0|1. 0 <- 0, ~0. <- 0.
+    checked(&CONTRADICTING, &[9, 2, 0, 0], Ok(1), &[1, 1, 1, 1, 1, 0, 1, 0, 1, 1, 1, 1, 1, 0, 1, 1, 1]);
+    // head and negative literal of one clause; what is left of it is empty: <- 0. 0 <- ~0.
+    checked(&[1, 2, 0, 1, 0, 0, 1, 0, 1, 0, 0], &[9, 0, 0, 0], Ok(1), &[1, 1, 0, 1, 1, 1, 1, 1, 1, 0, 0]);
+    // "the atom a occurs in a kept clause": D has 0, but 1 occurs in none: 0. <- 0.
+    checked(&[2, 2, 1, 0, 0, 0, 0, 1, 0, 0], &[9, 1, 0, 1], no(16, 0), &[1; 10]);
+    // 1 is in a negative body alone; the heads of facts are in every D: 0. <- 0. 2 <- ~1.
+    checked(&NEGATIVE, &[9, 1, 0, 1], Ok(1), &[1, 1, 1, 1, 1, 1, 1, 1, 1, 1, 1, 1, 1, 1, 0]);
+    // and occurs no more after the step: 0. <- 0. 2 <- ~1.
+    checked(&NEGATIVE, &[9, 1, 0, 1, 9, 1, 0, 1], no(16, 1), &[1, 1, 1, 1, 1, 1, 1, 1, 1, 1, 1, 1, 1, 1, 0]);
+    // "no negative atoms": D does not go through clause 0, and {1, 2} is stable: 0 <- 1, ~2. <- 0. 1|3. 2 <- 1.
+    checked(&THROUGH_NEGATIVE, &[9, 1, 0, 1], no(16, 0), &[1; 22]);
+    // "one head atom": nor through a clause with two, and {1, 2} is stable: 0|2 <- 1. <- 0. 1|3.
+    checked(&[4, 3, 2, 1, 0, 0, 2, 1, 0, 1, 0, 0, 2, 0, 0, 1, 3], &[9, 1, 0, 1], no(16, 0), &[1; 17]);
+    // "Heads are read as left everywhere": clause 1 as left has one head atom, <- 2. 1|2 <- 0. <- 1. 0|2|3.
+    checked(
+        &THROUGH_TWO_HEADS,
+        &[9, 0, 0, 2, 9, 2, 0, 0],
+        Ok(2),
+        &[1, 1, 0, 1, 1, 1, 0, 1, 1, 1, 0, 1, 1, 1, 1, 1, 1, 1, 1, 0, 0, 1],
+    );
+    // and two without the step before: <- 2. 1|2 <- 0. <- 1. 0|2|3.
+    checked(&THROUGH_TWO_HEADS, &[9, 2, 0, 0], no(16, 0), &[1; 22]);
+    // a clause that lost its last head atom is a constraint: <- 0. 0 <- 1. 1|2.
+    checked(
+        &[3, 3, 0, 1, 0, 0, 1, 1, 0, 0, 1, 2, 0, 0, 1, 2],
+        &[9, 0, 0, 0, 9, 1, 0, 1],
+        Ok(2),
+        &[1, 1, 0, 1, 1, 1, 0, 1, 1, 0, 1, 1, 1, 1, 0, 1],
+    );
+    // "a kept constraint with at least one positive and no negative atom": a target with a negative atom, 0|1. <- 0, ~1.
+    checked(&[2, 2, 2, 0, 0, 0, 1, 0, 1, 1, 0, 1], &[9, 1, 0, 0], no(16, 0), &[1; 12]);
+    // without a positive atom, 0|1. <- .
+    checked(&[2, 2, 2, 0, 0, 0, 1, 0, 0, 0], &[9, 1, 0, 0], no(16, 0), &[1; 10]);
+    // with a head: 0|1. 1 <- 0.
+    checked(&[2, 2, 2, 0, 0, 0, 1, 1, 1, 0, 1, 0], &[9, 1, 0, 0], no(16, 0), &[1; 12]);
+    // 13 before 14, 0|1. <- 0.
+    checked(&BAN, &[9, 2, 1, 2], no(13, 0), &[1; 11]);
+    // "the partner is unused": 14 before 15, 0|1. <- 0.
+    checked(&BAN, &[9, 1, 1, 2], no(14, 0), &[1; 11]);
+    // 15: 0|1. <- 0.
+    checked(&BAN, &[9, 1, 0, 2], no(15, 0), &[1; 11]);
+    // "Question 12 allows 9": 0|1. <- 0.
+    checked(&BAN, &[10, 1, 0, 0], no(12, 0), &[1; 11]);
+    // a disjunctive fact that lost an atom is a partner of kind 3; <- 0. 0|1. 2 <- 1.
+    checked(&SHRINKS, &[9, 0, 0, 0, 3, 2, 1, 1], Ok(2), &[1, 1, 0, 1, 1, 1, 1, 1, 1, 0, 1, 1, 1, 1, 1, 0]);
+    // 29 reads its head as left, <- 0. 0|1. 2 <- 1.
+    checked(&SHRINKS, &[9, 0, 0, 0, 3, 2, 1, 0], no(29, 1), &[1, 1, 0, 1, 1, 1, 1, 1, 1, 0, 1, 1, 1, 1, 1, 1]);
+    // and 32 the kept heads: <- 0. 0|1 <- 1. 0|1.
+    checked(
+        &[2, 3, 0, 1, 0, 0, 2, 1, 0, 0, 1, 1, 2, 0, 0, 0, 1],
+        &[9, 0, 0, 0, 7, 1, 0, 0],
+        no(32, 1),
+        &[1, 1, 0, 1, 1, 1, 1, 1, 1, 0, 1, 1, 1, 1, 1, 0, 1],
+    );
+    // "The reducer tries it after 8": 9,0,0,0 makes clause 1 a constraint, which excludes 1; then 2 is a fact: <- 0. 0 <- 1. 1 <- ~2. 2 <- ~1. leaves 2.
+    writes(&CHAIN, &[9, 0, 0, 0, 9, 1, 0, 1, 5, 2, 3, 0]);
+    // 8 before 9: the second constraint goes by the first: 0|1. <- 0. <- 0, 1. leaves 1.
+    writes(&[2, 3, 2, 0, 0, 0, 1, 0, 1, 0, 0, 0, 2, 0, 0, 1], &[8, 2, 1, 0, 9, 1, 0, 0]);
+    // a head that shrinks to a fact opens a success, and the constraint excludes 0 then: 0|1. 2|3. <- 0, 2. <- 3. leaves 1. 2.
+    writes(&[4, 4, 2, 0, 0, 0, 1, 2, 0, 0, 2, 3, 0, 2, 0, 0, 2, 0, 1, 0, 3], &[9, 3, 0, 3, 3, 2, 1, 2, 9, 2, 0, 0]);
+    // kind 9 opens 8 and 6: 1 is in no head any more: 1 <- 0. 0|2. 1|2. <- 1. leaves 2.
+    writes(&[3, 4, 1, 1, 0, 1, 0, 2, 0, 0, 0, 2, 2, 0, 0, 1, 2, 0, 1, 0, 1], &[9, 3, 0, 0, 8, 2, 1, 0, 6, 3, 0, 1]);
+    // of two constraints the first one's atom, then the second has no head for its atom: 0|3. 1|3. <- 1. <- 0. leaves 3.
+    writes(&[4, 4, 2, 0, 0, 0, 3, 2, 0, 0, 1, 3, 0, 1, 0, 1, 0, 1, 0, 0], &[9, 2, 0, 1, 8, 0, 1, 0, 6, 3, 0, 0]);
+    // an empty clause is left, by which the rest is blocked: <- 0. 0 <- ~0. 1|2. leaves the empty clause
+    writes(&[3, 3, 0, 1, 0, 0, 1, 0, 1, 0, 0, 2, 0, 0, 1, 2], &[9, 0, 0, 0, 5, 2, 1, 0]);
+    // kind 9 opens 4 and 6: 1 <- 0. <- 1. 0|3. 2 <- 0. 4 <- ~2. leaves 3. 4.
+    writes(
+        &[5, 5, 1, 1, 0, 1, 0, 0, 1, 0, 1, 2, 0, 0, 0, 3, 1, 1, 0, 2, 0, 1, 0, 1, 4, 2],
+        &[9, 1, 0, 0, 4, 4, 0, 2, 6, 1, 0, 1],
+    );
+    // and 5: 0|1|2. <- 0. 3 <- ~1, ~2. leaves 1|2.
+    writes(&[4, 3, 3, 0, 0, 0, 1, 2, 0, 1, 0, 0, 1, 0, 2, 3, 1, 2], &[9, 1, 0, 0, 5, 2, 0, 0]);
+    // no atom alone leads to both: 0|1. 2|3. <- 0, 2. leaves 0|1. 2|3. <- 0, 2.
+    writes(&[4, 3, 2, 0, 0, 0, 1, 2, 0, 0, 2, 3, 0, 2, 0, 0, 2], &[]);
+    // D does not go through a negative atom: of the atoms only 0 is excluded: 0 <- 1, ~2. <- 0. 1|3. 2 <- 1. leaves <- 1, ~2. 1|3. 2 <- 1.
+    writes(&THROUGH_NEGATIVE, &[9, 1, 0, 0]);
+}
+
 /// `OpenSteps.antt`: the lists that the reducer has to write.
 #[test]
 fn open_steps() {
     writes(&[3, 4, 1, 0, 0, 0, 1, 0, 1, 1, 0, 1, 1, 0, 2, 1, 1, 1, 0, 1, 2], &[5, 1, 0, 0, 7, 2, 0, 1, 6, 3, 0, 2]);
-    writes(&[2, 3, 2, 0, 0, 0, 1, 0, 1, 0, 0, 0, 2, 0, 0, 1], &[8, 2, 1, 0]);
+    writes(&[2, 3, 2, 0, 0, 0, 1, 0, 1, 0, 0, 0, 2, 0, 0, 1], &[8, 2, 1, 0, 9, 1, 0, 0]);
     writes(&[3, 3, 1, 0, 0, 0, 1, 1, 0, 1, 0, 1, 0, 1, 2, 1], &[3, 1, 0, 0, 5, 2, 1, 0]);
     writes(&[2, 3, 1, 1, 0, 1, 0, 1, 0, 0, 0, 1, 0, 0, 0], &[3, 0, 1, 0, 8, 2, 1, 0]);
     writes(&[3, 1, 1, 2, 0, 0, 1, 2], &[6, 0, 0, 1]);
