@@ -36,7 +36,7 @@ const char *decides_beside(const struct order *o, const struct statement *s)
 static void count_mentions(const struct order *o, uint16_t mentions[GAMBROLT_MAX_ATOMS])
 {
     for (size_t i = 2; i < o->reduced_words; i = clause_end(o->reduced, i))
-        for (size_t k = i + 3; k < clause_end(o->reduced, i); k++)
+        for (size_t k = i + 3; k < clause_end(o->reduced, i) && !is_spent(o, o->reduced + i); k++)
             mentions[o->reduced[k]]++;
 }
 
@@ -63,7 +63,7 @@ static void find_clauses(const struct order *o, struct program *left)
     program_start(left);
     for (size_t i = 2; i < o->reduced_words; i = clause_end(o->reduced, i)) {
         const uint16_t *c = o->reduced + i;
-        if (c[0] != 1 || c[1] + c[2] > 0 || mentions[c[3]] > 1)
+        if (!is_spent(o, c) && (c[0] != 1 || c[1] + c[2] > 0 || mentions[c[3]] > 1))
             add_left(left, c, o->program.atom);
     }
 }

@@ -3,14 +3,17 @@
 
 #include <string.h>
 
-#define KINDS 9
+#define KINDS 10
 #define SHOWN 12 /* atoms of a clause that are written out */
 #define LINKS 6  /* links of a circle that are written out */
+#define NAMED 20 /* clauses that went with an atom whose numbers are written out */
 #define OUTSIDE (-1)
+#define NO_ATOM (-1)
 
 /*
  * The kinds of step. In a sentence @a is the step's atom, @n the partner's number, @p the partner, @h its heads denied,
- * @c how the atom rests on itself, @s how the partner compares with the target.
+ * @c how the atom rests on itself, @s how the partner compares with the target, @f what of the target follows from the
+ * atom, @w what goes with it.
  */
 static const char *const sentences[KINDS] = {
     "deleted, since @p, rules out every stable model anyway", /* what blocked says of an empty partner */
@@ -21,7 +24,8 @@ static const char *const sentences[KINDS] = {
     [GAMBROLT_BLOCKED] = "deleted, since it needs @h, but @p, is a fact",
     [GAMBROLT_FAILURE] = "deleted, since it needs `@a`, which no clause can derive",
     [GAMBROLT_LOOP] = "deleted, since it needs `@a`, which is derived only in a circle@c",
-    [GAMBROLT_SUBSUMED] = "deleted, since @p, @s"};
+    [GAMBROLT_SUBSUMED] = "deleted, since @p, @s",
+    [GAMBROLT_EXCLUDED] = "`@a` can't be@f@w"};
 
 /* ---- Sentences: the steps are made again, and each is read on the marks that those before it left ---- */
 
@@ -53,7 +57,7 @@ static void find_reach(struct order *o)
         for (size_t c = 0; c < o->table[1]; c++)
             if (o->marks[o->start[c]] && !find(o, c, POSITIVE, OUTSIDE))
                 for (size_t i = part_start(o, c, HEAD); i < part_start(o, c, POSITIVE); i++)
-                    if (!o->reach[o->table[i]])
+                    if (o->marks[i] && !o->reach[o->table[i]])
                         o->reach[o->table[i]] = (uint8_t)(more = 1);
     }
 }
@@ -70,11 +74,24 @@ static void put_numbered(struct order *o, size_t clause)
     putf(&o->explanation, "`");
 }
 
+/* The atoms that are left from one place to another, but for one, with `before` each: `a`, `b` and `c`. Returns how many. */
+static size_t put_atoms(struct order *o, size_t from, size_t end, int but, const char *before)
+{
+    size_t count = 0, put = 0;
+    for (size_t i = from; i < end; i++)
+        count += o->marks[i] && o->table[i] != but;
+    for (size_t i = from; i < end; i++)
+        if (o->marks[i] && o->table[i] != but) {
+            putf(&o->explanation, "%s`%s", put == 0 ? "" : put + 1 == count ? " and " : ", ", before);
+            put_atom(o, "", o->table[i], "`");
+            put++;
+        }
+    return count;
+}
+
 static void put_heads_denied(struct order *o, size_t clause)
 {
-    size_t first = part_start(o, clause, HEAD), end = part_start(o, clause, POSITIVE);
-    for (size_t i = first; i < end; i++)
-        put_atom(o, i == first ? "`not " : i + 1 == end ? " and `not " : ", `not ", o->table[i], "`");
+    put_atoms(o, part_start(o, clause, HEAD), part_start(o, clause, POSITIVE), NO_ATOM, "not ");
 }
 
 /* How an atom outside the reach rests on others outside it: every clause that gives it needs one. */
@@ -95,6 +112,54 @@ static void put_circle(struct order *o, int atom)
                 return;
     }
     putf(&o->explanation, " and so on");
+}
+
+/* The atoms of a constraint beside the one that can't be, which follow from it. */
+static void put_following(struct order *o, size_t target, int atom)
+{
+    size_t from = part_start(o, target, POSITIVE), end = part_start(o, target, NEGATIVE), others = 0;
+    for (size_t i = from; i < end; i++)
+        others += o->marks[i] && o->table[i] != atom;
+    if (others) {
+        putf(&o->explanation, ", since ");
+        put_atoms(o, from, end, atom, "");
+        putf(&o->explanation, others == 1 ? " follows from it" : " follow from it");
+    }
+}
+
+/* Whether a step at the clause changes the order: a guard is none of its rules, and a choice without its atom no choice. */
+static int is_told(const struct order *o, size_t clause)
+{
+    return o->of[clause] != NO_RULE && (!is_choice(o, clause) || has_chosen(o, clause));
+}
+
+/* The numbers of the rules that have the atom in a part, and not in their positive body but where that is the part. */
+static void put_rules(struct order *o, const char *what, enum part part, int atom)
+{
+    size_t number[NAMED], count = 0, last = NO_RULE;
+    for (size_t c = 0; c < o->table[1]; c++) {
+        int there = o->marks[o->start[c]] && is_told(o, c) && find(o, c, part, atom);
+        if (!there || (part != POSITIVE && find(o, c, POSITIVE, atom)) || o->of[c] == last)
+            continue;
+        last = o->of[c]; /* of several clauses of one rule the first is named */
+        if (count < NAMED)
+            number[count] = statement_at(o, last)->number;
+        count++;
+    }
+    if (count)
+        putf(&o->explanation, "; %s clause%s", what, count > 1 ? "s" : "");
+    for (size_t i = 0; i < count && i < NAMED; i++)
+        putf(&o->explanation, "%s %zu", i ? "," : "", number[i]);
+    if (count > NAMED)
+        putf(&o->explanation, " and %zu more", count - NAMED);
+}
+
+/* Which clauses are deleted, which lose the atom from their heads, and which its negation. */
+static void put_with_it(struct order *o, int atom)
+{
+    put_rules(o, "deleted", POSITIVE, atom);
+    put_rules(o, "dropped it from the head of", HEAD, atom);
+    put_rules(o, "dropped its negation from", NEGATIVE, atom);
 }
 
 /* How many atoms the clause has. */
@@ -123,10 +188,45 @@ static void put_sentence(struct order *o, const char *c, size_t target, size_t p
             put_heads_denied(o, partner);
         else if (*c == 'c')
             put_circle(o, atom);
+        else if (*c == 'f')
+            put_following(o, target, atom);
+        else if (*c == 'w')
+            put_with_it(o, atom);
         else
             putf(&o->explanation, size_of(o, target) == size_of(o, partner) ? "says the same" : "already covers it");
     }
     putf(&o->explanation, "\n");
+}
+
+/* Deletes the kept clauses with the atom in their positive body, and drops it from the others. */
+static void exclude(struct order *o, int atom)
+{
+    for (size_t c = 0; c < o->table[1]; c++) {
+        if (!o->marks[o->start[c]])
+            continue;
+        if (find(o, c, POSITIVE, atom)) {
+            o->marks[o->start[c]] = 0;
+            continue;
+        }
+        for (enum part part = HEAD; part < END; part++) {
+            size_t at = find(o, c, part, atom);
+            if (at)
+                o->marks[at] = 0;
+        }
+    }
+}
+
+/* Makes a step. */
+static void make(struct order *o, const uint16_t *step)
+{
+    size_t gone = o->start[step[1]];
+    if (step[0] == GAMBROLT_EXCLUDED) {
+        exclude(o, step[3]);
+        return;
+    }
+    if (step[0] == GAMBROLT_SUCCESS || step[0] == GAMBROLT_NO_HEAD)
+        gone = find(o, step[1], step[0] == GAMBROLT_SUCCESS ? POSITIVE : NEGATIVE, step[3]);
+    o->marks[gone] = 0;
 }
 
 void explain(struct order *o)
@@ -134,19 +234,16 @@ void explain(struct order *o)
     int known = 0; /* whether the reach is that of the marks */
     memset(o->marks, 1, sizeof o->marks);
     for (const uint16_t *step = o->list; step < o->list + 4 * o->steps; step += 4) {
-        unsigned kind = step[0], success = kind == GAMBROLT_SUCCESS;
-        size_t gone = o->start[step[1]];
-        int empty = kind == GAMBROLT_BLOCKED && part_start(o, step[2], HEAD) == part_start(o, step[2], POSITIVE);
+        unsigned kind = step[0];
+        int empty = kind == GAMBROLT_BLOCKED && size_of(o, step[2]) == 0;
         if (kind == GAMBROLT_LOOP && !known)
             find_reach(o);
-        if (o->of[step[1]] != NO_RULE) /* a guard is none of the order's clauses */
+        if (is_told(o, step[1]))
             put_sentence(o, sentences[empty ? 0 : kind], step[1], step[2], step[3]);
-        if (success || kind == GAMBROLT_NO_HEAD)
-            gone = find(o, step[1], success ? POSITIVE : NEGATIVE, step[3]);
-        o->marks[gone] = 0;
+        make(o, step);
         /* a clause that needs an atom outside the reach adds nothing to it, nor does a literal that holds */
-        known = kind == GAMBROLT_LOOP ||
-                (known && (success || kind == GAMBROLT_NO_HEAD || kind == GAMBROLT_FAILURE));
+        known = kind == GAMBROLT_LOOP || (known && (kind == GAMBROLT_SUCCESS || kind == GAMBROLT_NO_HEAD ||
+                                                    kind == GAMBROLT_FAILURE));
     }
 }
 
@@ -158,10 +255,10 @@ static void measure(const struct order *o, const uint16_t *table, size_t words, 
     char met[GAMBROLT_MAX_ATOMS] = {0};
     const struct statement *s;
     for (size_t i = 2; i < words; i = clause_end(table, i)) {
-        int guard = table[i] == 2 && o->program.atom[table[i + 4]] >= GUARD;
-        size[0] += !guard;
-        size[1] += table[i + 1] + table[i + 2];
-        for (size_t k = i + 3; k < clause_end(table, i) && !guard; k++) {
+        int none = (table[i] == 2 && o->program.atom[table[i + 4]] >= GUARD) || is_spent(o, table + i);
+        size[0] += !none;
+        size[1] += none ? 0 : table[i + 1] + table[i + 2];
+        for (size_t k = i + 3; k < clause_end(table, i) && !none; k++) {
             size[2] += !met[table[k]] && o->program.atom[table[k]] < CHOSEN;
             met[table[k]] = 1;
         }

@@ -53,6 +53,21 @@ static double seconds(double since)
     return (double)now.tv_sec + (double)now.tv_nsec / 1e9 - since;
 }
 
+/*
+ * What goes past the table may derive an atom that its clauses exclude, so where something does, the list ends before its
+ * first step of that kind, and the checker makes what is left of it.
+ */
+static int cut_list(struct order *o)
+{
+    size_t steps = 0;
+    while (steps < o->steps && o->list[4 * steps] != GAMBROLT_EXCLUDED)
+        steps++;
+    if (steps == o->steps || !has_context(o))
+        return 0;
+    o->steps = steps;
+    return refused(o, "checker", gambrolt_check(o->table, o->words, o->marks, o->words, o->list, 4 * steps));
+}
+
 /* Calls the reducer (or takes no steps), then the checker on its list, then asks for the reduced table. */
 static int reduce_checked(struct order *o, int reduce)
 {
@@ -78,6 +93,8 @@ static int reduce_checked(struct order *o, int reduce)
         return -1;
     if (answer != o->steps || memcmp(o->marks, checked, o->words) != 0)
         return refuse(o, "self-check: reducer and checker leave different marks" REPORT);
+    if (cut_list(o))
+        return -1;
 
     answer = gambrolt_reduced_table(o->table, o->words, o->marks, o->words, o->reduced, GAMBROLT_MAX_WORDS);
     o->reduced_words = gambrolt_value(answer);

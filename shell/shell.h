@@ -77,7 +77,7 @@ struct order {
     uint16_t table[GAMBROLT_MAX_WORDS], reduced[GAMBROLT_MAX_WORDS], list[GAMBROLT_MAX_LIST];
     size_t words, reduced_words, steps;
     size_t start[GAMBROLT_MAX_CLAUSES]; /* the first word of each clause */
-    size_t left[GAMBROLT_MAX_CLAUSES];  /* the same in the reduced table, or 0 */
+    size_t left[GAMBROLT_MAX_CLAUSES];  /* the same in the reduced table, or 0, also where a choice has lost its atom */
     size_t of[GAMBROLT_MAX_CLAUSES];    /* the number of the clause's statement, or NO_RULE for a guard */
     size_t first[GAMBROLT_MAX_CLAUSES]; /* of a choice's clause that is left: the first with the same body */
     uint8_t marks[GAMBROLT_MAX_WORDS], reach[GAMBROLT_MAX_ATOMS]; /* reach: as document 01 defines it */
@@ -112,6 +112,12 @@ void make_table(struct order *o, const struct options *options);
 
 /* After the reduction: o->left, o->first, and which atoms are derived. With `merge`, choices of several rules become one. */
 void find_left(struct order *o, int merge);
+
+/* Whether the order has rules beside the table, or atoms that are set from outside: then no atom may be excluded (kind 9). */
+int has_context(const struct order *o);
+
+/* Whether a clause of a table has only the atom that stands for leaving a choice in its head: it says nothing any more. */
+int is_spent(const struct order *o, const uint16_t *clause);
 
 /* The atom by its number, or NULL where no statement has it. */
 struct atom *atom_of(const struct order *o, uint32_t number);
@@ -179,10 +185,16 @@ static inline struct rule rule_of(const struct order *o, const struct statement 
     return (struct rule){n[0], b[0], (size_t)n[1], (size_t)b[1 + b[0]], b[0] ? b[1] : 0, n + 2, b + 2 + b[0]};
 }
 
-/* Whether the clause comes from a choice. */
+/* Whether the clause comes from a choice. Its head is the choice's atom, then the one that stands for leaving it. */
 static inline int is_choice(const struct order *o, size_t clause)
 {
     return o->of[clause] != NO_RULE && statement_at(o, o->of[clause])->role == CHOICE;
+}
+
+/* Whether the choice's atom is left in its clause: an atom that can't be is dropped from it. */
+static inline int has_chosen(const struct order *o, size_t clause)
+{
+    return o->marks[o->start[clause] + 3];
 }
 
 #endif

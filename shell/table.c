@@ -281,29 +281,59 @@ static void find_first(struct order *o, int merge)
     }
 }
 
+/* Notes the atoms that the head of a clause that is left has; of a choice only the first is the order's. */
+static void note_heads(struct order *o, size_t c)
+{
+    const uint16_t *clause = o->reduced + o->left[c];
+    int fact = !is_choice(o, c) && clause[0] == 1 && clause[1] + clause[2] == 0;
+    for (size_t i = 0; i < clause[0]; i++) {
+        struct atom *a = atom_of(o, o->program.atom[clause[3 + i]]);
+        if (a) {
+            a->derived = 1;
+            a->given |= (uint8_t)fact;
+        }
+    }
+}
+
 static void find_derived(struct order *o)
 {
     const struct statement *s;
     for (size_t k = 0; (s = statement_at(o, k)); k++) {
-        if (s->kind != RULE)
+        if (s->kind != RULE || s->role >= CLAUSE)
             continue;
         struct rule r = rule_of(o, s);
         for (size_t i = 0; i < r.heads; i++) {
             struct atom *a = atom_of(o, (uint32_t)r.head[i]);
-            size_t left = s->role < CLAUSE ? 0 : o->left[s->clause + (s->role == CHOICE ? i : 0)];
-            a->derived |= s->role < CLAUSE || left;
-            a->given |= s->role == LED_ROUND || (s->role == CLAUSE && left && o->reduced[left] == 1 &&
-                                                 o->reduced[left + 1] + o->reduced[left + 2] == 0);
+            a->derived = 1;
+            a->given |= s->role == LED_ROUND;
         }
     }
+    for (size_t c = 0; c < o->table[1]; c++)
+        if (o->left[c] && o->of[c] != NO_RULE)
+            note_heads(o, c);
+}
+
+int has_context(const struct order *o)
+{
+    for (size_t k = 0; k < atom_count(o); k++)
+        if (atoms_at(o, k)->guarded)
+            return 1;
+    return o->carried > 0;
+}
+
+int is_spent(const struct order *o, const uint16_t *clause)
+{
+    uint32_t first = clause[0] == 1 ? o->program.atom[clause[3]] : 0;
+    return first >= CHOSEN && first < GUARD;
 }
 
 void find_left(struct order *o, int merge)
 {
     size_t left = 2;
     for (size_t c = 0; c < o->table[1]; c++) {
-        o->left[c] = o->marks[o->start[c]] ? left : 0;
-        if (o->left[c])
+        int kept = o->marks[o->start[c]];
+        o->left[c] = kept && !is_spent(o, o->reduced + left) ? left : 0;
+        if (kept)
             left = clause_end(o->reduced, left);
     }
     find_first(o, merge);

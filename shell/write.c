@@ -36,17 +36,18 @@ void putf(struct buffer *b, const char *format, ...)
 
 /* ---- Parts of rules ---- */
 
-/* The head atoms of a clause; of a choice its atom, or with `merged` those of all choices that are written with it. */
+/*
+ * The head atoms of a clause that the marks leave; of a choice its atom, or with `merged` those of all choices that are
+ * written with it.
+ */
 static size_t heads_of(const struct order *o, size_t clause, int merged, uint32_t head[GAMBROLT_MAX_ATOMS])
 {
-    const uint16_t *c = o->table + o->start[clause];
-    size_t count = 0;
-    if (!is_choice(o, clause)) {
-        for (; count < c[0]; count++)
-            head[count] = o->program.atom[c[3 + count]];
+    size_t first = o->start[clause] + 3, end = first + (is_choice(o, clause) ? 1 : o->table[o->start[clause]]), count = 0;
+    for (size_t i = first; i < end; i++)
+        if (o->marks[i])
+            head[count++] = o->program.atom[o->table[i]];
+    if (!is_choice(o, clause))
         return count;
-    }
-    head[count++] = o->program.atom[c[3]];
     for (size_t other = clause + 1; merged && other < o->table[1]; other++) {
         uint32_t atom = o->program.atom[o->table[o->start[other] + 3]];
         size_t at = count;

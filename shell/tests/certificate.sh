@@ -32,7 +32,7 @@ refuses() {
     printf "$2" >"$tmp/list"
     says "a list: $1" 1 "$3" --text "--check=$tmp/list"
 }
-refuses "a kind" 'steps=1\nstep=9,2,0,3\n' "list, line 2: step 0, 9,2,0,3: the kind of a step is not 1 to 8 (refused=12,0)"
+refuses "a kind" 'steps=1\nstep=10,2,0,3\n' "list, line 2: step 0, 10,2,0,3: the kind of a step is not 1 to 9 (refused=12,0)"
 refuses "a target" 'steps=2\nstep=1,2,0,3\nstep=1,2,0,3\n' "list, line 3: step 1, 1,2,0,3: the target of a step is not a kept clause (refused=13,1)"
 refuses "a partner" 'steps=1\nstep=8,1,1,0\n' "refused=14,0"
 refuses "an atom" 'steps=1\nstep=6,3,0,4\n' "refused=15,0"

@@ -38,14 +38,14 @@ int main(void)
     unsigned short table[] = {2, 1, 1, 0, 0, 2};
     unsigned long answer = gambrolt_check_table(table, 6);
     printf("%s\n%s, place %lu\n", gambrolt_version(), gambrolt_message(gambrolt_refusal(answer)), gambrolt_value(answer));
-    for (unsigned kind = 0; kind < 10; kind++)
+    for (unsigned kind = 0; kind < 11; kind++)
         printf("%s ", gambrolt_kind_name(kind));
     return 0;
 }
 END
 there cc -Wall -Werror "$tmp/own.c" lib/libgambrolt.a -o own
 there ./own >"$tmp/out"
-printf '%s\nan atom is not below the number of atoms, place 5\nnone tautology contradiction success no_head blocked failure loop subsumed none ' "$version" >"$tmp/want"
+printf '%s\nan atom is not below the number of atoms, place 5\nnone tautology contradiction success no_head blocked failure loop subsumed excluded none ' "$version" >"$tmp/want"
 expect "messages without the header" same "$tmp/want" "$tmp/out"
 
 # installed

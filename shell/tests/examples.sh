@@ -2,12 +2,33 @@
 
 # fit GIVEN LEFT SENTENCES: the first sentence about a clause quotes that rule of GIVEN, or one atom of it where it is a
 # choice; none is about a clause that is deleted already; LEFT has exactly the rules that no sentence deletes, shorter
-# where one drops a condition, and choices of exactly those atoms that none deletes.
+# where one drops a condition or a head atom, and choices of exactly those atoms that none deletes or drops.
 fit() {
     awk '
         function choice(rule) { return substr(rule, 1, 1) == "{" }
         function body(rule) { sub(/^[^}]*}/, "", rule); return rule }
         function atoms(rule, list) { sub(/^{/, "", rule); sub(/}.*/, "", rule); return split(rule, list, "; ") }
+        # what goes with an atom that can not be: the clauses that a sentence names behind it
+        function with_it(sentence,   atom, pieces, piece, count, number, i, k) {
+            atom = sentence; sub(/^[^`]*`[^`]*`: `/, "", atom); sub(/`.*/, "", atom)
+            sub(/.*` can.t be[^;]*/, "", sentence)
+            if (sentence ~ / and [0-9]+ more/) { print "too many to follow: " sentence; bad = 1 }
+            pieces = split(sentence, piece, "; ")
+            for (i = 2; i <= pieces; i++) {
+                count = piece[i]; sub(/^[^0-9]*/, "", count); count = split(count, number, ", ")
+                for (k = 1; k <= count; k++) goes(number[k] + 0, piece[i], atom)
+            }
+        }
+        function goes(clause, how, atom,   a) {
+            if (choice(rule[clause]))
+                for (a = atoms(rule[clause], list); a > 0; a--) {
+                    if (how ~ /^deleted/ || (how ~ /head/ && list[a] == atom)) deleted[clause " " list[a]] = 1
+                    met[clause " " list[a]] = 1
+                }
+            else if (how ~ /^deleted/) deleted[clause] = 1
+            else dropped[clause] = 1
+            met[clause] = 1
+        }
         FNR == 1 { file++; rules = 1 }
         rules && /^#show\.$/ { rules = 0 }
         file == 1 && rules { rule[n++] = $0 }
@@ -27,6 +48,7 @@ fit() {
             met[key] = 1
             if (/`: deleted, since /) deleted[key] = 1
             else if (/`: dropped `/) dropped[key] = 1
+            else if (/`: `.*` can.t be[;,]/) with_it($0)
             else { print "neither: " $0; bad = 1 }
         }
         END {
@@ -161,7 +183,7 @@ for example in examples/*.lp examples/ordinary/*.lp; do
     build/gambrolt --text --steps <"$tmp/text" | sed -n 's/^steps=//p' >"$tmp/count"
     expect "$name: as many steps by text" [ "$(cat "$tmp/count")" = "$steps" ]
 done
-for kind in tautology contradiction success no_head blocked failure loop subsumed; do
+for kind in tautology contradiction success no_head blocked failure loop subsumed excluded; do
     expect "some example has a step of the kind: $kind" grep -q "\"$kind\": [1-9]" "$tmp/kinds"
 done
 expect "an example has clauses of more than 255 conditions" [ "$wide" -gt 0 ]

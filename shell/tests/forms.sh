@@ -270,8 +270,8 @@ asp 1 0 0
 1 0 1 2 0 1 -1
 1 0 1 1 0 1 -2
 1 0 1 4 0 1 1
-1 0 0 0 2 1 4
-1 0 0 0 2 4 1
+1 0 0 0 2 -1 4
+1 0 0 0 2 4 -1
 4 1 a 1 1
 4 1 b 1 2
 4 1 d 1 4
@@ -283,7 +283,7 @@ asp 1 0 0
 1 0 1 4 0 1 1
 1 0 1 1 0 1 -2
 1 0 1 2 0 1 -1
-1 0 0 0 2 1 4
+1 0 0 0 2 4 -1
 4 1 a 1 1
 4 1 b 1 2
 4 1 d 1 4
@@ -296,7 +296,7 @@ clause 2, `d :- a, not f.`: dropped `not f`, which no clause can derive
 clause 2, `d :- a.`: deleted, since clause 0, `d :- a.`, says the same
 clause 4, `a :- not b.`: deleted, since clause 1, `a :- not b.`, says the same
 clause 5, `d :- a.`: deleted, since clause 0, `d :- a.`, says the same
-clause 7, `:- a, d.`: deleted, since clause 6, `:- a, d.`, says the same
+clause 7, `:- d, not a.`: deleted, since clause 6, `:- d, not a.`, says the same
 END
 build/gambrolt --explain --dry-run <"$tmp/in" 2>"$tmp/out"
 expect "sentences about equal rules" same "$tmp/want" "$tmp/out"
@@ -344,6 +344,7 @@ steps                  14
   6 failure             3
   7 loop                1
   8 subsumed            2
+  9 excluded            0
 reading             T s
 reducing            T s
 checking            T s
@@ -363,7 +364,7 @@ cat >"$tmp/want" <<'END'
  "atoms": {"before": 13, "after": 7},
  "carried": 0,
  "positive_cycle": {"before": true, "after": false},
- "steps": {"all": 14, "tautology": 1, "contradiction": 1, "success": 1, "no_head": 3, "blocked": 2, "failure": 3, "loop": 1, "subsumed": 2},
+ "steps": {"all": 14, "tautology": 1, "contradiction": 1, "success": 1, "no_head": 3, "blocked": 2, "failure": 3, "loop": 1, "subsumed": 2, "excluded": 0},
  "seconds": {"reading": T, "reducing": T, "checking": T},
  "list": [
  {"step": [1, 8, 0, 8], "kind": "tautology", "rule": 8, "line": 10, "atom": 9, "name": "t"},

@@ -6,7 +6,7 @@ tmp=$(mktemp -d)
 trap 'rm -rf "$tmp"' EXIT
 . shell/tests/lib.sh
 
-for part in builder refusals usage selfcheck forms ordinary faults certificate examples random models damaged dist page; do
+for part in builder refusals usage selfcheck forms ordinary faults certificate examples random models excluded damaged dist page; do
     . "shell/tests/$part.sh"
 done
 
