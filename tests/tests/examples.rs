@@ -147,6 +147,23 @@ fn the_earlier_of_equal_clauses_stays() {
     }
 }
 
+/// Slip 8 of document 02.
+#[test]
+fn atoms_that_cannot_be() {
+    let handed_on = table(3, "<- 0. 0 <- 1. 1 <- ~2. 2 <- ~1.");
+    assert_eq!(steps(&handed_on), [[9, 0, 0, 0], [9, 1, 0, 1], [5, 2, 3, 0]]);
+    assert_eq!(reduced(&handed_on), table(3, "2."));
+    assert_eq!(steps(&table(2, "0|1. <- 0. <- 0, 1.")), [[8, 2, 1, 0], [9, 1, 0, 0]]);
+    let check = |atoms: u16, program: &str, list: &[u16]| check(&table(atoms, program), list);
+    assert_eq!(check(3, "<- 0. 0 <- 1. 1 <- ~2. 2 <- ~1.", &[9, 0, 0, 1]), Ok(1), "the atom is not in the target");
+    assert_eq!(check(2, "0. <- 0.", &[9, 1, 0, 1]), refused(16, 0), "in no kept clause");
+    assert_eq!(check(4, "0 <- 1, ~2. <- 0. 1|3. 2 <- 1.", &[9, 1, 0, 1]), refused(16, 0), "through a negative atom");
+    assert_eq!(check(4, "0|2 <- 1. <- 0. 1|3.", &[9, 1, 0, 1]), refused(16, 0), "through two head atoms");
+    assert_eq!(check(2, "0|1. <- 0.", &[9, 1, 1, 0]), refused(14, 0), "the partner is unused");
+    assert_eq!(check(2, "0|1. <- 0.", &[10, 1, 0, 0]), refused(12, 0));
+    assert_eq!(check(3, "<- 0. 0|1. 2 <- 1.", &[9, 0, 0, 0, 3, 2, 1, 1]), Ok(2), "a disjunction as left is a fact");
+}
+
 #[test]
 fn limits() {
     let mut tally = Tally::new();

@@ -3,7 +3,7 @@
 #![deny(warnings)]
 use gambrolt_tests::independent::filter::output;
 use gambrolt_tests::independent::text::read_text;
-use gambrolt_tests::make::programs::any_size;
+use gambrolt_tests::make::programs::{any_size, bans};
 use gambrolt_tests::make::texts;
 use gambrolt_tests::random::Random;
 use std::io::Write;
@@ -128,6 +128,32 @@ fn equal_clauses() {
     let text = "atoms=2\nclauses=2\nhead=1,0\npos=\nneg=\nhead=0,1,0\npos=\nneg=\n";
     let left = "atoms=2\nclauses=1\nhead=0,1\npos=\nneg=\nsteps=1\nstep=8,1,0,0\n";
     assert_eq!(compared(text.as_bytes()), left);
+}
+
+/// Slip 8: the reduced program has the heads that are left, and a step that clears several marks is one line.
+#[test]
+fn excluded_atoms() {
+    // <- 0. 0 <- 1. 1 <- ~2. 2 <- ~1.
+    let text =
+        "atoms=3\nclauses=4\nhead=\npos=0\nneg=\nhead=0\npos=1\nneg=\nhead=1\npos=\nneg=2\nhead=2\npos=\nneg=1\n";
+    let left = "atoms=3\nclauses=1\nhead=2\npos=\nneg=\nsteps=3\nstep=9,0,0,0\nstep=9,1,0,1\nstep=5,2,3,0\n";
+    assert_eq!(compared(text.as_bytes()), left);
+    // 0|1|2. <- 1. 3 <- 4, ~1. 3|4.
+    let text =
+        "atoms=5\nclauses=4\nhead=0,1,2\npos=\nneg=\nhead=\npos=1\nneg=\nhead=3\npos=4\nneg=1\nhead=3,4\npos=\nneg=\n";
+    let clauses = "head=0,2\npos=\nneg=\nhead=3\npos=4\nneg=\nhead=3,4\npos=\nneg=\n";
+    assert_eq!(compared(text.as_bytes()), format!("atoms=5\nclauses=3\n{clauses}steps=1\nstep=9,1,0,1\n"));
+    // <- 0. 0 <- ~0.
+    let text = "atoms=1\nclauses=2\nhead=\npos=0\nneg=\nhead=0\npos=\nneg=0\n";
+    let left = "atoms=1\nclauses=1\nhead=\npos=\nneg=\nsteps=1\nstep=9,0,0,0\n";
+    assert_eq!(compared(text.as_bytes()), left);
+    let mut with = 0;
+    for seed in 0..400 {
+        let random = &mut Random::new(seed);
+        let size = any_size(random);
+        with += u64::from(compared(&texts::rendered(&bans(random, size))).contains("\nstep=9,"));
+    }
+    assert!(with > 50, "{with} lists have a step of kind 9");
 }
 
 /// The numbers joined by commas.
@@ -284,6 +310,11 @@ fn steps_of_every_length() {
 /// The longest lists, worked out by hand.
 #[test]
 fn thousands_of_steps() {
+    // 0 <- 1. 1 <- 2. and so on, and the ban of 0, which is handed on; 999 is one of a disjunction, whose other atom is left
+    let rules: String = (1..1000).map(|atom| format!("head={}\npos={atom}\nneg=\n", atom - 1)).collect();
+    let text = format!("atoms=1001\nclauses=1001\nhead=\npos=0\nneg=\n{rules}head=999,1000\npos=\nneg=\n");
+    let lines = steps((0..1000).map(|atom| [9, atom, 0, atom]));
+    prints(&text, &format!("atoms=1001\nclauses=1\nhead=1000\npos=\nneg=\n{lines}"));
     // equal facts
     let text = format!("atoms=1\nclauses=2047\n{}", facts(vec!["0".into(); 2047].into_iter()));
     let lines = steps((1..2047).map(|target| [8, target, 0, 0]));
