@@ -1,4 +1,4 @@
--- Every step keeps the guards' work, whatever clause it targets; and the work is that the reach holds the context's heads.
+-- Every step of kinds 1 to 8 keeps the guards' work, whatever clause it targets; and the work is that the reach holds the context's heads.
 use mathlib.Core.Path.{_≡_, refl, sym, subst}
 use mathlib.Core.Logic.{_↔_, ⊎-elim}
 use mathlib.Core.Bool.{So}
@@ -13,6 +13,7 @@ use Rattle.semantics.proofs.Models.{Models}
 use Rattle.rewriting.specs.Marked.{Entry, Marked, entry, left}
 use Rattle.rewriting.specs.Reaches.{reach}
 use Rattle.rewriting.specs.Steps.{Step, fact, applies, effect}
+use Rattle.rewriting.specs.Kinds.{onTarget}
 use Rattle.rewriting.proofs.Left.{left-each}
 use Rattle.rewriting.proofs.Subclauses.{Subclause}
 use Rattle.rewriting.proofs.Effect.{reach-fires, effect-below}
@@ -47,7 +48,7 @@ head-high n (x ∷ l) h = ⊎-elim
     (λ k. let w = head-high n l (λ r. h (and-iff _ _ .1 (lt-ltb x n k, r))) in (w .0, List·Memᴰ·tail (w .1), w .2))
     (λ k. (x, List·Memᴰ·head refl, k)) (low-or-high x n)
 
--- no step changes a head
+-- no step of kinds 1 to 8 changes a head
 pub head-before : (n : ℕ) (d c : Entry) → Subclause d c → headBelow n (d .clause) ≡ headBelow n (c .clause)
 head-before n d c b = rw (b .head)
 
@@ -56,12 +57,12 @@ over-below n d c b o = record { head = λ a m. o .head a (subst (λ l. a ∈ l) 
 
 -- ---- a step
 
--- Every step keeps the guards' work.
-pub guarded-step : (m : ℕ) (P : Marked) (s : Step) → So (applies m P s) → (n : ℕ) (H U : Atoms) → Guarded n H U P → Guarded n H U (effect P s)
-guarded-step m P s h n H U g = record {
+-- Every step of kinds 1 to 8 keeps the guards' work.
+pub guarded-step : (m : ℕ) (P : Marked) (s : Step) → So (applies m P s) → So (onTarget (s .kind)) → (n : ℕ) (H U : Atoms) → Guarded n H U P → Guarded n H U (effect P s)
+guarded-step m P s h on n H U g = record {
   guard = λ x k u. let w = g .guard x k u in record {
     fresh = w .fresh;
-    stands = fact-stays m P s h (x ∷ w .fresh ∷ []) (w .stands);
+    stands = fact-stays m P s h on (x ∷ w .fresh ∷ []) (w .stands);
     beside = λ i q z. subst (λ l. x ∈ l) (sym (b i .head)) (w .beside i (b i .kept q) (subst (λ l. w .fresh ∈ l) (b i .head) z));
   };
   bodies = no-body-below U P (effect P s) b (g .bodies);
@@ -71,7 +72,7 @@ guarded-step m P s h n H U g = record {
 }
   where
     b : (i : ℕ) → Subclause (entry (effect P s) i) (entry P i)
-    b = effect-below m P s h
+    b = effect-below m P s h on
 
 -- ---- what the guards are for
 

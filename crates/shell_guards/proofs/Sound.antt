@@ -1,4 +1,4 @@
--- A step on the table with the guards keeps the stable models, within the context, of the clauses without them; and so does every list.
+-- A step of kinds 1 to 8 on the table with the guards keeps the stable models, within the context, of the clauses without them; and so does every list without kind 9.
 use mathlib.Core.Path.{_≡_, refl, sym, subst}
 use mathlib.Core.Logic.{_↔_, by-cases, Iff·trans, Iff·symm, Iff·rfl}
 use mathlib.Core.Bool.{Bool, true, false, cond, _||_, So}
@@ -12,6 +12,7 @@ use Rattle.rewriting.specs.Marked.{Marked, entry, left}
 use Rattle.rewriting.specs.Reaches.{reach}
 use Rattle.rewriting.specs.Steps.{Step, applies, effect}
 use Rattle.rewriting.specs.Runs.{leaves}
+use Rattle.rewriting.specs.Kinds.{onTarget}
 use Rattle.rewriting.proofs.Left.{left-each}
 use Rattle.rewriting.proofs.Reach.{reach-closed}
 use Rattle.rewriting.proofs.Subclauses.{Subclause, below-same}
@@ -20,9 +21,9 @@ use Rattle.shell_choices.specs.Stable.{Context, StableIn}
 use Rattle.shell_choices.specs.Translation.{OverClause}
 use Rattle.shell_choices.proofs.Members.{in-iff}
 use Rattle.shell_choices.proofs.Below.{agree-sym, models-agree, split, split-low, split-high, split-within}
-use Rattle.shell_guards.specs.Guards.{HeadsIn, headBelow, clausesBelow}
+use Rattle.shell_guards.specs.Guards.{HeadsIn, headBelow, clausesBelow, withoutNine}
 use Rattle.shell_guards.proofs.Within.{same-in, in-within}
-use Rattle.shell_guards.proofs.Steps.{step-same, reach-back, fact-pos}
+use Rattle.shell_guards.proofs.Steps.{step-same, reach-back, fact-pos, without-nine}
 use Rattle.shell_guards.proofs.Guards.{Guarded, head-high, head-before, guarded-step, heads-reached}
 
 pub below-of : (n : ℕ) (ds : List Clause) (c : Clause) → (c ∈ clausesBelow n ds) ↔ ((c ∈ ds) × So (headBelow n c))
@@ -65,7 +66,7 @@ module _ (n : ℕ) (H U : Atoms) (sat : Context) (hi : HeadsIn H sat) where
       bodies : (c : Clause) → c ∈ left P → (a : ℕ) → a ∈ c .pos ++ c .neg → ¬ So (U a)
       bodies = left-each (λ c. (a : ℕ) → a ∈ c .pos ++ c .neg → ¬ So (U a)) P .1 (g .bodies)
 
-  module _ (m : ℕ) (P : Marked) (g : Guarded n H U P) (s : Step) (h : So (applies m P s)) where
+  module _ (m : ℕ) (P : Marked) (g : Guarded n H U P) (s : Step) (h : So (applies m P s)) (on : So (onTarget (s .kind))) where
     abbrev Q : Marked
     Q = effect P s
 
@@ -76,33 +77,33 @@ module _ (n : ℕ) (H U : Atoms) (sat : Context) (hi : HeadsIn H sat) where
     same-below M sub X part = Iff·trans
         (Iff·symm (models-below n R (left P) (guarded-over n H U P g) (guards-reached n H U P P g (λ i. below-same refl)) M X))
         (Iff·trans
-        (step-same m P s h U (g .bodies) (split n M R) (split-within n M R (λ a. R a || U a) (λ a l q. sub a q) (λ a l q. or-left _ _ q)) (split n X R) more)
-        (models-below n R (left Q) (guarded-over n H U Q (guarded-step m P s h n H U g)) (guards-reached n H U P Q g (effect-below m P s h)) M X))
+        (step-same m P s h on U (g .bodies) (split n M R) (split-within n M R (λ a. R a || U a) (λ a l q. sub a q) (λ a l q. or-left _ _ q)) (split n X R) more)
+        (models-below n R (left Q) (guarded-over n H U Q (guarded-step m P s h on n H U g)) (guards-reached n H U P Q g (effect-below m P s h on)) M X))
       where
         more : Subset (split n X R) (split n M R)
         more = split-within n X R (split n M R)
             (λ a l q. subst So (sym (split-low n M R a l)) (part a q)) (λ a l q. subst So (sym (split-high n M R a l)) q)
 
     back : (a : ℕ) → So (reach (left Q) a || U a) → So (R a || U a)
-    back a y = or-iff _ _ .1 (λ x. or-iff _ _ .0 y (λ r. x (reach-back m P s h a r)))
+    back a y = or-iff _ _ .1 (λ x. or-iff _ _ .0 y (λ r. x (reach-back m P s h on a r)))
 
-    -- An applicable step, whatever its target, keeps the stable models of the clauses without the guards, within the context.
+    -- An applicable step of kinds 1 to 8, whatever its target, keeps the stable models of the clauses without the guards, within the context.
     pub step-in : (M : Atoms) → StableIn n (clausesBelow n (left P)) sat M ↔ StableIn n (clausesBelow n (left Q)) sat M
     step-in M = (
       λ st. same-in n sat (clausesBelow n (left P)) (clausesBelow n (left Q)) M (same-below M (reached P g M st)) st,
       λ st. same-in n sat (clausesBelow n (left Q)) (clausesBelow n (left P)) M
-          (same-sym (same-below M (λ a y. back a (reached Q (guarded-step m P s h n H U g) M st a y)))) st,
+          (same-sym (same-below M (λ a y. back a (reached Q (guarded-step m P s h on n H U g) M st a y)))) st,
     )
 
-  -- Every list of steps keeps them, up to the first step that is refused.
-  pub list-in : (m : ℕ) (P : Marked) (l : List Step) → Guarded n H U P → (M : Atoms)
+  -- Every list of steps without kind 9 keeps them, up to the first step that is refused.
+  pub list-in : (m : ℕ) (P : Marked) (l : List Step) → So (withoutNine l) → Guarded n H U P → (M : Atoms)
       → StableIn n (clausesBelow n (left P)) sat M ↔ StableIn n (clausesBelow n (left (leaves m P l))) sat M
   unfolding leaves
-  list-in m P [] g M = Iff·rfl
-  list-in m P (s ∷ l) g M = go (applies m P s) refl (λ k. list-in m (effect P s) l k M)
+  list-in m P [] w g M = Iff·rfl
+  list-in m P (s ∷ l) w g M = let v = without-nine s l w in go (v .0) (applies m P s) refl (λ k. list-in m (effect P s) l (v .1) k M)
     where
-      go : (t : Bool) → applies m P s ≡ t
+      go : So (onTarget (s .kind)) → (t : Bool) → applies m P s ≡ t
           → (Guarded n H U (effect P s) → StableIn n (clausesBelow n (left (effect P s))) sat M ↔ StableIn n (clausesBelow n (left (leaves m (effect P s) l))) sat M)
           → StableIn n (clausesBelow n (left P)) sat M ↔ StableIn n (clausesBelow n (left (cond t (leaves m (effect P s) l) P))) sat M
-      go true e r = Iff·trans (step-in m P g s e M) (r (guarded-step m P s e n H U g))
-      go false e r = Iff·rfl
+      go o true e r = Iff·trans (step-in m P g s e o M) (r (guarded-step m P s e o n H U g))
+      go o false e r = Iff·rfl

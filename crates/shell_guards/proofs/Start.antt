@@ -1,4 +1,4 @@
--- Guards: at work; clauses with the guards beside them are guarded, so any list of steps keeps the clauses' stable models within the context.
+-- Guards: at work; clauses with the guards beside them are guarded, so any list of steps without kind 9 keeps the clauses' stable models within the context.
 use mathlib.Core.Path.{_≡_, refl, sym, ap, subst, _∙_}
 use mathlib.Core.Logic.{_↔_, ⊎-elim}
 use mathlib.Core.Bool.{true, false, not, So}
@@ -16,7 +16,7 @@ use Rattle.rewriting.proofs.Left.{left-each, left-whole}
 use Rattle.shell_choices.specs.Stable.{Context, StableIn}
 use Rattle.shell_choices.specs.Translation.{OverClause}
 use Rattle.shell_choices.proofs.Members.{when}
-use Rattle.shell_guards.specs.Guards.{HeadsIn, guardOf, guards, guarded, inBody, headBelow, clausesBelow}
+use Rattle.shell_guards.specs.Guards.{HeadsIn, guardOf, guards, guarded, inBody, headBelow, clausesBelow, withoutNine}
 use Rattle.shell_guards.proofs.Steps.{HasFact}
 use Rattle.shell_guards.proofs.Guards.{Guard, Guarded, head-below-iff}
 use Rattle.shell_guards.proofs.Sound.{list-in}
@@ -151,8 +151,8 @@ module _ (n : ℕ) (cs : List Clause) (hs : List ℕ) (o : (c : Clause) → c �
       other = each (λ c. ¬ So (headBelow n c) → So (fact c)) (λ c m k. absurd (k (head-below-iff n c .1 (o c m .head)))) (λ c m k. guards-fact n hs c m);
     }
 
-    -- Any list of steps on the clauses with the guards, over any number of atoms, keeps the stable models of the clauses within the context.
-    pub guards-sound : (sat : Context) → HeadsIn H sat → (m : ℕ) (l : List Step) (M : Atoms)
+    -- Any list of steps without kind 9 on the clauses with the guards, over any number of atoms, keeps the stable models of the clauses within the context.
+    pub guards-sound : (sat : Context) → HeadsIn H sat → (m : ℕ) (l : List Step) → So (withoutNine l) → (M : Atoms)
         → StableIn n cs sat M ↔ StableIn n (clausesBelow n (left (leaves m P l))) sat M
-    guards-sound sat hi m l M = subst (λ ds. StableIn n ds sat M ↔ StableIn n (clausesBelow n (left (leaves m P l))) sat M)
-        (ap (clausesBelow n) (left-whole (guarded n cs hs)) ∙ below-guarded) (list-in n H (λ a. not (inBody cs a)) sat hi m P l guarded-start M)
+    guards-sound sat hi m l w M = subst (λ ds. StableIn n ds sat M ↔ StableIn n (clausesBelow n (left (leaves m P l))) sat M)
+        (ap (clausesBelow n) (left-whole (guarded n cs hs)) ∙ below-guarded) (list-in n H (λ a. not (inBody cs a)) sat hi m P l w guarded-start M)

@@ -1,7 +1,7 @@
--- Laws of the eight steps: below a set of reached atoms each keeps the models; a fact that goes leaves one in its place; clauses only shrink.
+-- Laws of the steps of kinds 1 to 8: below a set of reached atoms each keeps the models; a fact that goes leaves one in its place; clauses only shrink.
 use mathlib.Core.Path.{_≡_, refl, sym, subst, _∙_}
 use mathlib.Core.Logic.{_≢_, by-cases, ⊎-elim}
-use mathlib.Core.Bool.{Bool, true, false, cond, _||_, So}
+use mathlib.Core.Bool.{Bool, true, false, cond, _||_, So, false≢true}
 use mathlib.Core.List.{List, [], _∷_, _++_, List·Memᴰ·head, List·Memᴰ·not-nil, List·Memᴰ·append-cases, Memᴰ·append-left, Memᴰ·append-right}
 use Prim.Native.Nat.{ℕ}
 use native.Mathlib.Decide.{ℕ-discrete}
@@ -13,15 +13,16 @@ use Rattle.semantics.proofs.Models.{Same}
 use Rattle.rewriting.specs.Marked.{Entry, Marked, entry, left}
 use Rattle.rewriting.specs.Reaches.{reach}
 use Rattle.rewriting.specs.Steps.{Step, fact, inNoHead, condition, applies, leftBy, effect}
-use Rattle.rewriting.specs.Runs.{leaves}
-use Rattle.rewriting.specs.Kinds.{Kind, tautology, contradiction, success, noHead, blocked, failure, loop, subsumed, rowOf, usesPartner}
+use Rattle.rewriting.specs.Runs.{accepted, leaves}
+use Rattle.rewriting.specs.Kinds.{Kind, tautology, contradiction, success, noHead, blocked, failure, loop, subsumed, impossible, rowOf, usesPartner, onTarget}
 use Rattle.rewriting.specs.Uses.{drops}
 use Rattle.rewriting.proofs.Rows.{succeeds, loops}
 use Rattle.rewriting.proofs.ByKind.{same-outside, same-dropNeg}
 use Rattle.rewriting.proofs.Reach.{bare-out}
 use Rattle.rewriting.proofs.Sound.{strong, strong-same, applies-ask}
 use Rattle.rewriting.proofs.Subclauses.{Subclause, below-same}
-use Rattle.rewriting.proofs.Effect.{asks, target-kept, partner-asked, at-other, effect-below, reach-less, drop-reach}
+use Rattle.rewriting.proofs.Effect.{effect-on, asks, target-kept, partner-asked, at-other, effect-below, reach-less, drop-reach}
+use Rattle.shell_guards.specs.Guards.{withoutNine, beforeNine}
 
 -- ---- models
 
@@ -37,27 +38,28 @@ module _ (P : Marked) (U : Atoms) (no-body : NoBody U P) (M : Atoms) (sub : Subs
   outside m r y = no-body t kt a m (or-iff _ _ .0 (sub a y) r)
 
   -- kinds 4, 6 and 7: the atom is outside the reach
-  weak-same : (k : Kind) → ¬ So (strong k) → So (condition k (left P) the (entry P p .clause) a) → Same M (left P) (left (set P t (leftBy (rowOf k .deed) a the)))
+  weak-same : (k : Kind) → So (onTarget k) → ¬ So (strong k) → So (condition k (left P) the (entry P p .clause) a) → Same M (left P) (left (set P t (leftBy (rowOf k .deed) a the)))
   unfolding condition
-  weak-same noHead s h = let w = and-iff (mem a (the .neg)) (inNoHead (left P) a) .0 h in same-dropNeg M P t a kt (outside (Memᴰ·append-right (the .pos) (mem-iff _ _ .0 (w .0))) (bare-out (left P) a (w .1)))
-  weak-same failure s h = let w = and-iff (mem a (the .pos)) _ .0 h in let m = mem-iff a (the .pos) .0 (w .0) in same-outside M P t a (outside (Memᴰ·append-left (the .neg) m) (bare-out (left P) a (w .1))) m
-  weak-same loop s h = let w = loops (left P) the (entry P p .clause) a .0 h in same-outside M P t a (outside (Memᴰ·append-left (the .neg) (w .there)) (w .outside)) (w .there)
-  weak-same tautology s h = absurd (s refl)
-  weak-same contradiction s h = absurd (s refl)
-  weak-same success s h = absurd (s refl)
-  weak-same blocked s h = absurd (s refl)
-  weak-same subsumed s h = absurd (s refl)
+  weak-same noHead o s h = let w = and-iff (mem a (the .neg)) (inNoHead (left P) a) .0 h in same-dropNeg M P t a kt (outside (Memᴰ·append-right (the .pos) (mem-iff _ _ .0 (w .0))) (bare-out (left P) a (w .1)))
+  weak-same failure o s h = let w = and-iff (mem a (the .pos)) _ .0 h in let m = mem-iff a (the .pos) .0 (w .0) in same-outside M P t a (outside (Memᴰ·append-left (the .neg) m) (bare-out (left P) a (w .1))) m
+  weak-same loop o s h = let w = loops (left P) the (entry P p .clause) a .0 h in same-outside M P t a (outside (Memᴰ·append-left (the .neg) (w .there)) (w .outside)) (w .there)
+  weak-same tautology o s h = absurd (s refl)
+  weak-same contradiction o s h = absurd (s refl)
+  weak-same success o s h = absurd (s refl)
+  weak-same blocked o s h = absurd (s refl)
+  weak-same subsumed o s h = absurd (s refl)
+  weak-same impossible o s h = absurd (false≢true o)
 
 -- A step keeps the models below every set whose atoms are in the reach, or in no body.
-pub step-same : (m : ℕ) (P : Marked) (s : Step) → So (applies m P s) → (U : Atoms) → NoBody U P → (M : Atoms) → Subset M (λ a. reach (left P) a || U a) → Same M (left P) (left (effect P s))
+pub step-same : (m : ℕ) (P : Marked) (s : Step) → So (applies m P s) → So (onTarget (s .kind)) → (U : Atoms) → NoBody U P → (M : Atoms) → Subset M (λ a. reach (left P) a || U a) → Same M (left P) (left (effect P s))
 unfolding effect
-step-same m P s h U no-body M sub = by-cases (so-dec (strong (s .kind)))
+step-same m P s h o U no-body M sub = by-cases (so-dec (strong (s .kind)))
     (λ q. strong-same P (s .target) (s .partner) (s .atom) (s .kind) q (applies-ask m P s h) M)
-    (λ q. weak-same P U no-body M sub (s .target) (s .partner) (s .atom) (target-kept m P s h) (s .kind) q (asks m P s h))
+    (λ q. subst (λ Q. Same M (left P) (left Q)) (sym (effect-on P s o)) (weak-same P U no-body M sub (s .target) (s .partner) (s .atom) (target-kept m P s h) (s .kind) o q (asks m P s h)))
 
 -- The reach does not grow.
-pub reach-back : (m : ℕ) (P : Marked) (s : Step) → So (applies m P s) → Subset (reach (left (effect P s))) (reach (left P))
-reach-back m P s h a r = by-cases (so-dec (drops (s .kind))) (λ d. drop-reach m P s h d a .1 r) (λ d. reach-less m P s h d a r)
+pub reach-back : (m : ℕ) (P : Marked) (s : Step) → So (applies m P s) → So (onTarget (s .kind)) → Subset (reach (left (effect P s))) (reach (left P))
+reach-back m P s h o a r = by-cases (so-dec (drops (s .kind))) (λ d. drop-reach m P s h o d a .1 r) (λ d. reach-less m P s h o d a r)
 
 -- ---- facts
 
@@ -82,19 +84,20 @@ pub fact-below : (d c : Entry) → Subclause d c → So (fact (c .clause)) → S
 fact-below d c b f = fact-by (d .clause) (λ a m. fact-pos (c .clause) f a (b .pos a m)) (λ a m. fact-neg (c .clause) f a (b .neg a m))
 
 -- a step that targets a fact has a partner that is a fact with no other head atoms
-fact-partner : (k : Kind) (cs : List Clause) (c d : Clause) (a : ℕ) → So (fact c) → So (condition k cs c d a)
+fact-partner : (k : Kind) → So (onTarget k) → (cs : List Clause) (c d : Clause) (a : ℕ) → So (fact c) → So (condition k cs c d a)
     → So (usesPartner k) × So (fact d) × ((b : ℕ) → b ∈ d .head → b ∈ c .head)
 unfolding condition
-fact-partner blocked cs c d a f h =
+fact-partner blocked o cs c d a f h =
     let w = and-iff (fact d) (within (d .head) (c .neg)) .0 h in (refl, w .0, λ b m. absurd (fact-neg c f b (within-iff _ _ .0 (w .1) b m)))
-fact-partner subsumed cs c d a f h =
+fact-partner subsumed o cs c d a f h =
     let w = simp (and-iff, within-iff) at h in (refl, fact-by d (λ b m. fact-pos c f b (w .1 .0 b m)) (λ b m. fact-neg c f b (w .1 .1 b m)), w .0)
-fact-partner success cs c d a f h = absurd (fact-pos c f a (succeeds cs c d a h .there))
-fact-partner tautology cs c d a f h = absurd (fact-pos c f a (mem-iff _ _ .0 (and-iff (mem a (c .head)) _ .0 h .1)))
-fact-partner contradiction cs c d a f h = absurd (fact-pos c f a (mem-iff _ _ .0 (and-iff (mem a (c .pos)) _ .0 h .0)))
-fact-partner noHead cs c d a f h = absurd (fact-neg c f a (mem-iff _ _ .0 (and-iff (mem a (c .neg)) _ .0 h .0)))
-fact-partner failure cs c d a f h = absurd (fact-pos c f a (mem-iff _ _ .0 (and-iff (mem a (c .pos)) _ .0 h .0)))
-fact-partner loop cs c d a f h = absurd (fact-pos c f a (loops cs c d a .0 h .there))
+fact-partner success o cs c d a f h = absurd (fact-pos c f a (succeeds cs c d a h .there))
+fact-partner tautology o cs c d a f h = absurd (fact-pos c f a (mem-iff _ _ .0 (and-iff (mem a (c .head)) _ .0 h .1)))
+fact-partner contradiction o cs c d a f h = absurd (fact-pos c f a (mem-iff _ _ .0 (and-iff (mem a (c .pos)) _ .0 h .0)))
+fact-partner noHead o cs c d a f h = absurd (fact-neg c f a (mem-iff _ _ .0 (and-iff (mem a (c .neg)) _ .0 h .0)))
+fact-partner failure o cs c d a f h = absurd (fact-pos c f a (mem-iff _ _ .0 (and-iff (mem a (c .pos)) _ .0 h .0)))
+fact-partner loop o cs c d a f h = absurd (fact-pos c f a (loops cs c d a .0 h .there))
+fact-partner impossible o cs c d a f h = absurd (false≢true o)
 
 -- a kept fact whose head atoms are all in the list
 pub record HasFact (P : Marked) (l : List ℕ) : Type 0 where
@@ -104,9 +107,9 @@ pub record HasFact (P : Marked) (l : List ℕ) : Type 0 where
   pub head : (a : ℕ) → a ∈ entry P place .clause .head → a ∈ l
 
 -- A fact that goes leaves one in its place.
-module _ (m : ℕ) (P : Marked) (s : Step) (h : So (applies m P s)) (l : List ℕ) where
+module _ (m : ℕ) (P : Marked) (s : Step) (h : So (applies m P s)) (o : So (onTarget (s .kind))) (l : List ℕ) where
   fact-other : (p : ℕ) → p ≢ s .target → So (entry P p .kept) → So (fact (entry P p .clause)) → ((a : ℕ) → a ∈ entry P p .clause .head → a ∈ l) → HasFact (effect P s) l
-  fact-other p d k f g = let e = sym (at-other m P s h p d) in record {
+  fact-other p d k f g = let e = sym (at-other m P s h o p d) in record {
     place = p;
     kept = subst (λ (x : Entry). So (x .kept)) e k;
     isFact = subst (λ (x : Entry). So (fact (x .clause))) e f;
@@ -118,7 +121,7 @@ module _ (m : ℕ) (P : Marked) (s : Step) (h : So (applies m P s)) (l : List �
     where
       gone : w .place ≡ s .target → HasFact (effect P s) l
       gone e =
-          let (u, f, g) = fact-partner (s .kind) (left P) (entry P (s .target) .clause) (entry P (s .partner) .clause) (s .atom)
+          let (u, f, g) = fact-partner (s .kind) o (left P) (entry P (s .target) .clause) (entry P (s .partner) .clause) (s .atom)
           (subst (λ i. So (fact (entry P i .clause))) e (w .isFact)) (asks m P s h) in
           let v = partner-asked m P s h u in
           fact-other (s .partner) (v .1) (v .0) f (λ a q. w .head a (subst (λ i. a ∈ entry P i .clause .head) (sym e) (g a q)))
@@ -133,12 +136,37 @@ no-body-below U P Q b h i k a m = h i (b i .kept k) a (⊎-elim
     (λ q. Memᴰ·append-left (entry P i .clause .neg) (b i .pos a q))
     (λ q. Memᴰ·append-right (entry P i .clause .pos) (b i .neg a q)) (List·Memᴰ·append-cases (entry Q i .clause .pos) m))
 
--- A list of steps leaves of each clause no more than there was.
-pub below-list : (m : ℕ) (P : Marked) (l : List Step) (i : ℕ) → Subclause (entry (leaves m P l) i) (entry P i)
-unfolding leaves
-below-list m P [] i = below-same refl
-below-list m P (s ∷ l) i = go (applies m P s) refl (below-list m (effect P s) l i)
+-- ---- lists
+
+pub without-nine : (s : Step) (l : List Step) → So (withoutNine (s ∷ l)) → So (onTarget (s .kind)) × So (withoutNine l)
+without-nine s l h = and-iff (onTarget (s .kind)) (withoutNine l) .0 h
+
+-- a list that is cut before its first step of kind 9 has none
+pub before-nine : (l : List Step) → So (withoutNine (beforeNine l))
+unfolding beforeNine
+before-nine [] = refl
+before-nine (s ∷ l) = go (onTarget (s .kind)) refl (before-nine l)
   where
-    go : (t : Bool) → applies m P s ≡ t → Subclause (entry (leaves m (effect P s) l) i) (entry (effect P s) i) → Subclause (entry (cond t (leaves m (effect P s) l) P) i) (entry P i)
-    go true e r = below-trans r (effect-below m P s e i)
-    go false e r = below-same refl
+    go : (t : Bool) → onTarget (s .kind) ≡ t → So (withoutNine (beforeNine l)) → So (withoutNine (cond t (s ∷ beforeNine l) []))
+    go true e r = and-iff (onTarget (s .kind)) (withoutNine (beforeNine l)) .1 (e, r)
+    go false e r = refl
+
+-- and is accepted where the whole list is
+pub cut-accepted : (m : ℕ) (P : Marked) (l : List Step) → So (accepted m P l) → So (accepted m P (beforeNine l))
+unfolding accepted beforeNine
+cut-accepted m P [] h = refl
+cut-accepted m P (s ∷ l) h = let w = and-iff (applies m P s) (accepted m (effect P s) l) .0 h in go (onTarget (s .kind)) (w .0) (cut-accepted m (effect P s) l (w .1))
+  where
+    go : (t : Bool) → So (applies m P s) → So (accepted m (effect P s) (beforeNine l)) → So (accepted m P (cond t (s ∷ beforeNine l) []))
+    go true e r = and-iff (applies m P s) (accepted m (effect P s) (beforeNine l)) .1 (e, r)
+    go false e r = refl
+
+-- A list of steps without kind 9 leaves of each clause no more than there was.
+pub below-list : (m : ℕ) (P : Marked) (l : List Step) → So (withoutNine l) → (i : ℕ) → Subclause (entry (leaves m P l) i) (entry P i)
+unfolding leaves
+below-list m P [] w i = below-same refl
+below-list m P (s ∷ l) w i = let v = without-nine s l w in go (v .0) (applies m P s) refl (below-list m (effect P s) l (v .1) i)
+  where
+    go : So (onTarget (s .kind)) → (t : Bool) → applies m P s ≡ t → Subclause (entry (leaves m (effect P s) l) i) (entry (effect P s) i) → Subclause (entry (cond t (leaves m (effect P s) l) P) i) (entry P i)
+    go o true e r = below-trans r (effect-below m P s e o i)
+    go o false e r = below-same refl

@@ -1,10 +1,12 @@
 -- Rules that are led past the reducer are a context of which the possible head atoms are known; guards stand for it in the table.
-use mathlib.Core.Bool.{Bool, So}
+use mathlib.Core.Bool.{Bool, cond, So}
 use mathlib.Core.List.{List, [], _∷_, _++_}
 use Prim.Native.Nat.{ℕ, suc}
 use lib.Dec.{ltb}
 use Rattle.semantics.specs.Lists.{any, all, keep, mem}
 use Rattle.semantics.specs.Programs.{Clause, Atoms, Subset}
+use Rattle.rewriting.specs.Kinds.{onTarget}
+use Rattle.rewriting.specs.Steps.{Step}
 use Rattle.shell_choices.specs.Stable.{Context}
 
 -- "Their head atoms, and atoms that may be set from outside" are all in H: where M satisfies the context, so does each subset of M that has all
@@ -37,3 +39,14 @@ headBelow n c = all (λ a. ltb a n) (c .head)
 -- the clauses without the guards
 unfoldable pub clausesBelow : ℕ → List Clause → List Clause
 clausesBelow n cs = keep (headBelow n) cs
+
+-- ---- kind 9
+
+-- no step of kind 9, the one kind that does not work on its target alone: it is not right within a context (`proofs/Ninth`)
+abbrev pub withoutNine : List Step → Bool
+withoutNine l = all (λ s. onTarget (s .kind)) l
+
+-- the list up to its first step of kind 9, which is where it is cut when rules are led past the table
+unfoldable pub beforeNine : List Step → List Step
+beforeNine [] = []
+beforeNine (s ∷ l) = cond (onTarget (s .kind)) (s ∷ beforeNine l) []

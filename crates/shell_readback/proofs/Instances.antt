@@ -1,7 +1,7 @@
 -- Instances: choices with no context; rules with monotone bodies, weight bodies and externals as a context; clauses led round the table.
 use mathlib.Core.Path.{_≡_, subst}
 use mathlib.Core.Logic.{_↔_, Iff·trans, Iff·symm}
-use mathlib.Core.Bool.{false, false≢true}
+use mathlib.Core.Bool.{false, So, false≢true}
 use mathlib.Core.List.{List, [], _++_, List·Memᴰ·not-nil}
 use Prim.Native.Nat.{ℕ, _+_}
 use lib.ListN.{length}
@@ -13,7 +13,7 @@ use Rattle.rewriting.specs.Steps.{Step}
 use Rattle.rewriting.specs.Runs.{leaves}
 use Rattle.shell_choices.specs.Stable.{Choice, Context, free, StableWith, StableChoice}
 use Rattle.shell_choices.specs.Translation.{translated, Over}
-use Rattle.shell_guards.specs.Guards.{HeadsIn, guards, guarded, clausesBelow}
+use Rattle.shell_guards.specs.Guards.{HeadsIn, guards, guarded, clausesBelow, withoutNine}
 use Rattle.shell_guards.specs.Contexts.{Rules, Clauses, WeightRule, Both, Outside}
 use Rattle.shell_guards.proofs.Start.{append-nil}
 use Rattle.shell_guards.proofs.Contexts.{rules-heads, clauses-heads, clauses-in, both-heads, outside-heads}
@@ -24,13 +24,13 @@ bare-table : (n : ℕ) (cs : List Clause) (ks : List Choice) → table n cs ks [
 unfolding guards guarded
 bare-table n cs ks = append-nil (translated n cs ks)
 
--- Any list of steps on the translation of choices, read back, keeps the stable models of the clauses with the choices.
-pub choices-sound : (n : ℕ) (cs : List Clause) (ks : List Choice) → Over n cs ks → (m : ℕ) (l : List Step) (M : Atoms)
+-- Any list of steps without kind 9 on the translation of choices, read back, keeps the stable models of the clauses with the choices.
+pub choices-sound : (n : ℕ) (cs : List Clause) (ks : List Choice) → Over n cs ks → (m : ℕ) (l : List Step) → So (withoutNine l) → (M : Atoms)
     → StableChoice n cs ks M ↔ StableLeft n (n + length ks) (leaves m (whole (translated n cs ks)) l) free M
-choices-sound n cs ks o m l M = subst (λ ds. StableChoice n cs ks M ↔ StableLeft n (n + length ks) (leaves m (whole ds) l) free M) (bare-table n cs ks)
-    (table-sound n cs ks [] o (λ a q. absurd (List·Memᴰ·not-nil q)) (λ a. false) (λ h q. absurd (false≢true q)) free (λ M X sub f h. h) m l M)
+choices-sound n cs ks o m l w M = subst (λ ds. StableChoice n cs ks M ↔ StableLeft n (n + length ks) (leaves m (whole ds) l) free M) (bare-table n cs ks)
+    (table-sound n cs ks [] o (λ a q. absurd (List·Memᴰ·not-nil q)) (λ a. false) (λ h q. absurd (false≢true q)) free (λ M X sub f h. h) m l w M)
 
--- Q is what is left of a table of clauses cs and choices ks over n atoms, as table-sound and layout-sound have it for each context with heads in H.
+-- Q is what is left by a list without kind 9 of a table of clauses cs and choices ks over n atoms, as table-sound and layout-sound have it for each context with heads in H.
 module _ (n top : ℕ) (cs : List Clause) (ks : List Choice) (H : Atoms) (Q : Marked)
     (kept : (sat : Context) → HeadsIn H sat → (M : Atoms) → StableWith n cs ks sat M ↔ StableLeft n top Q sat M) (M : Atoms) where
   -- Rules with any bodies that are monotone once their negative atoms are fixed.

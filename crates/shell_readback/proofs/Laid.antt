@@ -1,4 +1,4 @@
--- A table laid out in any order is readable and guarded; so any list of steps on it, read back, keeps the stable models.
+-- A table laid out in any order is readable and guarded; so any list of steps without kind 9 on it, read back, keeps the stable models.
 use mathlib.Core.Path.{refl, sym, subst}
 use mathlib.Core.Logic.{_↔_}
 use mathlib.Core.Bool.{not, So}
@@ -14,7 +14,7 @@ use Rattle.rewriting.specs.Runs.{leaves}
 use Rattle.rewriting.proofs.Left.{left-each, left-whole}
 use Rattle.shell_choices.specs.Stable.{Context, StableWith}
 use Rattle.shell_choices.specs.Translation.{OverClause}
-use Rattle.shell_guards.specs.Guards.{HeadsIn, guardOf, inBody, headBelow, clausesBelow}
+use Rattle.shell_guards.specs.Guards.{HeadsIn, guardOf, inBody, headBelow, clausesBelow, withoutNine}
 use Rattle.shell_guards.proofs.Guards.{Guard, Guarded, head-below-iff}
 use Rattle.shell_guards.proofs.Start.{body-in, whole-at, fact-at}
 use Rattle.shell_readback.specs.Readback.{isChoice, choicesIn, StableLeft}
@@ -98,8 +98,8 @@ module _ (n top : ℕ) (H : Atoms) (ds : List Clause) (laid : Laid n top H ds) w
     other = each (λ c. ¬ So (headBelow top c) → So (fact c)) (form-fact n top (laid .room));
   }
 
-  -- Whatever the table's order and whatever list of steps is taken: what it reads as before has in the context the stable models of what it reads as after.
-  pub layout-sound : (sat : Context) → HeadsIn H sat → (m : ℕ) (l : List Step) (M : Atoms)
+  -- Whatever the table's order and whatever list of steps without kind 9 is taken: what it reads as before has in the context the stable models of what it reads as after.
+  pub layout-sound : (sat : Context) → HeadsIn H sat → (m : ℕ) (l : List Step) → So (withoutNine l) → (M : Atoms)
       → StableWith n (clausesBelow n ds) (choicesIn n top ds) sat M ↔ StableLeft n top (leaves m P l) sat M
-  layout-sound sat hi m l M = subst (λ es. StableWith n (clausesBelow n es) (choicesIn n top es) sat M ↔ StableLeft n top (leaves m P l) sat M) (left-whole ds)
-      (readback-sound n top H (λ a. not (inBody ds a)) P laid-readable laid-guarded sat hi m l M)
+  layout-sound sat hi m l w M = subst (λ es. StableWith n (clausesBelow n es) (choicesIn n top es) sat M ↔ StableLeft n top (leaves m P l) sat M) (left-whole ds)
+      (readback-sound n top H (λ a. not (inBody ds a)) P laid-readable laid-guarded sat hi m l w M)

@@ -1,6 +1,7 @@
--- Any list of steps on a readable and guarded table keeps the stable models with choices in the context, read back.
+-- Any list of steps without kind 9 on a readable and guarded table keeps the stable models with choices in the context, read back.
 use mathlib.Core.Path.{subst}
 use mathlib.Core.Logic.{_↔_}
+use mathlib.Core.Bool.{So}
 use mathlib.Core.List.{List}
 use Prim.Native.Nat.{ℕ}
 use Rattle.semantics.specs.Programs.{Atoms}
@@ -11,7 +12,7 @@ use Rattle.shell_choices.specs.Stable.{Context, StableWith, StableIn}
 use Rattle.shell_choices.specs.Translation.{restrict, lifted, Exact}
 use Rattle.shell_choices.proofs.Below.{restrict-iff}
 use Rattle.shell_choices.proofs.Exact.{reads-exact}
-use Rattle.shell_guards.specs.Guards.{HeadsIn, clausesBelow}
+use Rattle.shell_guards.specs.Guards.{HeadsIn, clausesBelow, withoutNine}
 use Rattle.shell_guards.proofs.Guards.{Guarded}
 use Rattle.shell_guards.proofs.Steps.{below-list}
 use Rattle.shell_guards.proofs.Sound.{list-in}
@@ -44,14 +45,14 @@ pub left-exact : (n top : ℕ) (P : Marked) → Readable n top P → (sat : Cont
 left-exact n top P o sat = subst (λ ks. Exact n (StableIn top (clausesBelow top (left P)) (lifted n sat)) (StableWith n (clausesBelow n (left P)) ks sat)) (numbered-in n top (left P))
     (reads-exact n top (clausesBelow top (left P)) (clausesBelow n (left P)) (numberedIn n top (left P)) (reads n top P o) sat)
 
-pub readable-list : (n top m : ℕ) (P : Marked) (l : List Step) → Readable n top P → Readable n top (leaves m P l)
-readable-list n top m P l = readable-below n top P (leaves m P l) (below-list m P l)
+pub readable-list : (n top m : ℕ) (P : Marked) (l : List Step) → So (withoutNine l) → Readable n top P → Readable n top (leaves m P l)
+readable-list n top m P l w = readable-below n top P (leaves m P l) (below-list m P l w)
 
--- Any list of steps, at clauses, choices and guards alike, keeps what is read back.
+-- Any list of steps without kind 9, at clauses, choices and guards alike, keeps what is read back.
 pub readback-sound : (n top : ℕ) (H U : Atoms) (P : Marked) → Readable n top P → Guarded top H U P → (sat : Context) → HeadsIn H sat
-    → (m : ℕ) (l : List Step) (M : Atoms) → StableLeft n top P sat M ↔ StableLeft n top (leaves m P l) sat M
-readback-sound n top H U P o g sat hi m l M = exact-same n
+    → (m : ℕ) (l : List Step) → So (withoutNine l) → (M : Atoms) → StableLeft n top P sat M ↔ StableLeft n top (leaves m P l) sat M
+readback-sound n top H U P o g sat hi m l w M = exact-same n
     (StableIn top (clausesBelow top (left (leaves m P l))) (lifted n sat)) (StableLeft n top P sat) (StableLeft n top (leaves m P l) sat)
     (exact-from n (StableIn top (clausesBelow top (left P)) (lifted n sat)) (StableLeft n top P sat) (StableIn top (clausesBelow top (left (leaves m P l))) (lifted n sat))
-    (left-exact n top P o sat) (list-in top H U (lifted n sat) (lifted-heads n H sat hi) m P l g))
-    (left-exact n top (leaves m P l) (readable-list n top m P l o) sat) M
+    (left-exact n top P o sat) (list-in top H U (lifted n sat) (lifted-heads n H sat hi) m P l w g))
+    (left-exact n top (leaves m P l) (readable-list n top m P l w o) sat) M

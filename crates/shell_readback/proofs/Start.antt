@@ -1,4 +1,4 @@
--- The table of clauses, then choices, then guards is laid out so; what any list of steps leaves of it, read back, has the stable models that there were.
+-- The table of clauses, then choices, then guards is laid out so; what any list of steps without kind 9 leaves of it, read back, has the stable models that there were.
 use mathlib.Core.Path.{_≡_, refl, sym, subst}
 use mathlib.Core.Logic.{_↔_, ⊎-elim}
 use mathlib.Core.Bool.{So}
@@ -16,7 +16,7 @@ use Rattle.shell_choices.specs.Stable.{Choice, Context, StableWith, StableIn}
 use Rattle.shell_choices.specs.Translation.{Numbered, numbered, disjunction, translated, OverClause, OverChoice, Over, lifted, Exact}
 use Rattle.shell_choices.proofs.Fresh.{numbered-low, numbered-high, numbered-choices}
 use Rattle.shell_choices.proofs.Exact.{choices-exact-in}
-use Rattle.shell_guards.specs.Guards.{HeadsIn, guardOf, guards, guarded, inBody, clausesBelow}
+use Rattle.shell_guards.specs.Guards.{HeadsIn, guardOf, guards, guarded, inBody, clausesBelow, withoutNine}
 use Rattle.shell_guards.proofs.Start.{guards-of, guard-found, body-in, in-body, guards-sound}
 use Rattle.shell_readback.specs.Readback.{table, StableLeft}
 use Rattle.shell_readback.specs.Laid.{ClauseForm, plain, choice, guard, Laid}
@@ -112,19 +112,19 @@ module _ (n : ℕ) (cs : List Clause) (ks : List Choice) (hs : List ℕ) (o : Ov
       guarded = guard-in;
     }
 
-    module _ (sat : Context) (hi : HeadsIn H sat) (m : ℕ) (l : List Step) where
+    module _ (sat : Context) (hi : HeadsIn H sat) (m : ℕ) (l : List Step) (w : So (withoutNine l)) where
       abbrev Q : Marked
       Q = leaves m P l
 
-      -- Let each head atom of the context that a body has be guarded. Whatever list of steps is taken, the stable models of what is left without the
+      -- Let each head atom of the context that a body has be guarded. Whatever list of steps without kind 9 is taken, the stable models of what is left without the
       -- guards, restricted, are exactly those of the clauses with the choices in the context, each once.
       pub table-exact : Exact n (StableIn top (clausesBelow top (left Q)) (lifted n sat)) (StableWith n cs ks sat)
       table-exact = exact-from n (StableIn top (translated n cs ks) (lifted n sat)) (StableWith n cs ks sat) (StableIn top (clausesBelow top (left Q)) (lifted n sat))
           (choices-exact-in n cs ks o sat)
-          (guards-sound top (translated n cs ks) hs over-top (λ a q. omega (arith, b a q)) H all-guarded (lifted n sat) (lifted-heads n H sat hi) m l)
+          (guards-sound top (translated n cs ks) hs over-top (λ a q. omega (arith, b a q)) H all-guarded (lifted n sat) (lifted-heads n H sat hi) m l w)
 
       -- Choices and guards in one table: M is a stable model of the clauses with the choices in the context exactly when it is one of what is left,
       -- read back: the clauses without fresh atoms, and the choices of the clauses with a choice's fresh atom.
       pub table-sound : (M : Atoms) → StableWith n cs ks sat M ↔ StableLeft n top Q sat M
       table-sound = exact-same n (StableIn top (clausesBelow top (left Q)) (lifted n sat)) (StableWith n cs ks sat) (StableLeft n top Q sat)
-          table-exact (left-exact n top Q (readable-list n top m P l (laid-readable n top H (table n cs ks hs) table-laid)) sat)
+          table-exact (left-exact n top Q (readable-list n top m P l w (laid-readable n top H (table n cs ks hs) table-laid)) sat)
