@@ -5,3 +5,4 @@ pub mod Sound
 pub mod Start
 pub mod Contexts
 pub mod Unguarded
+pub mod Ninth
