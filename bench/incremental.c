@@ -154,8 +154,8 @@ static unsigned head_atom(const struct reducer *r, unsigned t)
     return r->words[i];
 }
 
-/* Clause t has become a fact, or one of fewer heads. The first fact of an atom opens all that later ones would; so does the first without a
- * head, but for itself, which only an earlier one blocks. */
+/* Clause t has become a fact, or one of fewer heads. The first fact of an atom opens all that later ones would; so does the
+ * first without a head, but for itself, which only an earlier one blocks. */
 static void open_fact(struct reducer *r, unsigned t)
 {
     const struct clause *c = &r->clause[t];

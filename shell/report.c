@@ -74,19 +74,25 @@ static void put_numbered(struct order *o, size_t clause)
     putf(&o->explanation, "`");
 }
 
-/* The atoms that are left from one place to another, but for one, with `before` each: `a`, `b` and `c`. Returns how many. */
-static size_t put_atoms(struct order *o, size_t from, size_t end, int but, const char *before)
+/* How many atoms are left from one place to another, but for one. */
+static size_t count_atoms(const struct order *o, size_t from, size_t end, int but)
 {
-    size_t count = 0, put = 0;
+    size_t count = 0;
     for (size_t i = from; i < end; i++)
         count += o->marks[i] && o->table[i] != but;
+    return count;
+}
+
+/* Those atoms, each behind a text, as `a`, `b` and `c`. */
+static void put_atoms(struct order *o, size_t from, size_t end, int but, const char *before)
+{
+    size_t count = count_atoms(o, from, end, but), put = 0;
     for (size_t i = from; i < end; i++)
         if (o->marks[i] && o->table[i] != but) {
             putf(&o->explanation, "%s`%s", put == 0 ? "" : put + 1 == count ? " and " : ", ", before);
             put_atom(o, "", o->table[i], "`");
             put++;
         }
-    return count;
 }
 
 static void put_heads_denied(struct order *o, size_t clause)
@@ -117,9 +123,8 @@ static void put_circle(struct order *o, int atom)
 /* The atoms of a constraint beside the one that can't be, which follow from it. */
 static void put_following(struct order *o, size_t target, int atom)
 {
-    size_t from = part_start(o, target, POSITIVE), end = part_start(o, target, NEGATIVE), others = 0;
-    for (size_t i = from; i < end; i++)
-        others += o->marks[i] && o->table[i] != atom;
+    size_t from = part_start(o, target, POSITIVE), end = part_start(o, target, NEGATIVE);
+    size_t others = count_atoms(o, from, end, atom);
     if (others) {
         putf(&o->explanation, ", since ");
         put_atoms(o, from, end, atom, "");
@@ -165,10 +170,7 @@ static void put_with_it(struct order *o, int atom)
 /* How many atoms the clause has. */
 static size_t size_of(const struct order *o, size_t clause)
 {
-    size_t size = 0;
-    for (size_t i = part_start(o, clause, HEAD); i < part_start(o, clause, END); i++)
-        size += o->marks[i];
-    return size;
+    return count_atoms(o, part_start(o, clause, HEAD), part_start(o, clause, END), NO_ATOM);
 }
 
 static void put_sentence(struct order *o, const char *c, size_t target, size_t partner, int atom)

@@ -53,16 +53,11 @@ static double seconds(double since)
     return (double)now.tv_sec + (double)now.tv_nsec / 1e9 - since;
 }
 
-/*
- * What goes past the table may derive an atom that its clauses exclude, so where something does, the list ends before its
- * first step of that kind, and the checker makes what is left of it.
- */
+/* Ends the list where its steps can be used no further; the checker makes what is left of it. */
 static int cut_list(struct order *o)
 {
-    size_t steps = 0;
-    while (steps < o->steps && o->list[4 * steps] != GAMBROLT_EXCLUDED)
-        steps++;
-    if (steps == o->steps || !has_context(o))
+    size_t steps = usable_steps(o);
+    if (steps == o->steps)
         return 0;
     o->steps = steps;
     return refused(o, "checker", gambrolt_check(o->table, o->words, o->marks, o->words, o->list, 4 * steps));

@@ -113,7 +113,7 @@ void make_table(struct order *o, const struct options *options);
 /* After the reduction: o->left, o->first, and which atoms are derived. With `merge`, choices of several rules become one. */
 void find_left(struct order *o, int merge);
 
-/* Whether the order has rules beside the table, or atoms that are set from outside: then no atom may be excluded (kind 9). */
+/* Whether the order has rules beside the table, or atoms that may be set from outside. */
 int has_context(const struct order *o);
 
 /* Whether a clause of a table has only the atom that stands for leaving a choice in its head: it says nothing any more. */
@@ -134,6 +134,12 @@ void put_statistics(struct order *o, int json);
 void put_steps(struct buffer *b, const struct order *o);
 void put_steps_json(struct buffer *b, const struct order *o);
 void put_objects(struct buffer *b, const struct order *o);
+
+/*
+ * How many of the steps can be used: all, but where something goes past the table those before the first of kind 9. It may
+ * derive an atom that the table's clauses exclude, and then the constraint has to be there.
+ */
+size_t usable_steps(const struct order *o);
 
 /* Reads o->given, in either form, and has the library check it; returns -1 with the fault where it is refused. */
 int check_steps(struct order *o);

@@ -117,8 +117,7 @@ static int read_steps(struct order *o)
     return c == end ? 0 : refuse_line(o, line + 1, "more than the number of steps");
 }
 
-/* Where an atom may hold for reasons beside the table, the first step that excludes one; else the number of steps. */
-static size_t first_beside(const struct order *o)
+size_t usable_steps(const struct order *o)
 {
     size_t step = has_context(o) ? 0 : o->steps;
     while (step < o->steps && o->list[4 * step] != GAMBROLT_EXCLUDED)
@@ -138,13 +137,14 @@ int check_steps(struct order *o)
         return -1;
     uint64_t answer = gambrolt_check(o->table, o->words, o->marks, o->words, o->list, 4 * o->steps);
     unsigned number = gambrolt_refusal(answer);
-    size_t place = gambrolt_value(answer), beside = first_beside(o);
-    char why[160];
-    snprintf(why, sizeof why, "%s (refused=%u,%zu)", gambrolt_message(number), number, place);
-    if (number && place <= beside)
+    size_t place = gambrolt_value(answer), usable = usable_steps(o);
+    if (number && place <= usable) {
+        char why[160];
+        snprintf(why, sizeof why, "%s (refused=%u,%zu)", gambrolt_message(number), number, place);
         return refuse_step(o, place, why);
-    if (beside < o->steps)
-        return refuse_step(o, beside, "no atom may be excluded here: a rule, an external or a theory beside the table may "
+    }
+    if (usable < o->steps)
+        return refuse_step(o, usable, "no atom may be excluded here: a rule, an external or a theory beside the table may "
                            "derive or set it");
     putf(&o->output, "yes: the list's %zu steps keep the stable models\n", o->steps);
     return 0;
