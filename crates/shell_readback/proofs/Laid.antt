@@ -12,12 +12,12 @@ use Rattle.rewriting.specs.Marked.{Entry, Marked, entry, whole}
 use Rattle.rewriting.specs.Steps.{Step, fact}
 use Rattle.rewriting.specs.Runs.{leaves}
 use Rattle.rewriting.proofs.Left.{left-each, left-whole}
-use Rattle.shell_choices.specs.Stable.{Context, StableWith}
+use Rattle.shell_choices.specs.Stable.{Context}
 use Rattle.shell_choices.specs.Translation.{OverClause}
-use Rattle.shell_guards.specs.Guards.{HeadsIn, guardOf, inBody, headBelow, clausesBelow, withoutNine}
+use Rattle.shell_guards.specs.Guards.{HeadsIn, guardOf, inBody, headBelow, withoutNine}
 use Rattle.shell_guards.proofs.Guards.{Guard, Guarded, head-below-iff}
 use Rattle.shell_guards.proofs.Start.{body-in, whole-at, fact-at}
-use Rattle.shell_readback.specs.Readback.{isChoice, choicesIn, StableLeft}
+use Rattle.shell_readback.specs.Readback.{isChoice, StableRead, StableLeft}
 use Rattle.shell_readback.specs.Laid.{ClauseForm, plain, choice, guard, Laid}
 use Rattle.shell_readback.proofs.Readable.{freshOf, Disjunction, Readable}
 use Rattle.shell_readback.proofs.Sound.{readback-sound}
@@ -100,6 +100,6 @@ module _ (n top : ℕ) (H : Atoms) (ds : List Clause) (laid : Laid n top H ds) w
 
   -- Whatever the table's order and whatever list of steps without kind 9 is taken: what it reads as before has in the context the stable models of what it reads as after.
   pub layout-sound : (sat : Context) → HeadsIn H sat → (m : ℕ) (l : List Step) → So (withoutNine l) → (M : Atoms)
-      → StableWith n (clausesBelow n ds) (choicesIn n top ds) sat M ↔ StableLeft n top (leaves m P l) sat M
-  layout-sound sat hi m l w M = subst (λ es. StableWith n (clausesBelow n es) (choicesIn n top es) sat M ↔ StableLeft n top (leaves m P l) sat M) (left-whole ds)
+      → StableRead n top ds sat M ↔ StableLeft n top (leaves m P l) sat M
+  layout-sound sat hi m l w M = subst (λ es. StableRead n top es sat M ↔ StableLeft n top (leaves m P l) sat M) (left-whole ds)
       (readback-sound n top H (λ a. not (inBody ds a)) P laid-readable laid-guarded sat hi m l w M)

@@ -2,4 +2,10 @@ pub mod Readable
 pub mod Sound
 pub mod Laid
 pub mod Start
+pub mod Parts
+pub mod Apart
+pub mod Private
+pub mod Forms
+pub mod Nine
+pub mod Lone
 pub mod Instances

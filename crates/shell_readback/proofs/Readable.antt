@@ -1,4 +1,4 @@
--- Reading back: at work; and a table that can be read back reads as clauses and choices, as does what any steps leave of it.
+-- Reading back: at work; and a table that can be read back reads as clauses and choices, as does what any steps of kinds 1 to 8 leave of it.
 use mathlib.Core.Path.{_≡_, refl, sym, ap, subst, _∙_}
 use mathlib.Core.Logic.{_↔_, by-cases}
 use mathlib.Core.Bool.{true, false, So}
@@ -85,7 +85,7 @@ disjunction-below n d c b o = record {
   low = rw (b .head) (o .low);
 }
 
--- No step makes a table unreadable.
+-- No step of kinds 1 to 8 makes a table unreadable.
 pub readable-below : (n top : ℕ) (P Q : Marked) → ((i : ℕ) → Subclause (entry Q i) (entry P i)) → Readable n top P → Readable n top Q
 readable-below n top P Q b o = record {
   room = o .room;
@@ -110,16 +110,31 @@ numbered-in n top cs = go (keep (isChoice n top) cs)
     go [] = refl
     go (c ∷ l) = rw (go l)
 
-module _ (n top : ℕ) (P : Marked) (o : Readable n top P) where
-  abbrev ds : List Clause
-  ds = left P
+-- the same of a list of clauses
+pub record ReadableList (n top : ℕ) (ds : List Clause) : Type 0 where
+  pub room : n ≤ top
+  pub clause : (c : Clause) → c ∈ ds → So (headBelow n c) → OverClause n c
+  pub choice : (c : Clause) → c ∈ ds → So (isChoice n top c) → Disjunction n c
+  pub one : (c d : Clause) → c ∈ ds → d ∈ ds → So (isChoice n top c) → So (isChoice n top d) → freshOf c ≡ freshOf d → c ≡ d
 
-  choice-of : (c : Clause) → c ∈ ds → So (isChoice n top c) → Disjunction n c
-  choice-of = left-each (λ c. So (isChoice n top c) → Disjunction n c) P .1 (o .choice)
+-- a kept clause has a place
+pub place-of : (P : Marked) (c : Clause) → c ∈ left P → (i : ℕ) × So (entry P i .kept) × (entry P i .clause ≡ c)
+place-of P = left-each (λ c. (i : ℕ) × So (entry P i .kept) × (entry P i .clause ≡ c)) P .1 (λ i k. (i, k, refl))
 
-  place-of : (c : Clause) → c ∈ ds → (i : ℕ) × So (entry P i .kept) × (entry P i .clause ≡ c)
-  place-of = left-each (λ c. (i : ℕ) × So (entry P i .kept) × (entry P i .clause ≡ c)) P .1 (λ i k. (i, k, refl))
+pub readable-left : (n top : ℕ) (P : Marked) → Readable n top P → ReadableList n top (left P)
+readable-left n top P o = record {
+  room = o .room;
+  clause = left-each (λ c. So (headBelow n c) → OverClause n c) P .1 (o .clause);
+  choice = left-each (λ c. So (isChoice n top c) → Disjunction n c) P .1 (o .choice);
+  one = λ c d p q x y e. let v = place-of P c p in let w = place-of P d q in
+      sym (v .2) ∙ (ap (λ i. entry P i .clause) (same c d (v .0) (w .0) (v .1) (w .1) (v .2) (w .2) x y e) ∙ w .2);
+}
+  where
+    same : (c d : Clause) (i j : ℕ) → So (entry P i .kept) → So (entry P j .kept) → entry P i .clause ≡ c → entry P j .clause ≡ d → So (isChoice n top c) → So (isChoice n top d) → freshOf c ≡ freshOf d → i ≡ j
+    same c d i j k l f g x y e =
+        o .one i j k l (subst (λ c. So (isChoice n top c)) (sym f) x) (subst (λ c. So (isChoice n top c)) (sym g) y) (ap freshOf f ∙ (e ∙ sym (ap freshOf g)))
 
+module _ (n top : ℕ) (ds : List Clause) (o : ReadableList n top ds) where
   -- a choice read comes from a clause
   from : (i : Numbered) → i ∈ numberedIn n top ds → (c : Clause) × (c ∈ ds) × So (isChoice n top c) × (i ≡ numberedOf c)
   from i m = let w = map-of numberedOf (keep (isChoice n top) ds) m in let v = keep-iff (isChoice n top) ds (w .0) .0 (w .1) in (w .0, v .0, v .1, w .2)
@@ -129,7 +144,7 @@ module _ (n top : ℕ) (P : Marked) (o : Readable n top P) where
 
   -- the clause is the disjunction of what is read
   opens-iff : (M X : Atoms) (c : Clause) → c ∈ ds → So (isChoice n top c) → Holds M X c ↔ SatisfiesChoice M X (numberedOf c)
-  opens-iff M X c m x = subst (λ l. Holds M X (record { head = l; pos = c .pos; neg = c .neg }) ↔ SatisfiesChoice M X (numberedOf c)) (sym (choice-of c m x .head)) (disjunction-iff M X (numberedOf c))
+  opens-iff M X c m x = subst (λ l. Holds M X (record { head = l; pos = c .pos; neg = c .neg }) ↔ SatisfiesChoice M X (numberedOf c)) (sym (o .choice c m x .head)) (disjunction-iff M X (numberedOf c))
 
   reads-models : (M X : Atoms) → Models M X (clausesBelow top ds) ↔ (Models M X (clausesBelow n ds) × ((i : Numbered) → i ∈ numberedIn n top ds → SatisfiesChoice M X i))
   reads-models M X = (
@@ -146,22 +161,14 @@ module _ (n top : ℕ) (P : Marked) (o : Readable n top P) where
 
   reads-over : Over n (clausesBelow n ds) (map (λ (i : Numbered). i .choice) (numberedIn n top ds))
   reads-over = record {
-    clauses = λ c m. let w = below-of n ds c .0 m in left-each (λ c. So (headBelow n c) → OverClause n c) P .1 (o .clause) c (w .0) (w .1);
+    clauses = λ c m. let w = below-of n ds c .0 m in o .clause c (w .0) (w .1);
     choices = λ k m. let v = map-of (λ (i : Numbered). i .choice) (numberedIn n top ds) m in let w = from (v .0) (v .1) in
-        subst (OverChoice n) (sym (v .2 ∙ ap (λ (i : Numbered). i .choice) (w .3))) (choice-of (w .0) (w .1) (w .2) .over);
+        subst (OverChoice n) (sym (v .2 ∙ ap (λ (i : Numbered). i .choice) (w .3))) (o .choice (w .0) (w .1) (w .2) .over);
   }
 
   reads-one : (i j : Numbered) → i ∈ numberedIn n top ds → j ∈ numberedIn n top ds → i .fresh ≡ j .fresh → i ≡ j
-  reads-one i j p q e =
-      let v = from i p in let w = from j q in let a = place-of (v .0) (v .1) in let b = place-of (w .0) (w .1) in
-      same (v .0) (w .0) (a .0) (b .0) (a .1) (b .1) (a .2) (b .2) (v .2) (w .2) (v .3) (w .3)
-    where
-      same : (c d : Clause) (x y : ℕ) → So (entry P x .kept) → So (entry P y .kept) → entry P x .clause ≡ c → entry P y .clause ≡ d → So (isChoice n top c) → So (isChoice n top d)
-          → i ≡ numberedOf c → j ≡ numberedOf d → i ≡ j
-      same c d x y k l f g r s u v =
-          let z : x ≡ y = o .one x y k l (subst (λ c. So (isChoice n top c)) (sym f) r) (subst (λ c. So (isChoice n top c)) (sym g) s)
-          (ap freshOf f ∙ (sym (ap (λ (i : Numbered). i .fresh) u) ∙ (e ∙ (ap (λ (i : Numbered). i .fresh) v ∙ sym (ap freshOf g))))) in
-          u ∙ (ap numberedOf (sym f ∙ (ap (λ z. entry P z .clause) z ∙ g)) ∙ sym v)
+  reads-one i j p q e = let v = from i p in let w = from j q in
+      v .3 ∙ (ap numberedOf (o .one (v .0) (w .0) (v .1) (w .1) (v .2) (w .2) (sym (ap (λ (i : Numbered). i .fresh) (v .3)) ∙ (e ∙ ap (λ (i : Numbered). i .fresh) (w .3)))) ∙ sym (w .3))
 
   -- Without the guards it reads as the clauses with heads below n, and the choices.
   pub reads : ReadsAs n top (clausesBelow top ds) (clausesBelow n ds) (numberedIn n top ds)
@@ -169,9 +176,9 @@ module _ (n top : ℕ) (P : Marked) (o : Readable n top P) where
     room = o .room;
     models = reads-models;
     over = reads-over;
-    low = λ i m. let w = from i m in subst (λ (j : Numbered). n ≤ j .fresh) (sym (w .3)) (choice-of (w .0) (w .1) (w .2) .low);
+    low = λ i m. let w = from i m in subst (λ (j : Numbered). n ≤ j .fresh) (sym (w .3)) (o .choice (w .0) (w .1) (w .2) .low);
     high = λ i m. let w = from i m in subst (λ (j : Numbered). j .fresh < top) (sym (w .3))
-        (head-below-iff top (w .0) .0 (and-iff _ _ .0 (w .2) .0) (freshOf (w .0)) (second (w .0 .head) (choice-of (w .0) (w .1) (w .2) .head)));
+        (head-below-iff top (w .0) .0 (and-iff _ _ .0 (w .2) .0) (freshOf (w .0)) (second (w .0 .head) (o .choice (w .0) (w .1) (w .2) .head)));
     one = reads-one;
   }
     where

@@ -4,7 +4,7 @@ use mathlib.Core.Logic.{_↔_}
 use mathlib.Core.Bool.{So}
 use mathlib.Core.List.{List}
 use Prim.Native.Nat.{ℕ}
-use Rattle.semantics.specs.Programs.{Atoms}
+use Rattle.semantics.specs.Programs.{Clause, Atoms}
 use Rattle.rewriting.specs.Marked.{Marked, left}
 use Rattle.rewriting.specs.Steps.{Step}
 use Rattle.rewriting.specs.Runs.{leaves}
@@ -16,8 +16,8 @@ use Rattle.shell_guards.specs.Guards.{HeadsIn, clausesBelow, withoutNine}
 use Rattle.shell_guards.proofs.Guards.{Guarded}
 use Rattle.shell_guards.proofs.Steps.{below-list}
 use Rattle.shell_guards.proofs.Sound.{list-in}
-use Rattle.shell_readback.specs.Readback.{StableLeft}
-use Rattle.shell_readback.proofs.Readable.{Readable, readable-below, numberedIn, numbered-in, reads}
+use Rattle.shell_readback.specs.Readback.{StableRead, StableLeft}
+use Rattle.shell_readback.proofs.Readable.{Readable, readable-below, numberedIn, numbered-in, ReadableList, readable-left, reads}
 
 -- the same sets above
 pub exact-from : (n : ℕ) (A B C : Atoms → Type 0) → Exact n A B → ((N : Atoms) → A N ↔ C N) → Exact n C B
@@ -40,10 +40,14 @@ lifted-heads n H sat hi M X sub f = hi (restrict n M) (restrict n X)
     (λ a h. let w = restrict-iff n X a .0 h in restrict-iff n M a .1 (w .0, sub a (w .1)))
     (λ a q h. let w = restrict-iff n M a .0 h in restrict-iff n X a .1 (w .0, f a q (w .1)))
 
--- The stable models of a readable table without its guards are, restricted, those of what is read back, each once.
+-- The stable models of readable clauses without the guards are, restricted, those of what they read as, each once.
+pub list-exact : (n top : ℕ) (ds : List Clause) → ReadableList n top ds → (sat : Context) → Exact n (StableIn top (clausesBelow top ds) (lifted n sat)) (StableRead n top ds sat)
+list-exact n top ds o sat = subst (λ ks. Exact n (StableIn top (clausesBelow top ds) (lifted n sat)) (StableWith n (clausesBelow n ds) ks sat)) (numbered-in n top ds)
+    (reads-exact n top (clausesBelow top ds) (clausesBelow n ds) (numberedIn n top ds) (reads n top ds o) sat)
+
+-- so of a table
 pub left-exact : (n top : ℕ) (P : Marked) → Readable n top P → (sat : Context) → Exact n (StableIn top (clausesBelow top (left P)) (lifted n sat)) (StableLeft n top P sat)
-left-exact n top P o sat = subst (λ ks. Exact n (StableIn top (clausesBelow top (left P)) (lifted n sat)) (StableWith n (clausesBelow n (left P)) ks sat)) (numbered-in n top (left P))
-    (reads-exact n top (clausesBelow top (left P)) (clausesBelow n (left P)) (numberedIn n top (left P)) (reads n top P o) sat)
+left-exact n top P o sat = list-exact n top (left P) (readable-left n top P o) sat
 
 pub readable-list : (n top m : ℕ) (P : Marked) (l : List Step) → So (withoutNine l) → Readable n top P → Readable n top (leaves m P l)
 readable-list n top m P l w = readable-below n top P (leaves m P l) (below-list m P l w)

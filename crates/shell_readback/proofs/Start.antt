@@ -69,7 +69,7 @@ module _ (n : ℕ) (cs : List Clause) (ks : List Choice) (hs : List ℕ) (o : Ov
   each-of Q f g c m = ⊎-elim (f c)
       (λ q. let w = map-of disjunction (numbered n ks) q in subst Q (sym (w .2)) (g (w .0) (w .1))) (List·Memᴰ·append-cases cs m)
 
-  over-top : (c : Clause) → c ∈ translated n cs ks → OverClause top c
+  pub over-top : (c : Clause) → c ∈ translated n cs ks → OverClause top c
   over-top = each-of (OverClause top)
       (λ c m. let w = o .clauses c m in record { head = λ a q. omega (arith, w .head a q); pos = λ a q. omega (arith, w .pos a q); neg = λ a q. omega (arith, w .neg a q) })
       (λ i m. let w = over-of i m in record {

@@ -1,2 +1,3 @@
 pub mod Readback
 pub mod Laid
+pub mod Beside
