@@ -1,6 +1,6 @@
 # excluded.sh - atoms that can't be, steps of kind 9: lists, sentences and what is written, by hand; orders with rules beside
 # the table, where the kind is left out; and random orders beside the solver. `writes` is that of forms.sh, `says` and `refuses`
-# those of certificate.sh, `fits` that of models.sh.
+# those of certificate.sh, `fits` and `pairs` those of models.sh.
 
 # <- 0. 0 <- 1. 1 <- ~2. 2 <- ~1.: a rule that loses its head is the next ban
 printf 'atoms=3\nclauses=4\nhead=\npos=0\nneg=\nhead=0\npos=1\nneg=\nhead=1\npos=\nneg=2\nhead=2\npos=\nneg=1\n' >"$tmp/in"
@@ -116,6 +116,11 @@ clause 6, `:- x_5.`: deleted, since it needs `x_5`, which no clause can derive
 END
 build/gambrolt --explain --dry-run <"$tmp/in" 2>"$tmp/out"
 expect "a choice without its atom goes: the sentences" same "$tmp/want" "$tmp/out"
+# a choice that has lost its atom takes no room: 16 atoms are listed beside it
+pairs 16 | sed '1a1 1 1 50 0 1 1\n1 0 0 0 1 50' >"$tmp/in"
+before=$fitted
+fits "16 atoms beside a choice without its atom"
+expect "16 atoms beside a choice without its atom are listed" [ "$fitted" -gt "$before" ]
 # a disjunction that becomes a lone fact: an output statement knows that it holds, and that the other atom does not
 printf 'asp 1 0 0\n1 0 2 1 2 0 0\n1 0 0 0 1 1\n4 1 a 1 1\n4 1 b 1 2\n4 1 n 1 -1\n0\n' >"$tmp/in"
 printf 'b n\nModels       : 1\n' >"$tmp/want"
