@@ -6,6 +6,7 @@ use gambrolt_tests::independent::steps::Left;
 use gambrolt_tests::independent::table::Table;
 use gambrolt_tests::library;
 use gambrolt_tests::make::shapes::Shape;
+use std::collections::BTreeSet;
 use std::time::Instant;
 
 /// Small tables of a shape step by step; larger ones at some of their steps.
@@ -37,8 +38,8 @@ fn sampled(name: &str, table: &[u16], samples: usize, tally: &mut Tally) -> usiz
     let list = &list[..4 * steps];
     assert_eq!(library::check(table, &fresh, list), (answer, left.clone()), "{name}: the reducer's list is not taken");
     let read = Table::read(table).unwrap();
-    for sample in 0..=samples {
-        let step = steps * sample / samples;
+    let places: BTreeSet<usize> = (0..=samples).map(|sample| steps * sample / samples).collect();
+    for step in places {
         let (_, marks) = library::check(table, &fresh, &list[..4 * step]);
         let next = smallest(&Left::new(&read, &marks)).map(|step| step.words().to_vec());
         assert_eq!(next.as_deref(), list[4 * step..].chunks(4).next(), "{name}: step {step}");
