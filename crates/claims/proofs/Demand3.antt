@@ -11,6 +11,7 @@ use lib.ListN.{length, take, drop}
 use Rattle.semantics.specs.Programs.{Program, Atoms, Stable}
 use Rattle.rewriting.specs.Marked.{whole}
 use Rattle.rewriting.specs.Steps.{Step}
+use Rattle.rewriting.specs.Runs.{withoutNine}
 use Rattle.rewriting.specs.Reducer.{eligible, Greedy}
 use Rattle.answers.specs.declared.StepQuestion.{StepQuestion}
 use Rattle.answers.specs.declared.Refusal.the-variants as refusal
@@ -32,7 +33,7 @@ use Rattle.claims.proofs.Lists.{list-keeps-models, RefusedAt, steps-ref
 use Rattle.claims.proofs.Steps.{front-made}
 use Rattle.claims.proofs.Whole.{list-words, reducer-accepted, same-marks, reducer-further, checked-counts, checked-at-most, reducer-list-past}
 use Rattle.claims.proofs.Reduced.{reduced-accepted}
-use Rattle.claims.proofs.Reductions.{withoutNine, reducer-models}
+use Rattle.claims.proofs.Reductions.{reducer-models}
 use Rattle.claims.proofs.Allowed.{reducer-compacts}
 
 -- ---- any list

@@ -1,31 +1,29 @@
 -- Slip 8 of document 02, "Atoms that can't be", of every list of steps and of the reducer's: when a step of kind 9 is taken, what it leaves of each clause, that the reducer tries it after the
 -- others, and that its lists of before are those of now up to the first such step.
 use mathlib.Core.Path.{_≡_, refl, sym, ap, subst, _∙_}
-use mathlib.Core.Logic.{_↔_, _≢_, by-cases}
-use mathlib.Core.Bool.{Bool, true, false, not, cond, _&&_, _||_, So}
+use mathlib.Core.Logic.{_↔_, _≢_}
+use mathlib.Core.Bool.{true, _&&_, So}
 use mathlib.Core.List.{List, [], _∷_}
 use Prim.Native.Nat.{ℕ, _*_, _/_, _≤_, _<_}
-use native.Mathlib.Omega.{arith}
 use lib.Dec.{eqb, ltb}
 use lib.ListN.{length, getD, take}
 use borrow.Author.Tests.{eqb-true, eq-eqb, ltb-true, lt-ltb}
 use Rattle.semantics.specs.Lists.{_∈_, any, null, mem, without}
 use Rattle.semantics.specs.Programs.{Clause, Program, Atoms}
-use Rattle.semantics.proofs.Tests.{and-iff, not-iff, any-iff, mem-iff, null-iff, so-dec, so-false, not-so}
+use Rattle.semantics.proofs.Tests.{and-iff, not-iff, any-iff, mem-iff, null-iff, so-false}
 use Rattle.semantics.proofs.Models.{All}
 use Rattle.rewriting.specs.Marked.{Marked, entry, left, deleted, whole}
-use Rattle.rewriting.specs.Kinds.{impossible, number, onTarget}
+use Rattle.rewriting.specs.Kinds.{excluded}
 use Rattle.rewriting.specs.Consequences.{AreConsequences, consequences}
-use Rattle.rewriting.specs.Exclusion.{plainConstraint, occurs}
+use Rattle.rewriting.specs.Exclusion.{occurs}
 use Rattle.rewriting.specs.Steps.{Step, step, condition, conditionHolds, applies, effect}
-use Rattle.rewriting.specs.Reducer.{lessKind, passedOver, eligible, IsFirst, Greedy, stop, take as taken}
-use Rattle.rewriting.proofs.Rows.{target-bounds, not-on-target}
-use Rattle.rewriting.proofs.Equal.{eligible-iff, mirror-eligible}
+use Rattle.rewriting.specs.Runs.{beforeNine}
+use Rattle.rewriting.specs.Reducer.{Greedy}
 use Rattle.rewriting.proofs.Effect.{effect-off}
 use Rattle.rewriting.proofs.Consequences.{consequences-are}
-use Rattle.rewriting.proofs.Exclusion.{Excludes, excludes-iff, entry-removal}
+use Rattle.rewriting.proofs.Exclusion.{excludes-iff, entry-removal}
 use Rattle.rewriting.proofs.Greedy.{greedy-one}
-use Rattle.answers.specs.declared.Answer.the-variants.{Accepted}
+use Rattle.rewriting.proofs.BeforeNine.{eligibleOfEight, before-greedy}
 use Rattle.table.specs.Encoding.{Within, encode}
 use Rattle.table.specs.StepWords.{stepAt}
 use Rattle.table.specs.View.{view}
@@ -35,7 +33,7 @@ use Rattle.step_lists.specs.Leaves.{wordsAt}
 use Rattle.reducer_results.specs.Reductions.{room}
 use Rattle.claims.proofs.Said.{IsTaken, checkCall}
 use Rattle.claims.proofs.Demand1.{check-taken}
-use Rattle.claims.proofs.Demand3.{Demand3, demand-3}
+use Rattle.claims.proofs.Demand3.{demand-3}
 use Rattle.claims.proofs.Steps.{none-fine}
 
 -- ---- when a step of kind 9 applies
@@ -55,7 +53,7 @@ pub record Exclusion (n : ℕ) (P : Marked) (s : Step) : Type 0 where
   -- atoms are all in D."
   pub follows : (D : Atoms) → AreConsequences (left P) (s .atom) D → All D (entry P (s .target) .clause .pos)
 
-module _ (n : ℕ) (P : Marked) (s : Step) (k : s .kind ≡ impossible) where
+module _ (n : ℕ) (P : Marked) (s : Step) (k : s .kind ≡ excluded) where
   abbrev the : Clause
   the = entry P (s .target) .clause
 
@@ -63,7 +61,7 @@ module _ (n : ℕ) (P : Marked) (s : Step) (k : s .kind ≡ impossible) where
   in-any : All (consequences (left P) (s .atom)) (the .pos) ↔ ((D : Atoms) → AreConsequences (left P) (s .atom) D → All D (the .pos))
   in-any = (λ f D w b m. consequences-are (left P) (s .atom) .least D (w .start) (w .holds) b (f b m), λ f. f (consequences (left P) (s .atom)) (consequences-are (left P) (s .atom)))
 
-  forms : applies n P s ≡ (entry P (s .target) .kept && (eqb (s .partner) 0 && (ltb (s .atom) n && condition impossible (left P) the (entry P (s .partner) .clause) (s .atom))))
+  forms : applies n P s ≡ (entry P (s .target) .kept && (eqb (s .partner) 0 && (ltb (s .atom) n && condition excluded (left P) the (entry P (s .partner) .clause) (s .atom))))
   unfolding applies conditionHolds
   forms = rw k refl
 
@@ -112,7 +110,7 @@ pub record Without (a : ℕ) (P Q : Marked) : Type 0 where
       → entry Q i ≡ record { kept = true; clause = record { head = without a (entry P i .clause .head); pos = entry P i .clause .pos; neg = without a (entry P i .clause .neg) } }
   pub gone : (i : ℕ) → ¬ So (entry P i .kept) → entry Q i ≡ entry P i
 
-pub exclusion-leaves : (P : Marked) (s : Step) → s .kind ≡ impossible → Without (s .atom) P (effect P s)
+pub exclusion-leaves : (P : Marked) (s : Step) → s .kind ≡ excluded → Without (s .atom) P (effect P s)
 exclusion-leaves P s k =
     let at : (i : ℕ) → entry (effect P s) i ≡ _ = λ i. ap (λ Q. entry Q i) (effect-off P s (rw k refl)) ∙ entry-removal (s .atom) P i in
     record {
@@ -122,43 +120,16 @@ exclusion-leaves P s k =
     }
 
 -- Every step of kind 9 of a list that is taken is such a step, on the program that the steps before it leave, whoever wrote the list.
-pub exclusions-named : (ws ms ls : List ℕ) → IsTaken (checkCall ws ms ls) → (k : ℕ) → k < length ls / 4 → stepAt ls k .kind ≡ impossible → Exclusion (getD ws 0 0) (view ws (checkList ws ms (take (4 * k) ls) .marks)) (stepAt ls k)
+pub exclusions-named : (ws ms ls : List ℕ) → IsTaken (checkCall ws ms ls) → (k : ℕ) → k < length ls / 4 → stepAt ls k .kind ≡ excluded → Exclusion (getD ws 0 0) (view ws (checkList ws ms (take (4 * k) ls) .marks)) (stepAt ls k)
 exclusions-named ws ms ls h k l e =
     let before = checkList ws ms (take (4 * k) ls) .marks in
     exclusion-iff (getD ws 0 0) (view ws before) (stepAt ls k) e .0 (fine-applies (getD ws 0 0) (view ws before) (wordsAt ls k) (sym (none-fine ws before ls k .0 (check-taken ws ms ls .0 h .3 k l))))
 
 -- ---- the reducer
 
--- "The reducer tries it after 8.": where it takes a step of kind 9, no step of kinds 1 to 8 applies.
-pub nine-last : (n : ℕ) (P : Marked) (s : Step) → IsFirst (eligible n) P s → s .kind ≡ impossible → (u : Step) → So (onTarget (u .kind)) → ¬ So (applies n P u)
-nine-last n P s f k u o h = by-cases (so-dec (passedOver P u))
-    (λ p. f .smallest _ (lessKind before) (mirror-eligible n P u h p))
-    (λ p. f .smallest u (lessKind before) (eligible-iff P u n .1 (h, p)))
-  where
-    before : number (u .kind) < number (s .kind)
-    before = omega (arith, target-bounds (u .kind) o, ap number k)
+-- "The reducer tries it after 8.": where it takes a step of kind 9, no step of kinds 1 to 8 applies (`nine-last`, `rewriting/proofs/BeforeNine.antt`).
 
--- of these, what the reducer chose among before the slip
-unfoldable pub eligibleOfEight : ℕ → Marked → Step → Bool
-unfolding eligible
-eligibleOfEight n P s = onTarget (s .kind) && eligible n P s
-
--- the steps before the first of kind 9
-pub front : List Step → List Step
-front [] = []
-front (s ∷ l) = cond (onTarget (s .kind)) (s ∷ front l) []
-
--- The list that takes the smallest step of kinds 1 to 8 each time, until none is left, is the reducer's list up to its first step of kind 9: as far as that it is the list of before.
-pub front-greedy : (n : ℕ) {P : Marked} {l : List Step} → Greedy (eligible n) P l → Greedy (eligibleOfEight n) P (front l)
-unfolding eligibleOfEight front
-front-greedy n (stop {P = P} h) = stop (λ u e. h u (and-iff (onTarget (u .kind)) (eligible n P u) .0 e .1))
-front-greedy n (taken {P = P} {s = s} {l = l} f g) = go (onTarget (s .kind)) refl (front-greedy n g)
-  where
-    go : (b : Bool) → onTarget (s .kind) ≡ b → Greedy (eligibleOfEight n) (effect P s) (front l) → Greedy (eligibleOfEight n) P (cond b (s ∷ front l) [])
-    go true e r = taken (record { applicable = and-iff (onTarget (s .kind)) (eligible n P s) .1 (e, f .applicable); smallest = λ u l h. f .smallest u l (and-iff (onTarget (u .kind)) (eligible n P u) .0 h .1) }) r
-    go false e r = stop (λ u h. let w = and-iff (onTarget (u .kind)) (eligible n P u) .0 h in f .smallest u (lessKind (omega (arith, target-bounds (u .kind) (w .0), ap number (not-on-target (s .kind) e)))) (w .1))
-
--- For every program within the limits: the list of before is the front of the reducer's.
+-- For every program within the limits: the list of before, which takes the smallest step of kinds 1 to 8 each time, is the reducer's up to its first step of kind 9.
 pub list-before : (P : Program) (w : Within P) (ms ls ks : List ℕ) (a : length (encode P) ≤ length ms) (b : 4 * room (encode P) ≤ length ls) (c : length (encode P) ≤ length ks) (old : List Step)
-    → Greedy (eligibleOfEight (P .atoms)) (whole (P .clauses)) old → old ≡ front (demand-3 P w ms ls ks a b c .steps)
-list-before P w ms ls ks a b c old g = greedy-one (eligibleOfEight (P .atoms)) g (front-greedy (P .atoms) (demand-3 P w ms ls ks a b c .order))
+    → Greedy (eligibleOfEight (P .atoms)) (whole (P .clauses)) old → old ≡ beforeNine (demand-3 P w ms ls ks a b c .steps)
+list-before P w ms ls ks a b c old g = greedy-one (eligibleOfEight (P .atoms)) g (before-greedy (P .atoms) (demand-3 P w ms ls ks a b c .order))

@@ -1,21 +1,16 @@
 -- The reducer's call: how it goes, question by question; its steps and the marks at 0; and the same stable models.
 use mathlib.Core.Path.{_≡_, refl, sym, subst}
-use mathlib.Core.Logic.{_↔_, _≢_}
-use mathlib.Core.Bool.{Bool, true, false, not, So}
+use mathlib.Core.Logic.{_↔_}
+use mathlib.Core.Bool.{Bool, true, false, So}
 use mathlib.Core.List.{List}
 use Prim.Native.Nat.{ℕ, _*_, _≤_, _<_}
 use native.Mathlib.Omega.{arith}
-use lib.Dec.{leb, eqb}
+use lib.Dec.{leb}
 use lib.ListN.{length, getD}
-use borrow.Author.Tests.{leb-true, leb-false, eq-eqb}
-use Rattle.semantics.specs.Lists.{all}
+use borrow.Author.Tests.{leb-true, leb-false}
 use Rattle.semantics.specs.Programs.{Atoms, Stable, program}
-use Rattle.semantics.proofs.Tests.{all-iff, not-iff}
-use Rattle.rewriting.specs.Kinds.{number, onTarget}
-use Rattle.rewriting.specs.Steps.{Step}
-use Rattle.rewriting.proofs.Rows.{number-bounds, on-target}
 use Rattle.rewriting.specs.Marked.{left, whole}
-use Rattle.rewriting.specs.Runs.{leaves}
+use Rattle.rewriting.specs.Runs.{leaves, withoutNine}
 use Rattle.rewriting.proofs.Left.{left-whole}
 use Rattle.rewriting.proofs.Sound.{list-sound}
 use Rattle.answers.specs.declared.CallQuestion.the-variants.{MarksLength, ListRoom}
@@ -80,16 +75,9 @@ reducer-refused ws ms ls r = go (reduction ws ms ls) (reducer-goes ws ms ls)
 pub reducer-written : (ws ms ls : List ℕ) (s : ℕ) → reduction ws ms ls .answer ≡ Accepted s → s ≡ length (stepsOf ws)
 reducer-written ws ms ls s h = reducer-taken ws ms ls s h .count
 
--- without kind 9 among them
-abbrev pub withoutNine : List Step → Bool
-withoutNine l = all (λ u. not (eqb (number (u .kind)) 9)) l
-
-pub without-nine : (l : List Step) → So (withoutNine l) → So (all (λ u. onTarget (u .kind)) l)
-without-nine l h = all-iff _ l .1 (λ u m. on-target (u .kind) (let b = number-bounds (u .kind) in let d : number (u .kind) ≢ 9 = λ e. not-iff _ .0 (all-iff _ l .0 h u m) (eq-eqb _ 9 e) in omega (arith, b .1)))
-
--- it equals the marks at 0,
+-- without kind 9 among them it equals the marks at 0,
 pub reducer-counts : (ws ms ls : List ℕ) (s : ℕ) → reduction ws ms ls .answer ≡ Accepted s → So (withoutNine (stepsOf ws)) → s ≡ zeros ws (reduction ws ms ls .marks)
-reducer-counts ws ms ls s h n = sym (marks-after ws ms ls s (reducer-taken ws ms ls s h) .2 (without-nine (stepsOf ws) n))
+reducer-counts ws ms ls s h n = sym (marks-after ws ms ls s (reducer-taken ws ms ls s h) .2 n)
 
 -- and otherwise steps number at most the marks at 0."
 pub reducer-at-most : (ws ms ls : List ℕ) (s : ℕ) → reduction ws ms ls .answer ≡ Accepted s → s ≤ zeros ws (reduction ws ms ls .marks)

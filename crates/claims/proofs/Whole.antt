@@ -12,7 +12,7 @@ use borrow.Author.Tests.{eq-eqb, le-leb}
 use Rattle.semantics.proofs.Tests.{and-iff}
 use Rattle.rewriting.specs.Marked.{Marked, whole}
 use Rattle.rewriting.specs.Steps.{Step, step, applies}
-use Rattle.rewriting.specs.Runs.{accepted, leaves}
+use Rattle.rewriting.specs.Runs.{accepted, leaves, withoutNine}
 use Rattle.rewriting.specs.Kinds.{number}
 use Rattle.rewriting.proofs.Rows.{kindOf-number, number-bounds, condition-matches, condition-headed}
 use Rattle.rewriting.proofs.Greedy.{greedy-end}
@@ -44,7 +44,7 @@ use Rattle.step_lists.specs.Leaves.{wordsAt}
 use Rattle.step_lists.proofs.Walks.{verdictOn, steps-verdict, check-made}
 use Rattle.answers.proofs.Slices.{take-written}
 use Rattle.claims.proofs.Lists.{marks-past-table}
-use Rattle.claims.proofs.Reductions.{withoutNine, without-nine, reducer-refused}
+use Rattle.claims.proofs.Reductions.{reducer-refused}
 use Rattle.claims.proofs.Agree.{afterAll-agree}
 
 -- ---- a step as four words
@@ -194,7 +194,7 @@ zeros-left : (ws ms : List ℕ) → Passed ws → length ws ≤ length ms
     → (length (stepsOf ws) ≤ zeros ws (marksAfterAll ws (allKept ws ms) (stepsOf ws))) × (So (withoutNine (stepsOf ws)) → zeros ws (marksAfterAll ws (allKept ws ms) (stepsOf ws)) ≡ length (stepsOf ws))
 zeros-left ws ms p l =
     let w = view-afterAll (getD ws 0 0) ws (allKept ws ms) (stepsOf ws) p (omega (arith, length-allKept ws ms l)) (subst (λ P. So (accepted (getD ws 0 0) P (stepsOf ws))) (sym (view-allKept ws ms p)) (steps-accepted ws p)) in
-    (omega (arith, w .1, zeros-allKept ws ms), λ n. omega (arith, w .2 (without-nine (stepsOf ws) n), zeros-allKept ws ms))
+    (omega (arith, w .1, zeros-allKept ws ms), λ n. omega (arith, w .2 n, zeros-allKept ws ms))
 
 -- ---- the reducer's call, and the checker's on its list
 

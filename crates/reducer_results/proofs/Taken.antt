@@ -9,11 +9,10 @@ use lib.Dec.{leb, eqb}
 use lib.ListN.{length, getD, replicate, length-replicate}
 use lib.Seq.{length-sets, take-at}
 use borrow.Author.Tests.{leb-true, le-leb}
-use Rattle.semantics.specs.Lists.{all, count}
+use Rattle.semantics.specs.Lists.{count}
 use Rattle.rewriting.specs.Marked.{whole, entry}
 use Rattle.rewriting.specs.Steps.{Step}
-use Rattle.rewriting.specs.Kinds.{onTarget}
-use Rattle.rewriting.specs.Runs.{accepted, leaves}
+use Rattle.rewriting.specs.Runs.{accepted, leaves, withoutNine}
 use Rattle.rewriting.specs.Reducer.{eligible, Greedy}
 use Rattle.rewriting.proofs.Measure.{Tidy}
 use Rattle.rewriting.proofs.Greedy.{reduce-greedy, greedy-accepted, accepted-less}
@@ -115,7 +114,7 @@ length-words (s ∷ l) = omega (arith, length-words l)
 -- the marks of a call that is taken leave what its list leaves, and those at 0 are no fewer than its steps: exactly as many, where kind 9 is not among them
 pub marks-after : (ws ms ls : List ℕ) (s : ℕ) → ReducerTaken ws ms ls s
     → (view ws (reduction ws ms ls .marks) ≡ leaves (getD ws 0 0) (whole (programOf ws .clauses)) (stepsOf ws)) × (s ≤ zeros ws (reduction ws ms ls .marks))
-    × (So (all (λ u. onTarget (u .kind)) (stepsOf ws)) → zeros ws (reduction ws ms ls .marks) ≡ s)
+    × (So (withoutNine (stepsOf ws)) → zeros ws (reduction ws ms ls .marks) ≡ s)
 marks-after ws ms ls s t =
     let p = t .passed in
     let n = getD ws 0 0 in

@@ -9,12 +9,11 @@ use Prim.Native.Nat.{ℕ, zero, suc, _+_, _≤_}
 use native.Mathlib.Omega.{arith}
 use native.Mathlib.Decide.{decLt}
 use lib.ListN.{length}
-use Rattle.semantics.specs.Lists.{all}
 use Rattle.semantics.proofs.Tests.{and-iff}
 use Rattle.rewriting.specs.Marked.{Marked, entry}
 use Rattle.rewriting.specs.Steps.{Step, step, applies, effect}
 use Rattle.rewriting.specs.Kinds.{number, kindOf, onTarget}
-use Rattle.rewriting.specs.Runs.{accepted, leaves}
+use Rattle.rewriting.specs.Runs.{accepted, leaves, withoutNine}
 use Rattle.rewriting.specs.Reducer.{Less, lessKind, lessTarget, lessPartner, lessAtom, eligible, IsFirst, Greedy, stop, take}
 use Rattle.rewriting.specs.Search.{firstStep, reduce}
 use Rattle.rewriting.specs.Measure.{measure}
@@ -55,12 +54,12 @@ accepted-less n P (s ∷ l) u h =
     rw (w .0) (omega (arith, step-less n P s u (w .0), accepted-less n (effect P s) l (tidy-effect P s u) (w .1)))
 
 -- and where kind 9 is not among them, it is that.
-pub accepted-measure : (n : ℕ) (P : Marked) (l : List Step) → So (all (λ s. onTarget (s .kind)) l) → ((i : ℕ) → Tidy (entry P i)) → So (accepted n P l) → length l + measure (leaves n P l) ≡ measure P
+pub accepted-measure : (n : ℕ) (P : Marked) (l : List Step) → So (withoutNine l) → ((i : ℕ) → Tidy (entry P i)) → So (accepted n P l) → length l + measure (leaves n P l) ≡ measure P
 unfolding accepted leaves
 accepted-measure n P [] o u h = omega arith
 accepted-measure n P (s ∷ l) o u h =
     let w = and-iff (applies n P s) (accepted n (effect P s) l) .0 h in
-    let v = and-iff (onTarget (s .kind)) (all (λ s. onTarget (s .kind)) l) .0 o in
+    let v = and-iff (onTarget (s .kind)) (withoutNine l) .0 o in
     rw (w .0) (omega (arith, step-measure n P s (v .0) u (w .0), accepted-measure n (effect P s) l (v .1) (tidy-effect P s u) (w .1)))
 
 -- ---- one list

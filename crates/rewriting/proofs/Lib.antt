@@ -19,3 +19,4 @@ pub mod Order
 pub mod Before
 pub mod Subsumed
 pub mod Earlier
+pub mod BeforeNine

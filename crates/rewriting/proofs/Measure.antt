@@ -12,7 +12,7 @@ use Rattle.semantics.proofs.Tests.{bit-true, bit-bound, any-iff, count-none, le
 use Rattle.rewriting.specs.Marked.{Entry, Marked, entry, left}
 use Rattle.rewriting.specs.Steps.{Step, condition, applies, leftBy, effect}
 use Rattle.rewriting.specs.Exclusion.{occurs, excludes, lackingOf, removal}
-use Rattle.rewriting.specs.Kinds.{Deed, deletes, dropsPos, dropsNeg, removes, atTarget, rowOf, onTarget, impossible}
+use Rattle.rewriting.specs.Kinds.{Deed, deletes, dropsPos, dropsNeg, removes, atTarget, rowOf, onTarget, excluded}
 use Rattle.rewriting.specs.Measure.{weight, measure}
 use Rattle.rewriting.proofs.Rows.{There, drops-there, not-on-target}
 use Rattle.rewriting.proofs.Left.{each-set}
@@ -81,7 +81,7 @@ measure-removal a (e ∷ P) = omega (arith, weight-lacking a e, one (e .kept), m
     one false = omega arith
 
 -- and there is one
-pub removal-less : (n : ℕ) (P : Marked) (s : Step) → s .kind ≡ impossible → So (applies n P s) → measure (removal (s .atom) P) < measure P
+pub removal-less : (n : ℕ) (P : Marked) (s : Step) → s .kind ≡ excluded → So (applies n P s) → measure (removal (s .atom) P) < measure P
 unfolding condition
 removal-less n P s k h =
     let x : So (excludes (left P) (entry P (s .target) .clause) (s .atom)) = subst (λ j. So (condition j (left P) (entry P (s .target) .clause) (entry P (s .partner) .clause) (s .atom))) k (applies-ask n P s h .2) in

@@ -16,7 +16,7 @@ use Rattle.semantics.proofs.Tests.{and-iff, all-iff, mem-iff, so-false, not-so}
 use Rattle.rewriting.specs.Marked.{Marked, entry, left}
 use Rattle.rewriting.specs.Reaches.{reach}
 use Rattle.rewriting.specs.Steps.{Step, step, inNoHead, headed, condition, conditionHolds, applies}
-use Rattle.rewriting.specs.Kinds.{Kind, tautology, contradiction, success, noHead, blocked, failure, loop, subsumed, impossible, usesPartner, usesAtom, onTarget}
+use Rattle.rewriting.specs.Kinds.{Kind, tautology, contradiction, success, noHead, blocked, failure, loop, subsumed, excluded, usesPartner, usesAtom, onTarget}
 use Rattle.rewriting.specs.Reducer.{eligible}
 use Rattle.rewriting.specs.Search.{partnerAtom, stepWith, least, given, firstAtom, firstPartner, firstTarget}
 use Rattle.rewriting.proofs.Search.{atom-bound}
@@ -74,7 +74,7 @@ walked loop c = c .pos
 walked success c = []
 walked blocked c = []
 walked subsumed c = []
-walked impossible c = []
+walked excluded c = []
 
 abbrev pub asked : Kind → List Clause → Clause → ℕ → Bool
 asked tautology cs c a = mem a (c .pos)
@@ -85,7 +85,7 @@ asked loop cs c a = headed loop cs a && not (reach cs a)
 asked success cs c a = false
 asked blocked cs c a = false
 asked subsumed cs c a = false
-asked impossible cs c a = false
+asked excluded cs c a = false
 
 pub condition-is : (k : Kind) (cs : List Clause) (c d : Clause) (a : ℕ) → So (onTarget k) → usesPartner k ≡ false → condition k cs c d a ≡ (mem a (walked k c) && asked k cs c a)
 unfolding condition
@@ -97,7 +97,7 @@ condition-is loop cs c d a o u = refl
 condition-is success cs c d a o u = absurd (true≢false u)
 condition-is blocked cs c d a o u = absurd (true≢false u)
 condition-is subsumed cs c d a o u = absurd (true≢false u)
-condition-is impossible cs c d a o u = absurd (false≢true o)
+condition-is excluded cs c d a o u = absurd (false≢true o)
 
 -- a kind without a partner: the target is kept, and the atom is in its part and passes
 pub atom-form : (n : ℕ) (P : Marked) (k : Kind) (t a : ℕ) → usesPartner k ≡ false → eligible n P (step k t 0 a) ≡ (entry P t .kept && (ltb a n && condition k (left P) (entry P t .clause) (entry P 0 .clause) a))

@@ -15,7 +15,7 @@ use Rattle.semantics.proofs.Models.{All}
 use Rattle.rewriting.specs.Marked.{Marked, entry, left}
 use Rattle.rewriting.specs.Reaches.{reach}
 use Rattle.rewriting.specs.Steps.{Step, step, fact, inNoHead, condition, conditionHolds, applies, leftBy, effect}
-use Rattle.rewriting.specs.Kinds.{Kind, tautology, contradiction, success, noHead, blocked, failure, loop, subsumed, impossible, Deed, deletes, dropsPos, dropsNeg, removes, rowOf, number, kindOf, usesPartner, onTarget}
+use Rattle.rewriting.specs.Kinds.{Kind, tautology, contradiction, success, noHead, blocked, failure, loop, subsumed, excluded, Deed, deletes, dropsPos, dropsNeg, removes, rowOf, number, kindOf, usesPartner, onTarget}
 use Rattle.rewriting.specs.Uses.{dropping, drops, asksNoHead}
 use Rattle.rewriting.specs.Reducer.{passedOver, eligible}
 use Rattle.rewriting.proofs.Rows.{There, drops-there, kindOf-number}
@@ -33,7 +33,7 @@ ready contradiction d = false
 ready noHead d = false
 ready failure d = false
 ready loop d = false
-ready impossible d = false
+ready excluded d = false
 
 -- the target's head is the partner's: the partner of a subsumed clause fires in its place
 abbrev pub SameHead : Marked → Step → Type 0
@@ -123,7 +123,7 @@ module _ (n : ℕ) (P : Marked) (s : Step) (h : So (applies n P s)) (on : So (on
   opened-at failure t p a j q = let w = simp and-iff at q in ⊎-elim (λ x. inl (λ _. x)) inr (open-head (step failure t p a) refl (w .1 .1 .1 .1))
   opened-at loop t p a j q = ⊎-elim (λ x. inl (x a)) inr (open-reach (step loop t p a) refl)
   opened-at subsumed t p a j q = let w = simp and-iff at q in open-partner (step subsumed t p a) refl (w .1 .0 .0) refl
-  opened-at impossible t p a j q = absurd (false≢true j)
+  opened-at excluded t p a j q = absurd (false≢true j)
 
   -- A step that was passed over and still applies, with the partner as it was, is still passed over.
   still-passed : (u : Step) → So (passedOver P u) → entry (effect P s) (u .partner) ≡ entry P (u .partner) → So (applies n (effect P s) u) → So (passedOver (effect P s) u)

@@ -14,13 +14,13 @@ use Rattle.semantics.proofs.Tests.{and-iff, not-iff, mem-iff}
 use Rattle.rewriting.specs.Marked.{Marked, entry, left}
 use Rattle.rewriting.specs.Reaches.{reach}
 use Rattle.rewriting.specs.Steps.{Step, step, fact, inNoHead, condition, headed, conditionHolds, atomMatches, atomHeaded, applies}
-use Rattle.rewriting.specs.Kinds.{Kind, tautology, contradiction, success, noHead, blocked, failure, loop, subsumed, impossible, Deed, deletes, dropsPos, dropsNeg, removes, clausesAlone, rowOf, number, kindOf, usesPartner, usesAtom, onTarget}
+use Rattle.rewriting.specs.Kinds.{Kind, tautology, contradiction, success, noHead, blocked, failure, loop, subsumed, excluded, Deed, deletes, dropsPos, dropsNeg, removes, clausesAlone, rowOf, number, kindOf, usesPartner, usesAtom, onTarget}
 use Rattle.rewriting.specs.Uses.{drops, asksNoHead, asksHeads}
 use Rattle.rewriting.specs.Reducer.{spares}
 use Rattle.rewriting.specs.Search.{partnerAtom}
 
 -- what holds of the nine kinds, in the order of their numbers
-pub each-kind : (Q : Kind → Type 0) → Q tautology → Q contradiction → Q success → Q noHead → Q blocked → Q failure → Q loop → Q subsumed → Q impossible → (k : Kind) → Q k
+pub each-kind : (Q : Kind → Type 0) → Q tautology → Q contradiction → Q success → Q noHead → Q blocked → Q failure → Q loop → Q subsumed → Q excluded → (k : Kind) → Q k
 each-kind Q a b c d e f g h i tautology = a
 each-kind Q a b c d e f g h i contradiction = b
 each-kind Q a b c d e f g h i success = c
@@ -29,7 +29,7 @@ each-kind Q a b c d e f g h i blocked = e
 each-kind Q a b c d e f g h i failure = f
 each-kind Q a b c d e f g h i loop = g
 each-kind Q a b c d e f g h i subsumed = h
-each-kind Q a b c d e f g h i impossible = i
+each-kind Q a b c d e f g h i excluded = i
 
 -- what holds of the kinds with a partner, of kinds 5 and 8, of those whose atom has to be in no kept head, of those that ask for kept heads at all, of those that drop a literal
 module _ (Q : Kind → Type 0) where
@@ -93,8 +93,8 @@ kindOf-on-target zero l = refl
 kindOf-on-target (suc i) l = on-target (kindOf (suc i)) (omega (arith, number-kindOf i (omega arith)))
 
 -- the one kind that does not is 9
-pub not-on-target : (k : Kind) → onTarget k ≡ false → k ≡ impossible
-not-on-target = each-kind (λ k. onTarget k ≡ false → k ≡ impossible) (λ e. absurd (true≢false e)) (λ e. absurd (true≢false e)) (λ e. absurd (true≢false e)) (λ e. absurd (true≢false e)) (λ e. absurd (true≢false e)) (λ e. absurd (true≢false e)) (λ e. absurd (true≢false e)) (λ e. absurd (true≢false e)) (λ e. refl)
+pub not-on-target : (k : Kind) → onTarget k ≡ false → k ≡ excluded
+not-on-target = each-kind (λ k. onTarget k ≡ false → k ≡ excluded) (λ e. absurd (true≢false e)) (λ e. absurd (true≢false e)) (λ e. absurd (true≢false e)) (λ e. absurd (true≢false e)) (λ e. absurd (true≢false e)) (λ e. absurd (true≢false e)) (λ e. absurd (true≢false e)) (λ e. absurd (true≢false e)) (λ e. refl)
 
 -- a kind that uses a partner, drops a literal or asks for kept heads changes its target alone
 pub partner-on-target : (k : Kind) → So (usesPartner k) → So (onTarget k)

@@ -15,7 +15,7 @@ use Rattle.rewriting.specs.Marked.{Entry, Marked, entry, left, deleted}
 use Rattle.rewriting.specs.Reaches.{reach}
 use Rattle.rewriting.specs.Steps.{Step, inNoHead, condition, conditionHolds, applies, dropNeg, leftBy, effect}
 use Rattle.rewriting.specs.Runs.{leaves}
-use Rattle.rewriting.specs.Kinds.{Kind, tautology, contradiction, success, noHead, blocked, failure, loop, subsumed, impossible, rowOf, usesPartner, onTarget}
+use Rattle.rewriting.specs.Kinds.{Kind, tautology, contradiction, success, noHead, blocked, failure, loop, subsumed, excluded, rowOf, usesPartner, onTarget}
 use Rattle.rewriting.specs.Exclusion.{removal}
 use Rattle.rewriting.proofs.Left.{each-set, ClosedAt, closed-left}
 use Rattle.rewriting.proofs.Rows.{loops, succeeds}
@@ -44,7 +44,7 @@ strong blocked = true
 strong failure = false
 strong loop = false
 strong subsumed = true
-strong impossible = false
+strong excluded = false
 
 module _ (P : Marked) (t p a : ℕ) where
   -- questions 13, 14 and 16
@@ -70,7 +70,7 @@ module _ (P : Marked) (t p a : ℕ) where
   strong-same subsumed s (kt, u, h) M =
       let w = simp (and-iff, within-iff) at h in let v = partner-other P p t u in
       same-subsumed M P t p (v .1) (v .0) (w .0) (w .1 .0) (w .1 .1)
-  strong-same impossible s (kt, u, h) M = absurd (false≢true s)
+  strong-same excluded s (kt, u, h) M = absurd (false≢true s)
 
   by-kind : (k : Kind) → Ask k → (n : ℕ) (M : Atoms) → Stable (program n (left P)) M ↔ Stable (program n (After k)) M
   unfolding condition
@@ -85,7 +85,7 @@ module _ (P : Marked) (t p a : ℕ) where
   by-kind failure (kt, u, h) n M =
       let w = and-iff _ _ .0 h in let c = others-closed (left P) a (w .1) in
       same-without n (left P) (After failure) M (allBut a) a c (closed-deleted (allBut a) P t c) (others-not a) (λ o. same-outside M P t a o (mem-iff _ _ .0 (w .0)))
-  by-kind impossible (kt, u, h) n M = removal-sound n P t a kt h M
+  by-kind excluded (kt, u, h) n M = removal-sound n P t a kt h M
   by-kind loop (kt, u, h) n M =
       let w = loops (left P) (entry P t .clause) (entry P p .clause) a .0 h in
       same-without n (left P) (After loop) M (reach (left P)) a (reach-closed (left P)) (closed-deleted (reach (left P)) P t (reach-closed (left P))) (w .outside) (λ o. same-outside M P t a o (w .there))

@@ -12,7 +12,7 @@ use Rattle.semantics.proofs.Tests.{without-sub, and-iff, mem-iff, within-iff}
 use Rattle.rewriting.specs.Marked.{Entry, Marked, entry, left, deleted}
 use Rattle.rewriting.specs.Reaches.{reach}
 use Rattle.rewriting.specs.Steps.{Step, fact, inNoHead, condition, conditionHolds, applies, leftBy}
-use Rattle.rewriting.specs.Kinds.{Kind, tautology, contradiction, success, noHead, blocked, failure, loop, subsumed, impossible, Deed, deletes, dropsPos, dropsNeg, removes, atTarget, usesPartner}
+use Rattle.rewriting.specs.Kinds.{Kind, tautology, contradiction, success, noHead, blocked, failure, loop, subsumed, excluded, Deed, deletes, dropsPos, dropsNeg, removes, atTarget, usesPartner}
 use Rattle.rewriting.specs.Uses.{dropping}
 use Rattle.rewriting.proofs.Left.{left-each}
 use Rattle.rewriting.proofs.Reach.{inNoHead-iff}
@@ -67,7 +67,7 @@ Keeps blocked P Q p a = entry Q p ≡ entry P p
 Keeps failure P Q p a = So (inNoHead (left Q) a) → So (inNoHead (left P) a)
 Keeps loop P Q p a = So (reach (left P) a) → So (reach (left Q) a)
 Keeps subsumed P Q p a = entry Q p ≡ entry P p
-Keeps impossible P Q p a = ⊥
+Keeps excluded P Q p a = ⊥
 
 mem-more : (a : ℕ) (k l : List ℕ) → ((b : ℕ) → b ∈ k → b ∈ l) → So (mem a k) → So (mem a l)
 mem-more a k l f h = mem-iff a l .1 (f a (mem-iff a k .0 h))
@@ -109,7 +109,7 @@ module _ (P Q : Marked) (t p a : ℕ) (below : (i : ℕ) → Subclause (entry Q 
         and-iff _ _ .1
             (within-more (by .pos) (new .pos) (old .pos) (b .pos) (w .1 .0), within-more (by .neg) (new .neg) (old .neg) (b .neg) (w .1 .1)),
       )
-  condition-back impossible e h = absurd e
+  condition-back excluded e h = absurd e
 
 partner-back : (u : Bool) (P Q : Marked) (p t : ℕ) → Subclause (entry Q p) (entry P p)
     → So (cond u (entry Q p .kept && not (eqb p t)) (eqb p 0)) → So (cond u (entry P p .kept && not (eqb p t)) (eqb p 0))

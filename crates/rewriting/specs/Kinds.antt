@@ -3,7 +3,7 @@ use mathlib.Core.Bool.{Bool, true, false}
 use Prim.Native.Nat.{ℕ, zero, suc}
 
 pub data Kind : Type 0 where
-  tautology contradiction success noHead blocked failure loop subsumed impossible : Kind
+  tautology contradiction success noHead blocked failure loop subsumed excluded : Kind
 
 -- What a step does to its target: "delete", or "drop it" from the positive or the negative body; or, by slip 8, to every kept clause: it "deletes kept clauses with a in the positive
 -- body and drops a from the heads and negative bodies of the other kept ones".
@@ -44,7 +44,7 @@ rowOf blocked = row 5 true false deletes clausesAlone
 rowOf failure = row 6 false true deletes noKeptHead
 rowOf loop = row 7 false true deletes headAndReach
 rowOf subsumed = row 8 true false deletes clausesAlone
-rowOf impossible = row 9 false true removes consequence
+rowOf excluded = row 9 false true removes consequence
 
 abbrev pub number : Kind → ℕ
 number k = rowOf k .number
@@ -60,7 +60,7 @@ kindOf (suc (suc (suc (suc (suc zero))))) = blocked
 kindOf (suc (suc (suc (suc (suc (suc zero)))))) = failure
 kindOf (suc (suc (suc (suc (suc (suc (suc zero))))))) = loop
 kindOf (suc (suc (suc (suc (suc (suc (suc (suc zero)))))))) = subsumed
-kindOf (suc (suc (suc (suc (suc (suc (suc (suc (suc w))))))))) = impossible
+kindOf (suc (suc (suc (suc (suc (suc (suc (suc (suc w))))))))) = excluded
 
 abbrev pub usesPartner : Kind → Bool
 usesPartner k = rowOf k .partner

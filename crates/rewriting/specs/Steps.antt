@@ -8,7 +8,7 @@ use Rattle.semantics.specs.Lists.{any, null, single, mem, within, without}
 use Rattle.semantics.specs.Programs.{Clause}
 use Rattle.rewriting.specs.Marked.{Entry, Marked, entry, left, deleted}
 use Rattle.rewriting.specs.Reaches.{reach}
-use Rattle.rewriting.specs.Kinds.{Kind, tautology, contradiction, success, noHead, blocked, failure, loop, subsumed, impossible, Deed, deletes, dropsPos, dropsNeg, removes, rowOf, number, usesPartner, usesAtom, onTarget}
+use Rattle.rewriting.specs.Kinds.{Kind, tautology, contradiction, success, noHead, blocked, failure, loop, subsumed, excluded, Deed, deletes, dropsPos, dropsNeg, removes, rowOf, number, usesPartner, usesAtom, onTarget}
 use Rattle.rewriting.specs.Exclusion.{excludes, lacking, removal}
 
 -- "A list is a slice of words, four a step: kind, target, partner, atom."
@@ -54,7 +54,7 @@ condition blocked cs c d a = fact d && within (d .head) (c .neg)
 condition failure cs c d a = mem a (c .pos) && inNoHead cs a
 condition loop cs c d a = mem a (c .pos) && (headed loop cs a && not (reach cs a))
 condition subsumed cs c d a = within (d .head) (c .head) && (within (d .pos) (c .pos) && within (d .neg) (c .neg))
-condition impossible cs c d a = excludes cs c a
+condition excluded cs c d a = excludes cs c a
 
 -- 13 "Is the target below m and kept?"
 abbrev pub targetKept : Marked → Step → Bool

@@ -7,7 +7,7 @@ use native.Mathlib.Omega.{arith}
 use native.Mathlib.Decide.{ℕ-discrete}
 use Rattle.rewriting.specs.Marked.{Marked}
 use Rattle.rewriting.specs.Steps.{Step}
-use Rattle.rewriting.specs.Kinds.{kindOf, impossible}
+use Rattle.rewriting.specs.Kinds.{kindOf, excluded}
 use Rattle.rewriting.specs.Search.{least, firstTarget, firstStep}
 use Rattle.rewriting.proofs.Quiet.{least-none, least-some}
 use Rattle.step_conditions.specs.declared.Step as row
@@ -46,10 +46,10 @@ pub flagged-found : (n : ℕ) (P : Marked) (f : Found) → f ≡ foundOf (firstF
 unfolding foundOf firstFlagged firstStep least
 flagged-found n P f e d = go (firstFlagged n P) e
   where
-    go : (x : Option Step) → f ≡ foundOf x → f ≡ foundOf (elim x [ none ↦ firstTarget n P impossible | some s ↦ some s ])
+    go : (x : Option Step) → f ≡ foundOf x → f ≡ foundOf (elim x [ none ↦ firstTarget n P excluded | some s ↦ some s ])
     go none h = absurd (d h)
     go (some s) h = h
 
-pub flagged-none : (n : ℕ) (P : Marked) (f : Found) → Nothing ≡ foundOf (firstFlagged n P) → f ≡ foundOf (firstTarget n P impossible) → f ≡ foundOf (firstStep n P)
+pub flagged-none : (n : ℕ) (P : Marked) (f : Found) → Nothing ≡ foundOf (firstFlagged n P) → f ≡ foundOf (firstTarget n P excluded) → f ≡ foundOf (firstStep n P)
 unfolding firstFlagged firstStep least
-flagged-none n P f e q = q ∙ sym (ap (λ x. foundOf (elim x [ none ↦ firstTarget n P impossible | some s ↦ some s ])) (found-nothing (firstFlagged n P) e))
+flagged-none n P f e q = q ∙ sym (ap (λ x. foundOf (elim x [ none ↦ firstTarget n P excluded | some s ↦ some s ])) (found-nothing (firstFlagged n P) e))

@@ -2,7 +2,7 @@
 ghost use mathlib.Core.Path.{_≡_};
 ghost use Prim.Native.Nat.{_≤_};
 ghost use lib.ListN.{length, getD};
-ghost use Rattle.rewriting.specs.Kinds.{kindOf, impossible};
+ghost use Rattle.rewriting.specs.Kinds.{kindOf, excluded};
 ghost use Rattle.table.specs.View.{view};
 ghost use Rattle.search_flags.specs.Flags.{Inside};
 ghost use Rattle.rewriting.specs.Search.{firstTarget, firstStep};
@@ -95,7 +95,7 @@ fn first_flagged(
 // The smallest step of kind 9.
 fn first_excluded(words: &[u16], marks: &[u8], index: &[u16], idle: &mut [u8]) -> Found
     requires { ⌜ (Ready (now words) (now marks) (now index)) × ((2048 ≤ length (now idle)) × (Idle (getD (now words) 0 0) (view (now words) (now marks)) (now idle))) ⌝ }
-    ensures { λ r. ⌜ (r ≡ foundOf (firstTarget (getD (now (words .entry)) 0 0) (view (now (words .entry)) (now (marks .entry))) impossible)) × (Idle (getD (now (words .entry)) 0 0) (view (now (words .entry)) (now (marks .entry))) (now (idle .exit))) ⌝ }
+    ensures { λ r. ⌜ (r ≡ foundOf (firstTarget (getD (now (words .entry)) 0 0) (view (now (words .entry)) (now (marks .entry))) excluded)) × (Idle (getD (now (words .entry)) 0 0) (view (now (words .entry)) (now (marks .entry))) (now (idle .exit))) ⌝ }
 {
     match search_exclusion::first_exclusion(words, marks, index, idle) {
         Pick::One(t, a) => Found::One(Step::new(9, t, 0, a)),

@@ -12,7 +12,7 @@ use Rattle.rewriting.specs.Reaches.{fire, reachFrom, reach}
 use Rattle.rewriting.specs.Consequences.{consequences}
 use Rattle.rewriting.specs.Exclusion.{excludes, removal}
 use Rattle.rewriting.specs.Steps.{Step, step, condition, conditionHolds, applies, effect}
-use Rattle.rewriting.specs.Kinds.{impossible}
+use Rattle.rewriting.specs.Kinds.{excluded}
 use Rattle.shell_choices.specs.Stable.{Context, StableIn}
 use Rattle.shell_choices.proofs.Members.{when}
 use Rattle.shell_guards.specs.Guards.{HeadsIn, guards, guarded, clausesBelow}
@@ -27,7 +27,7 @@ table = whole (guarded 1 (when [] (0 ∷ []) [] ∷ []) (0 ∷ []))
 
 -- the target is the constraint, the atom 0
 abbrev ninth : Step
-ninth = step impossible 0 0 0
+ninth = step excluded 0 0 0
 
 -- The context's heads are guarded and the step of kind 9 applies, yet a set is stable within the context for what is left and was not before.
 pub record NinthBreaks : Type 0 where

@@ -11,19 +11,20 @@ use Rattle.semantics.proofs.Models.{All, Models, Same, same-sym}
 use Rattle.rewriting.specs.Marked.{Marked, entry, left}
 use Rattle.rewriting.specs.Reaches.{reach}
 use Rattle.rewriting.specs.Steps.{Step, applies, effect}
-use Rattle.rewriting.specs.Runs.{leaves}
+use Rattle.rewriting.specs.Runs.{leaves, withoutNine}
 use Rattle.rewriting.specs.Kinds.{onTarget}
 use Rattle.rewriting.proofs.Left.{left-each}
 use Rattle.rewriting.proofs.Reach.{reach-closed}
 use Rattle.rewriting.proofs.Subclauses.{Subclause, below-same}
 use Rattle.rewriting.proofs.Effect.{reach-fires, effect-below}
+use Rattle.rewriting.proofs.BeforeNine.{without-nine}
 use Rattle.shell_choices.specs.Stable.{Context, StableIn}
 use Rattle.shell_choices.specs.Translation.{OverClause}
 use Rattle.shell_choices.proofs.Members.{in-iff}
 use Rattle.shell_choices.proofs.Below.{agree-sym, models-agree, split, split-low, split-high, split-within}
-use Rattle.shell_guards.specs.Guards.{HeadsIn, headBelow, clausesBelow, withoutNine}
+use Rattle.shell_guards.specs.Guards.{HeadsIn, headBelow, clausesBelow}
 use Rattle.shell_guards.proofs.Within.{same-in, in-within}
-use Rattle.shell_guards.proofs.Steps.{step-same, reach-back, fact-pos, without-nine}
+use Rattle.shell_guards.proofs.Steps.{step-same, reach-back, fact-pos}
 use Rattle.shell_guards.proofs.Guards.{Guarded, head-high, head-before, guarded-step, heads-reached}
 
 pub below-of : (n : ℕ) (ds : List Clause) (c : Clause) → (c ∈ clausesBelow n ds) ↔ ((c ∈ ds) × So (headBelow n c))

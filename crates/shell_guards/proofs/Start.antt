@@ -10,13 +10,13 @@ use Rattle.semantics.specs.Programs.{Clause, Atoms}
 use Rattle.semantics.proofs.Tests.{not-iff, any-iff, mem-iff, so-by, so-false}
 use Rattle.rewriting.specs.Marked.{Entry, Marked, entry, left, whole}
 use Rattle.rewriting.specs.Steps.{Step, step, fact, inNoHead, condition, conditionHolds, applies}
-use Rattle.rewriting.specs.Runs.{accepted, leaves}
+use Rattle.rewriting.specs.Runs.{accepted, leaves, withoutNine}
 use Rattle.rewriting.specs.Kinds.{noHead, failure, subsumed}
 use Rattle.rewriting.proofs.Left.{left-each, left-whole}
 use Rattle.shell_choices.specs.Stable.{Context, StableIn}
 use Rattle.shell_choices.specs.Translation.{OverClause}
 use Rattle.shell_choices.proofs.Members.{when}
-use Rattle.shell_guards.specs.Guards.{HeadsIn, guardOf, guards, guarded, inBody, headBelow, clausesBelow, withoutNine}
+use Rattle.shell_guards.specs.Guards.{HeadsIn, guardOf, guards, guarded, inBody, headBelow, clausesBelow}
 use Rattle.shell_guards.proofs.Steps.{HasFact}
 use Rattle.shell_guards.proofs.Guards.{Guard, Guarded, head-below-iff}
 use Rattle.shell_guards.proofs.Sound.{list-in}

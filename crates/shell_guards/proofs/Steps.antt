@@ -13,16 +13,16 @@ use Rattle.semantics.proofs.Models.{Same}
 use Rattle.rewriting.specs.Marked.{Entry, Marked, entry, left}
 use Rattle.rewriting.specs.Reaches.{reach}
 use Rattle.rewriting.specs.Steps.{Step, fact, inNoHead, condition, applies, leftBy, effect}
-use Rattle.rewriting.specs.Runs.{accepted, leaves}
-use Rattle.rewriting.specs.Kinds.{Kind, tautology, contradiction, success, noHead, blocked, failure, loop, subsumed, impossible, rowOf, usesPartner, onTarget}
+use Rattle.rewriting.specs.Runs.{leaves, withoutNine}
+use Rattle.rewriting.specs.Kinds.{Kind, tautology, contradiction, success, noHead, blocked, failure, loop, subsumed, excluded, rowOf, usesPartner, onTarget}
 use Rattle.rewriting.specs.Uses.{drops}
 use Rattle.rewriting.proofs.Rows.{succeeds, loops}
 use Rattle.rewriting.proofs.ByKind.{same-outside, same-dropNeg}
 use Rattle.rewriting.proofs.Reach.{bare-out}
 use Rattle.rewriting.proofs.Sound.{strong, strong-same, applies-ask}
 use Rattle.rewriting.proofs.Subclauses.{Subclause, below-same}
+use Rattle.rewriting.proofs.BeforeNine.{without-nine}
 use Rattle.rewriting.proofs.Effect.{effect-on, asks, target-kept, partner-asked, at-other, effect-below, reach-less, drop-reach}
-use Rattle.shell_guards.specs.Guards.{withoutNine, beforeNine}
 
 -- ---- models
 
@@ -48,7 +48,7 @@ module _ (P : Marked) (U : Atoms) (no-body : NoBody U P) (M : Atoms) (sub : Subs
   weak-same success o s h = absurd (s refl)
   weak-same blocked o s h = absurd (s refl)
   weak-same subsumed o s h = absurd (s refl)
-  weak-same impossible o s h = absurd (false≢true o)
+  weak-same excluded o s h = absurd (false≢true o)
 
 -- A step keeps the models below every set whose atoms are in the reach, or in no body.
 pub step-same : (m : ℕ) (P : Marked) (s : Step) → So (applies m P s) → So (onTarget (s .kind)) → (U : Atoms) → NoBody U P → (M : Atoms) → Subset M (λ a. reach (left P) a || U a) → Same M (left P) (left (effect P s))
@@ -97,7 +97,7 @@ fact-partner contradiction o cs c d a f h = absurd (fact-pos c f a (mem-iff _ _ 
 fact-partner noHead o cs c d a f h = absurd (fact-neg c f a (mem-iff _ _ .0 (and-iff (mem a (c .neg)) _ .0 h .0)))
 fact-partner failure o cs c d a f h = absurd (fact-pos c f a (mem-iff _ _ .0 (and-iff (mem a (c .pos)) _ .0 h .0)))
 fact-partner loop o cs c d a f h = absurd (fact-pos c f a (loops cs c d a .0 h .there))
-fact-partner impossible o cs c d a f h = absurd (false≢true o)
+fact-partner excluded o cs c d a f h = absurd (false≢true o)
 
 -- a kept fact whose head atoms are all in the list
 pub record HasFact (P : Marked) (l : List ℕ) : Type 0 where
@@ -137,29 +137,6 @@ no-body-below U P Q b h i k a m = h i (b i .kept k) a (⊎-elim
     (λ q. Memᴰ·append-right (entry P i .clause .pos) (b i .neg a q)) (List·Memᴰ·append-cases (entry Q i .clause .pos) m))
 
 -- ---- lists
-
-pub without-nine : (s : Step) (l : List Step) → So (withoutNine (s ∷ l)) → So (onTarget (s .kind)) × So (withoutNine l)
-without-nine s l h = and-iff (onTarget (s .kind)) (withoutNine l) .0 h
-
--- a list that is cut before its first step of kind 9 has none
-pub before-nine : (l : List Step) → So (withoutNine (beforeNine l))
-unfolding beforeNine
-before-nine [] = refl
-before-nine (s ∷ l) = go (onTarget (s .kind)) refl (before-nine l)
-  where
-    go : (t : Bool) → onTarget (s .kind) ≡ t → So (withoutNine (beforeNine l)) → So (withoutNine (cond t (s ∷ beforeNine l) []))
-    go true e r = and-iff (onTarget (s .kind)) (withoutNine (beforeNine l)) .1 (e, r)
-    go false e r = refl
-
--- and is accepted where the whole list is
-pub cut-accepted : (m : ℕ) (P : Marked) (l : List Step) → So (accepted m P l) → So (accepted m P (beforeNine l))
-unfolding accepted beforeNine
-cut-accepted m P [] h = refl
-cut-accepted m P (s ∷ l) h = let w = and-iff (applies m P s) (accepted m (effect P s) l) .0 h in go (onTarget (s .kind)) (w .0) (cut-accepted m (effect P s) l (w .1))
-  where
-    go : (t : Bool) → So (applies m P s) → So (accepted m (effect P s) (beforeNine l)) → So (accepted m P (cond t (s ∷ beforeNine l) []))
-    go true e r = and-iff (applies m P s) (accepted m (effect P s) (beforeNine l)) .1 (e, r)
-    go false e r = refl
 
 -- A list of steps without kind 9 leaves of each clause no more than there was.
 pub below-list : (m : ℕ) (P : Marked) (l : List Step) → So (withoutNine l) → (i : ℕ) → Subclause (entry (leaves m P l) i) (entry P i)

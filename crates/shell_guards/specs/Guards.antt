@@ -39,14 +39,3 @@ headBelow n c = all (λ a. ltb a n) (c .head)
 -- the clauses without the guards
 unfoldable pub clausesBelow : ℕ → List Clause → List Clause
 clausesBelow n cs = keep (headBelow n) cs
-
--- ---- kind 9
-
--- no step of kind 9, the one kind that does not work on its target alone: it is not right within a context (`proofs/Ninth`)
-abbrev pub withoutNine : List Step → Bool
-withoutNine l = all (λ s. onTarget (s .kind)) l
-
--- the list up to its first step of kind 9, which is where it is cut when rules are led past the table
-unfoldable pub beforeNine : List Step → List Step
-beforeNine [] = []
-beforeNine (s ∷ l) = cond (onTarget (s .kind)) (s ∷ beforeNine l) []

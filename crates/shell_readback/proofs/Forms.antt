@@ -14,7 +14,7 @@ use Rattle.rewriting.specs.Marked.{Entry, left, whole}
 use Rattle.rewriting.specs.Reaches.{fire, reachFrom, reach}
 use Rattle.rewriting.specs.Consequences.{consequences}
 use Rattle.rewriting.specs.Exclusion.{excludes, removal}
-use Rattle.rewriting.specs.Kinds.{impossible}
+use Rattle.rewriting.specs.Kinds.{excluded}
 use Rattle.rewriting.specs.Steps.{Step, step, condition, conditionHolds, applies, effect}
 use Rattle.rewriting.specs.Runs.{accepted, leaves}
 use Rattle.shell_choices.specs.Translation.{Numbered, numbered, disjunction, translated, OverClause, OverChoice}
@@ -30,27 +30,27 @@ use Rattle.shell_readback.proofs.Parts.{Part}
 -- ---- at work
 
 -- {0} <- 1. 1. <- 0. over two atoms
-abbrev excluded : List Clause
-excluded = translated 2 (when (1 ∷ []) [] [] ∷ when [] (0 ∷ []) [] ∷ []) (may 0 (1 ∷ []) [] ∷ [])
+abbrev banned : List Clause
+banned = translated 2 (when (1 ∷ []) [] [] ∷ when [] (0 ∷ []) [] ∷ []) (may 0 (1 ∷ []) [] ∷ [])
 
 -- the constraint excludes 0: the choice loses its atom, "2 <- 1" is left of it, and is left out
 abbrev nine : List Step
-nine = step impossible 1 0 0 ∷ []
+nine = step excluded 1 0 0 ∷ []
 
-nine-accepted : accepted 3 (whole excluded) nine ≡ true
+nine-accepted : accepted 3 (whole banned) nine ≡ true
 unfolding left fire reachFrom reach consequences excludes condition conditionHolds applies accepted numbered translated
 nine-accepted = refl
 
-nine-left : left (leaves 3 (whole excluded) nine) ≡ when (1 ∷ []) [] [] ∷ when (2 ∷ []) (1 ∷ []) [] ∷ []
+nine-left : left (leaves 3 (whole banned) nine) ≡ when (1 ∷ []) [] [] ∷ when (2 ∷ []) (1 ∷ []) [] ∷ []
 unfolding left fire reachFrom reach consequences excludes removal condition conditionHolds applies effect leaves numbered translated
 nine-left = refl
 
-nine-told : told 2 (left (leaves 3 (whole excluded) nine)) ≡ when (1 ∷ []) [] [] ∷ []
+nine-told : told 2 (left (leaves 3 (whole banned) nine)) ≡ when (1 ∷ []) [] [] ∷ []
 unfolding left fire reachFrom reach consequences excludes removal condition conditionHolds applies effect leaves numbered translated told
 nine-told = refl
 
 -- {0}. 1. <- 1. over two atoms: the constraint excludes every atom, the fresh one too; the choice loses it, and the clause "0." is left
-fresh-excluded : clausesBelow 2 (told 2 (left (leaves 3 (whole (translated 2 (when (1 ∷ []) [] [] ∷ when [] (1 ∷ []) [] ∷ []) (may 0 [] [] ∷ []))) (step impossible 1 0 2 ∷ []))))
+fresh-excluded : clausesBelow 2 (told 2 (left (leaves 3 (whole (translated 2 (when (1 ∷ []) [] [] ∷ when [] (1 ∷ []) [] ∷ []) (may 0 [] [] ∷ []))) (step excluded 1 0 2 ∷ []))))
     ≡ when (1 ∷ []) [] [] ∷ when [] (1 ∷ []) [] ∷ when (0 ∷ []) [] [] ∷ []
 unfolding left fire reachFrom reach consequences excludes removal condition conditionHolds applies effect leaves numbered translated told clausesBelow
 fresh-excluded = refl

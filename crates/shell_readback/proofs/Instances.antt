@@ -14,11 +14,11 @@ use Rattle.semantics.proofs.Decide.{map-of}
 use Rattle.rewriting.specs.Marked.{Marked, left, whole}
 use Rattle.rewriting.specs.Exclusion.{occurs}
 use Rattle.rewriting.specs.Steps.{Step}
-use Rattle.rewriting.specs.Runs.{leaves}
+use Rattle.rewriting.specs.Runs.{leaves, withoutNine}
 use Rattle.shell_choices.specs.Stable.{Choice, Context, free, StableWith, StableChoice}
 use Rattle.shell_choices.specs.Translation.{numbered, disjunction, translated, Over}
 use Rattle.shell_choices.proofs.Fresh.{numbered-low}
-use Rattle.shell_guards.specs.Guards.{HeadsIn, guards, guarded, headBelow, clausesBelow, withoutNine}
+use Rattle.shell_guards.specs.Guards.{HeadsIn, guards, guarded, headBelow, clausesBelow}
 use Rattle.shell_guards.specs.Contexts.{Rules, Clauses, WeightRule, Both, Outside}
 use Rattle.shell_guards.proofs.Guards.{head-below-iff}
 use Rattle.shell_guards.proofs.Start.{append-nil, below-append}

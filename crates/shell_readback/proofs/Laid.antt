@@ -10,11 +10,11 @@ use Rattle.semantics.specs.Programs.{Clause, Atoms}
 use Rattle.semantics.proofs.Tests.{and-iff, not-iff, so-by}
 use Rattle.rewriting.specs.Marked.{Entry, Marked, entry, whole}
 use Rattle.rewriting.specs.Steps.{Step, fact}
-use Rattle.rewriting.specs.Runs.{leaves}
+use Rattle.rewriting.specs.Runs.{leaves, withoutNine}
 use Rattle.rewriting.proofs.Left.{left-each, left-whole}
 use Rattle.shell_choices.specs.Stable.{Context}
 use Rattle.shell_choices.specs.Translation.{OverClause}
-use Rattle.shell_guards.specs.Guards.{HeadsIn, guardOf, inBody, headBelow, withoutNine}
+use Rattle.shell_guards.specs.Guards.{HeadsIn, guardOf, inBody, headBelow}
 use Rattle.shell_guards.proofs.Guards.{Guard, Guarded, head-below-iff}
 use Rattle.shell_guards.proofs.Start.{body-in, whole-at, fact-at}
 use Rattle.shell_readback.specs.Readback.{isChoice, StableRead, StableLeft}

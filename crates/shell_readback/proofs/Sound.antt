@@ -7,12 +7,12 @@ use Prim.Native.Nat.{ℕ}
 use Rattle.semantics.specs.Programs.{Clause, Atoms}
 use Rattle.rewriting.specs.Marked.{Marked, left}
 use Rattle.rewriting.specs.Steps.{Step}
-use Rattle.rewriting.specs.Runs.{leaves}
+use Rattle.rewriting.specs.Runs.{leaves, withoutNine}
 use Rattle.shell_choices.specs.Stable.{Context, StableWith, StableIn}
 use Rattle.shell_choices.specs.Translation.{restrict, lifted, Exact}
 use Rattle.shell_choices.proofs.Below.{restrict-iff}
 use Rattle.shell_choices.proofs.Exact.{reads-exact}
-use Rattle.shell_guards.specs.Guards.{HeadsIn, clausesBelow, withoutNine}
+use Rattle.shell_guards.specs.Guards.{HeadsIn, clausesBelow}
 use Rattle.shell_guards.proofs.Guards.{Guarded}
 use Rattle.shell_guards.proofs.Steps.{below-list}
 use Rattle.shell_guards.proofs.Sound.{list-in}

@@ -11,12 +11,12 @@ use Rattle.semantics.specs.Programs.{Clause, Atoms}
 use Rattle.semantics.proofs.Decide.{map-mem, map-of}
 use Rattle.rewriting.specs.Marked.{Marked, entry, left, whole}
 use Rattle.rewriting.specs.Steps.{Step}
-use Rattle.rewriting.specs.Runs.{leaves}
+use Rattle.rewriting.specs.Runs.{leaves, withoutNine}
 use Rattle.shell_choices.specs.Stable.{Choice, Context, StableWith, StableIn}
 use Rattle.shell_choices.specs.Translation.{Numbered, numbered, disjunction, translated, OverClause, OverChoice, Over, lifted, Exact}
 use Rattle.shell_choices.proofs.Fresh.{numbered-low, numbered-high, numbered-choices}
 use Rattle.shell_choices.proofs.Exact.{choices-exact-in}
-use Rattle.shell_guards.specs.Guards.{HeadsIn, guardOf, guards, guarded, inBody, clausesBelow, withoutNine}
+use Rattle.shell_guards.specs.Guards.{HeadsIn, guardOf, guards, guarded, inBody, clausesBelow}
 use Rattle.shell_guards.proofs.Start.{guards-of, guard-found, body-in, in-body, guards-sound}
 use Rattle.shell_readback.specs.Readback.{table, StableLeft}
 use Rattle.shell_readback.specs.Laid.{ClauseForm, plain, choice, guard, Laid}

@@ -11,11 +11,11 @@ use lib.Dec.{eqb}
 use lib.ListN.{length, getD, set, take, length-set, length-take}
 use lib.Seq.{getD-set-same, getD-set-other, take-set-lt, getD-take}
 use borrow.Author.Tests.{eqb-true, eqb-false, eq-eqb, ne-eqb}
-use Rattle.semantics.specs.Lists.{_∈_, all, count, bit, without}
+use Rattle.semantics.specs.Lists.{_∈_, count, bit, without}
 use Rattle.semantics.proofs.Tests.{and-iff, without-none, so-dec, so-false}
 use Rattle.rewriting.specs.Marked.{Entry, entry, left, deleted}
 use Rattle.rewriting.specs.Steps.{Step, condition, applies, dropPos, dropNeg, leftBy, effect}
-use Rattle.rewriting.specs.Runs.{accepted, leaves}
+use Rattle.rewriting.specs.Runs.{accepted, leaves, withoutNine}
 use Rattle.rewriting.specs.Kinds.{Deed, deletes, dropsPos, dropsNeg, removes, atTarget, rowOf, onTarget}
 use Rattle.rewriting.proofs.Left.{kept-lt}
 use Rattle.rewriting.proofs.Rows.{There, drops-there, not-on-target}
@@ -267,7 +267,7 @@ length-after w k s = by-cases (so-dec (onTarget (s .kind))) (λ q. ap length (af
 
 -- The marks after an accepted list leave what the list leaves, and each step has set at least one more to 0: exactly one, where kind 9 is not among the steps.
 pub view-afterAll : (n : ℕ) (w k : List ℕ) (l : List Step) → Passed w → length w ≤ length k → So (accepted n (view w k) l)
-    → (view w (marksAfterAll w k l) ≡ leaves n (view w k) l) × (length l + zeros w k ≤ zeros w (marksAfterAll w k l)) × (So (all (λ s. onTarget (s .kind)) l) → zeros w (marksAfterAll w k l) ≡ length l + zeros w k)
+    → (view w (marksAfterAll w k l) ≡ leaves n (view w k) l) × (length l + zeros w k ≤ zeros w (marksAfterAll w k l)) × (So (withoutNine l) → zeros w (marksAfterAll w k l) ≡ length l + zeros w k)
 unfolding marksAfterAll accepted leaves
 view-afterAll n w k [] p b h = (refl, omega arith, λ _. omega arith)
 view-afterAll n w k (s ∷ l) p b h =
@@ -276,5 +276,5 @@ view-afterAll n w k (s ∷ l) p b h =
     let r = view-afterAll n w (marksAfter w k s) l p (omega (arith, length-after w k s)) (rw e (v .1)) in (
       rw (v .0) (r .0 ∙ ap (λ P. leaves n P l) e),
       omega (arith, zeros-more w k p b n s (v .0), r .1),
-      λ q. let o = and-iff (onTarget (s .kind)) (all (λ s. onTarget (s .kind)) l) .0 q in omega (arith, zeros-after w k p b n s (o .0) (v .0), r .2 (o .1)),
+      λ q. let o = and-iff (onTarget (s .kind)) (withoutNine l) .0 q in omega (arith, zeros-after w k p b n s (o .0) (v .0), r .2 (o .1)),
     )
