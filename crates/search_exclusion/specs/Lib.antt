@@ -1,2 +1,3 @@
 pub mod Smallest
 pub mod Tries
+pub mod Forgets

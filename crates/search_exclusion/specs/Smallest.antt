@@ -5,7 +5,6 @@ use mathlib.Core.List.{List}
 use Prim.Native.Nat.{ℕ, _≤_, _<_}
 use Rattle.semantics.specs.Lists.{null}
 use Rattle.rewriting.specs.Marked.{Marked, entry, left}
-use Rattle.rewriting.specs.Consequences.{definite}
 use Rattle.rewriting.specs.Exclusion.{excludes}
 use Rattle.step_reach.specs.Bytes.{inBytes}
 use Rattle.search_exclusion.specs.declared.Pick.{Pick}
@@ -33,7 +32,3 @@ pub record Idle (n : ℕ) (P : Marked) (s : List ℕ) : Type 0 where
   pub headless : (t : ℕ) → So (inBytes s t) → So (entry P t .kept) → So (null (entry P t .clause .head))
   pub positive : (t : ℕ) → So (inBytes s t) → So (entry P t .kept) → So (null (entry P t .clause .neg))
   pub none : (t a : ℕ) → So (inBytes s t) → ¬ Excluding n P t a
-
--- Each kept clause of Q with one head atom and no negative atoms was so in P.
-pub record NoneDefinite (P Q : Marked) : Type 0 where
-  pub was : (i : ℕ) → So (entry Q i .kept) → So (definite (entry Q i .clause)) → So (definite (entry P i .clause))

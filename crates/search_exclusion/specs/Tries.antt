@@ -8,7 +8,6 @@ use lib.ListN.{length}
 use Rattle.semantics.specs.Lists.{all}
 use Rattle.semantics.specs.Programs.{Atoms}
 use Rattle.rewriting.specs.Marked.{Entry, Marked, entry}
-use Rattle.rewriting.specs.Consequences.{definite}
 use Rattle.rewriting.specs.Exclusion.{plainConstraint}
 use Rattle.step_reach.specs.Bytes.{inBytes}
 use Rattle.search_exclusion.specs.declared.Best.{Best}
@@ -64,7 +63,3 @@ pub record Answers (m : ℕ) (best : Best) (r : Pick) : Type 0 where
 -- A byte at 1 was so before, or is one of the other set before the end.
 pub record Remembered (can : List ℕ) (end : ℕ) (s s′ : List ℕ) : Type 0 where
   pub is : (t : ℕ) → So (inBytes s′ t) → So (inBytes s t) ⊎ ((t < end) × So (inBytes can t))
-
--- The clause is kept and has one head atom and no negative atoms, and was not so before.
-abbrev pub gotDefinite : Entry → Entry → Bool
-gotDefinite e d = d .kept && (definite (d .clause) && not (definite (e .clause)))
