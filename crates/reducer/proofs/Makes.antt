@@ -1,15 +1,14 @@
 -- A step that was found is made: what it leaves of the marks, and of the constraints that exclude no atom.
 use mathlib.Core.Path.{_≡_, refl, sym, subst, _∙_}
 use mathlib.Core.Logic.{_≢_}
-use mathlib.Core.Bool.{So}
 use mathlib.Core.List.{List}
-use Prim.Native.Nat.{ℕ, _<_}
+use Prim.Native.Nat.{ℕ}
 use native.Mathlib.Omega.{arith}
-use lib.ListN.{length, getD}
+use lib.ListN.{getD}
+use Rattle.semantics.specs.Programs.{Atoms}
 use Rattle.rewriting.specs.Marked.{entry}
 use Rattle.rewriting.specs.Kinds.{number}
 use Rattle.rewriting.specs.Steps.{effect}
-use Rattle.rewriting.specs.Consequences.{definite}
 use Rattle.rewriting.proofs.Rows.{kindOf-on-target}
 use Rattle.table.specs.View.{view}
 use Rattle.table.specs.Clearing.{marksWithout}
@@ -21,6 +20,8 @@ use Rattle.step_conditions.specs.declared.Step.{Step}
 use Rattle.step_conditions.specs.Known.{stepOf}
 use Rattle.search_openings.specs.Opened.{StepMade}
 use Rattle.search_exclusion.specs.Smallest.{Idle}
+use Rattle.search_exclusion.specs.Forgets.{Heads, Forgets}
+use Rattle.search_exclusion.proofs.Forgets.{forgets-none, forgets-as}
 use Rattle.search_exclusion.proofs.Stays.{idle-effect}
 use Rattle.reducer.specs.Runs.{StepFound}
 
@@ -40,13 +41,16 @@ module _ (ws ms index ms′ : List ℕ) (r : Ready ws ms index) (s : Step) (f : 
   four q = sym (kind-number (s .kind) (f .low) (f .high)) ∙ q
 
   module _ (x : List ℕ) (i : Idle (getD ws 0 0) (view ws ms) x) where
-    -- where kind 4 leaves no definite clause
-    idle-dropped : (s .kind ≡ 4 → ¬ So (definite (entry (view ws ms′) (s .target) .clause))) → Idle (getD ws 0 0) (view ws ms′) x
-    idle-dropped h = subst (λ P. Idle (getD ws 0 0) P x) (sym is-effect)
-        (idle-effect (getD ws 0 0) (view ws ms) (stepOf s) (f .applies) (kindOf-on-target (s .kind) (f .high)) (λ q. subst (λ P. ¬ So (definite (entry P (s .target) .clause))) is-effect (h (four q))) x i)
+    -- what kind 4 may have made definite, and no other kind
+    abbrev Dropped : Atoms → Type 0
+    Dropped F = number (stepOf s .kind) ≡ 4 → Heads F (entry (effect (view ws ms) (stepOf s)) (s .target))
+
+    made : (y : List ℕ) → Forgets Dropped (effect (view ws ms) (stepOf s)) x y → Idle (getD ws 0 0) (view ws ms′) y
+    made y g = subst (λ P. Idle (getD ws 0 0) P y) (sym is-effect) (idle-effect (getD ws 0 0) (view ws ms) (stepOf s) (f .applies) (kindOf-on-target (s .kind) (f .high)) x y g i)
 
     pub idle-made : s .kind ≢ 4 → Idle (getD ws 0 0) (view ws ms′) x
-    idle-made d = idle-dropped (λ q. absurd (d q))
+    idle-made d = made x (forgets-none Dropped _ x (λ q. absurd (d (four q))))
 
-    pub idle-four : (t : ℕ) → t ≡ s .target → ¬ So (definite (entry (view ws ms′) t .clause)) → Idle (getD ws 0 0) (view ws ms′) x
-    idle-four t q h = idle-dropped (λ _. subst (λ u. ¬ So (definite (entry (view ws ms′) u .clause))) q h)
+    pub idle-four : (t : ℕ) (y : List ℕ) → t ≡ s .target → Forgets (λ F. Heads F (entry (view ws ms′) t)) (view ws ms′) x y → Idle (getD ws 0 0) (view ws ms′) y
+    idle-four t y q g = made y (forgets-as (λ F. Heads F (entry (effect (view ws ms) (stepOf s)) (s .target))) Dropped _ x y (λ F h _. h)
+        (subst (λ u. Forgets (λ F. Heads F (entry (effect (view ws ms) (stepOf s)) u)) (effect (view ws ms) (stepOf s)) x y) q (subst (λ P. Forgets (λ F. Heads F (entry P t)) P x y) is-effect g)))

@@ -6,14 +6,11 @@ ghost use Prim.Native.Nat.{_+_, _*_, _≤_, _<_};
 ghost use lib.ListN.{length, getD, replicate};
 ghost use lib.Seq.{sets};
 ghost use mathlib.Core.List.{_∷_, []};
-ghost use mathlib.Core.Bool.{So};
 ghost use Rattle.rewriting.specs.Marked.{entry};
-ghost use Rattle.rewriting.specs.Consequences.{definite};
 ghost use Rattle.table.specs.Questions.{Passed};
 ghost use Rattle.table.specs.View.{view};
 ghost use Rattle.table.specs.Clearing.{marksWithout};
 ghost use Rattle.table.specs.Effects.{marksAfter};
-ghost use Rattle.step_parts.specs.Parts.{Ready};
 ghost use Rattle.step_conditions.specs.Known.{stepOf};
 ghost use Rattle.search_exclusion.specs.Smallest.{Idle};
 ghost use Rattle.search_keys.specs.State.{State};
@@ -85,16 +82,6 @@ fn exclude(
     flag_kinds(flags, m);
 }
 
-// The constraints that exclude no atom, after a step of kind 4 at clause t: none is known where it is definite now.
-fn forget_drop(words: &[u16], marks: &[u8], index: &[u16], idle: &mut [u8], t: usize)
-    requires { ⌜ (Ready (now words) (now marks) (now index)) × ((t < getD (now words) 1 0) × (¬ So (definite (entry (view (now words) (now marks)) t .clause)) → Idle (getD (now words) 0 0) (view (now words) (now marks)) (now idle))) ⌝ }
-    ensures { λ _. ⌜ Idle (getD (now (words .entry)) 0 0) (view (now (words .entry)) (now (marks .entry))) (now (idle .exit)) ⌝ }
-{
-    if step_exclusion::is_definite(words, marks, index, t) {
-        step_reach::clear(idle);
-    }
-}
-
 // A step that was found is made.
 fn make_step(
     words: &[u16],
@@ -116,7 +103,7 @@ fn make_step(
     }
     search_openings::apply_step(words, marks, index, heads, reach, flags, step);
     if step.kind == 4 {
-        forget_drop(words, marks, index, idle, table::wide(step.target));
+        search_exclusion::forget_at(words, marks, index, table::wide(step.target), idle);
     }
 }
 

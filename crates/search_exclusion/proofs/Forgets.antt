@@ -2,7 +2,7 @@
 use mathlib.Core.Path.{_≡_, refl, sym, ap, subst, _∙_}
 use mathlib.Core.Logic.{by-cases, ⊎-elim}
 use mathlib.Core.Bool.{Bool, true, false, not, So, false≢true}
-use mathlib.Core.List.{List, List·Memᴰ·not-nil}
+use mathlib.Core.List.{List, [], List·Memᴰ·not-nil}
 use Prim.Native.Nat.{ℕ, _+_, _≤_, _<_}
 use native.Mathlib.Omega.{arith}
 use native.Mathlib.Decide.{ℕ-discrete, decLt}
@@ -11,6 +11,7 @@ use lib.ListN.{length, getD, set, take, List·getD-eq-default}
 use lib.Seq.{getD-set-same, getD-set-other}
 use Rattle.semantics.specs.Lists.{_∈_}
 use Rattle.semantics.proofs.Tests.{and-iff, not-iff, not-so}
+use Rattle.semantics.specs.Programs.{Atoms, Subset}
 use Rattle.rewriting.specs.Marked.{Entry, Marked, entry, gone}
 use Rattle.rewriting.specs.Consequences.{definite}
 use Rattle.rewriting.proofs.Left.{kept-lt}
@@ -145,5 +146,18 @@ module _ (Q : Marked) where
   pub first-end : {s q x s′ q′ x′ : List ℕ} {top top′ : ℕ} (k : ℕ) → k ≡ top′ → Onward s q top x s′ q′ top′ x′ → MetFirst s′ q′ k x′ → Spread Q s x s′ x′
   first-end {s′ = s′} {q′ = q′} {x′ = x′} k e g h = record { more = g .later .more; less = g .less; all = λ a m. h a (subst (λ u. a ∈ take u q′) (sym e) (g .later .queued .same a .0 m)) }
 
-pub forgets-by : (P Q : Marked) (s x s′ x′ : List ℕ) → NewHeads P Q (inBytes s) → Spread Q s x s′ x′ → Forgets P Q x x′
-forgets-by P Q s x s′ x′ n g = record { set = s′; heads = record { fresh = λ t w k b m. g .more b (n .fresh t w k b m) }; less = g .less; all = g .all }
+-- ---- what is forgotten
+
+module _ (H : Atoms → Type 0) (Q : Marked) where
+  pub forgets-by : (s x s′ x′ : List ℕ) → (Subset (inBytes s) (inBytes s′) → H (inBytes s′)) → Spread Q s x s′ x′ → Forgets H Q x x′
+  forgets-by s x s′ x′ h g = record { set = s′; heads = h (g .more); less = g .less; all = g .all }
+
+  -- nothing, where the set may be empty
+  pub forgets-none : (x : List ℕ) → H (inBytes []) → Forgets H Q x x
+  forgets-none x h = record { set = []; heads = h; less = λ t m. m; all = λ a m. absurd (false≢true m) }
+
+pub forgets-as : (G H : Atoms → Type 0) (Q : Marked) (x y : List ℕ) → ((F : Atoms) → G F → H F) → Forgets G Q x y → Forgets H Q x y
+forgets-as G H Q x y h f = record { set = f .set; heads = h (inBytes (f .set)) (f .heads); less = f .less; all = f .all }
+
+pub new-more : (P Q : Marked) (F G : Atoms) → NewHeads P Q F → Subset F G → NewHeads P Q G
+new-more P Q F G n h = record { fresh = λ t w k b m. h b (n .fresh t w k b m) }

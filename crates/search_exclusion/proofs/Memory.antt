@@ -14,7 +14,7 @@ use Rattle.step_reach.specs.Bytes.{inBytes}
 use Rattle.step_reach.proofs.Laws.{none-in}
 use Rattle.step_exclusion.proofs.Sets.{copy-view}
 use Rattle.search_exclusion.specs.Smallest.{Idle}
-use Rattle.search_exclusion.specs.Forgets.{Forgets}
+use Rattle.search_exclusion.specs.Forgets.{NewHeads, Forgets}
 use Rattle.search_exclusion.proofs.Stays.{idle-removal}
 
 -- nothing is known to be idle
@@ -25,8 +25,8 @@ idle-none n P k s e = record { headless = λ t m. absurd (out t m); positive = �
     out t m = none-in k t (subst (λ s. So (inBytes s t)) e m)
 
 -- What is idle is what was, but for what is forgotten.
-pub idle-kept : (ws ms before ms′ : List ℕ) (a n : ℕ) (s s′ : List ℕ) → Passed ws → length ws ≤ length ms → ((i : ℕ) → i < length ws → getD before i 0 ≡ getD ms i 0) → ms′ ≡ marksWithout ws ms a → Forgets (view ws before) (view ws ms′) s s′
+pub idle-kept : (ws ms before ms′ : List ℕ) (a n : ℕ) (s s′ : List ℕ) → Passed ws → length ws ≤ length ms → ((i : ℕ) → i < length ws → getD before i 0 ≡ getD ms i 0) → ms′ ≡ marksWithout ws ms a → Forgets (NewHeads (view ws before) (view ws ms′)) (view ws ms′) s s′
     → Idle n (view ws ms) s → Idle n (view ws ms′) s′
 idle-kept ws ms before ms′ a n s s′ p l c q d h =
     let e : view ws ms′ ≡ removal a (view ws ms) = ap (view ws) q ∙ view-without ws ms a p l in
-    subst (λ P. Idle n P s′) (sym e) (idle-removal (view ws ms) a n s s′ (subst (λ Q. Forgets (view ws ms) Q s s′) e (subst (λ P. Forgets P (view ws ms′) s s′) (copy-view ws before ms p c) d)) h)
+    subst (λ P. Idle n P s′) (sym e) (idle-removal (view ws ms) a n s s′ (subst (λ Q. Forgets (NewHeads (view ws ms) Q) Q s s′) e (subst (λ P. Forgets (NewHeads P (view ws ms′)) (view ws ms′) s s′) (copy-view ws before ms p c) d)) h)

@@ -122,6 +122,10 @@ module _ (P Q : Marked) (r : (i : ℕ) → Shrinks P (entry P i) (entry Q i)) wh
       none = λ t a m x. h .none t a (l t m) (excluding-back n t a (h .headless t (l t m) (r t .kept (x .kept))) (h .positive t (l t m) (r t .kept (x .kept))) (λ b f p. o b t f p m) x);
     }
 
+  -- And so it is where the rest is forgotten.
+  pub idle-forgets : (H : Atoms → Type 0) → ((F : Atoms) → H F → NewHeads P Q F) → (n : ℕ) (x y : List ℕ) → Forgets H Q x y → Idle n P x → Idle n Q y
+  idle-forgets H h n x y f = idle-stays (inBytes (f .set)) (record { fresh = h (inBytes (f .set)) (f .heads); on = λ b t z m. f .all b z t m .heads }) n x y (f .less) (λ b t z m. f .all b z t m .out)
+
 -- ---- kinds 1 to 8
 
 shrinks-same : (P : Marked) (e d : Entry) → d ≡ e → Shrinks P e d
@@ -180,7 +184,7 @@ module _ (n : ℕ) (P : Marked) (s : Step) (h : So (applies n P s)) (on : So (on
       (λ x y z. absurd (false≢true z)) (λ x y z. absurd (false≢true z)) (λ x y z. z) (λ x y z. absurd (y refl))
       (λ x y z. absurd (false≢true z)) (λ x y z. absurd (false≢true z)) (λ x y z. absurd (false≢true z)) (λ x y z. absurd (false≢true z)) (λ x y z. absurd (false≢true x))
 
-  pub heads-effect : (F : Atoms) → (number (s .kind) ≡ 4 → Heads F (entry (effect P s) (s .target))) → NewHeads P (effect P s) F
+  heads-effect : (F : Atoms) → (number (s .kind) ≡ 4 → Heads F (entry (effect P s) (s .target))) → NewHeads P (effect P s) F
   heads-effect F f = record {
     fresh = λ i w. by-cases (ℕ-discrete i (s .target))
         (λ e. subst (λ j. ¬ So (definite (entry P j .clause)) → Heads F (entry (effect P s) j)) (sym e) at w)
@@ -190,12 +194,9 @@ module _ (n : ℕ) (P : Marked) (s : Step) (h : So (applies n P s)) (on : So (on
       at : ¬ So (definite the) → Heads F (entry (effect P s) (s .target))
       at w = by-cases (ℕ-discrete (number (s .kind)) 4) f (λ d k. absurd (w (was-target (s .kind) on d (subst (λ e. So (definiteKept e)) (at-target n P s h on) k))))
 
-  -- Where kind 4 leaves no definite clause, such a step leaves idle constraints idle.
-  pub idle-effect : (number (s .kind) ≡ 4 → ¬ So (definite (entry (effect P s) (s .target) .clause))) → (x : List ℕ) → Idle n P x → Idle n (effect P s) x
-  idle-effect f x = idle-stays P (effect P s) shrinks-effect (λ _. false) (record {
-    fresh = heads-effect (λ _. false) (λ q k. absurd (f q (and-iff (entry (effect P s) (s .target) .kept) _ .0 k .1)));
-    on = λ a t z. absurd (false≢true z);
-  }) n x x (λ a m. m) (λ b t z. absurd (false≢true z))
+  -- Such a step leaves the constraints idle that were so and are not forgotten.
+  pub idle-effect : (x y : List ℕ) → Forgets (λ F. number (s .kind) ≡ 4 → Heads F (entry (effect P s) (s .target))) (effect P s) x y → Idle n P x → Idle n (effect P s) y
+  idle-effect = idle-forgets P (effect P s) shrinks-effect (λ F. number (s .kind) ≡ 4 → Heads F (entry (effect P s) (s .target))) heads-effect n
 
 -- ---- kind 9
 
@@ -211,7 +212,6 @@ module _ (P : Marked) (a : ℕ) where
         lost = λ k b m. inl (subst (λ l. b ∈ l) (sym (w k .pos)) m);
       }
 
-  -- A step of kind 9 leaves the constraints idle that were so and are not forgotten.
-  pub idle-removal : (n : ℕ) (x y : List ℕ) → Forgets P (removal a P) x y → Idle n P x → Idle n (removal a P) y
-  idle-removal n x y f = idle-stays P (removal a P) (λ i. shrinks-lacking i (entry (removal a P) i) (entry-removal a P i)) (inBytes (f .set))
-      (record { fresh = f .heads; on = λ b t z m. f .all b z t m .heads }) n x y (f .less) (λ b t z m. f .all b z t m .out)
+  -- So does a step of kind 9.
+  pub idle-removal : (n : ℕ) (x y : List ℕ) → Forgets (NewHeads P (removal a P)) (removal a P) x y → Idle n P x → Idle n (removal a P) y
+  idle-removal = idle-forgets P (removal a P) (λ i. shrinks-lacking i (entry (removal a P) i) (entry-removal a P i)) (NewHeads P (removal a P)) (λ F h. h)

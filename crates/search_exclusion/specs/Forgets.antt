@@ -60,10 +60,10 @@ pub record Spread (Q : Marked) (s idle s′ idle′ : List ℕ) : Type 0 where
   pub less : Subset (inBytes idle′) (inBytes idle)
   pub all : (a : ℕ) → So (inBytes s′ a) → MetAll Q s′ idle′ a
 
--- For a set of atoms that holds the head of each kept definite clause of Q which was not so in P, or has an atom of the set in its positive body: what is idle was so,
--- and has no atom of the set in its positive body.
-pub record Forgets (P Q : Marked) (idle idle′ : List ℕ) : Type 0 where
+-- For a set of atoms of which H holds, and which holds the head of each kept definite clause with an atom of the set in its positive body: what is idle was so, and has no atom
+-- of the set there.
+pub record Forgets (H : Atoms → Type 0) (Q : Marked) (idle idle′ : List ℕ) : Type 0 where
   pub set : List ℕ
-  pub heads : NewHeads P Q (inBytes set)
+  pub heads : H (inBytes set)
   pub less : Subset (inBytes idle′) (inBytes idle)
   pub all : (a : ℕ) → So (inBytes set a) → MetAll Q set idle′ a

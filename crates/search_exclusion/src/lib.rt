@@ -423,12 +423,35 @@ fn spread(
 // What may follow now and did not before, by way of a clause that has got definite: the constraints with such an atom are no longer known to be idle.
 fn forget_new(words: &[u16], before: &[u8], after: &[u8], index: &[u16], idle: &mut [u8])
     requires { ⌜ (Ready (now words) (now before) (now index)) × (Ready (now words) (now after) (now index)) ⌝ }
-    ensures { λ _. ⌜ Forgets (view (now (words .entry)) (now (before .entry))) (view (now (words .entry)) (now (after .entry))) (now (idle .entry)) (now (idle .exit)) ⌝ }
+    ensures { λ _. ⌜ Forgets (NewHeads (view (now (words .entry)) (now (before .entry))) (view (now (words .entry)) (now (after .entry)))) (view (now (words .entry)) (now (after .entry))) (now (idle .entry)) (now (idle .exit)) ⌝ }
 {
     let mut bytes = [0u8; 1024];
     let mut queue = [0u16; 1024];
     let top = new_heads(words, before, after, index, &mut bytes, &mut queue);
     spread(words, after, index, &mut bytes, &mut queue, top, idle);
+}
+
+// The same where clause t alone may have got definite.
+pub fn forget_at(words: &[u16], marks: &[u8], index: &[u16], t: usize, idle: &mut [u8])
+    requires { ⌜ (Ready (now words) (now marks) (now index)) × (t < getD (now words) 1 0) ⌝ }
+    ensures { λ _. ⌜ Forgets (λ F. Heads F (entry (view (now (words .entry)) (now (marks .entry))) t)) (view (now (words .entry)) (now (marks .entry))) (now (idle .entry)) (now (idle .exit)) ⌝ }
+{
+    if !fires(words, marks, index, t) {
+        return;
+    }
+    let mut bytes = [0u8; 1024];
+    let mut queue = [0u16; 1024];
+    let top = step_reach::join_part(
+        words,
+        marks,
+        index,
+        t,
+        Part::Head,
+        &mut bytes,
+        &mut queue,
+        0,
+    );
+    spread(words, marks, index, &mut bytes, &mut queue, top, idle);
 }
 
 // The step's effect on the marks. What is idle stays so, but for the constraints that a clause which gets definite may concern.

@@ -1,5 +1,4 @@
 -- `make_step`: kind 9, kind 4, and the others.
-use mathlib.Core.Path.{sym, subst}
 use native.Mathlib.Omega.{arith}
 use Rattle.step_conditions.specs.Known.{stepOf}
 use Rattle.search_spreads.proofs.Limits.{applied-lt}
@@ -17,18 +16,11 @@ returns c = (after-nine _ _ _ (c .before .before .before .before .before .before
 apply-step-requires : tie.Need-apply-step-requires
 apply-step-requires c κs = (c .before .before .before .before .before .before .before .before .before .before .before .before .pre .0, step-made _ _ _ (c .before .before .before .before .before .before .before .before .before .before .before .before .pre .1 .1 .1) (c .before .before .before .if1 .left))
 
-forget-drop-requires : tie.Need-forget-drop-requires
-forget-drop-requires c κs =
-    let f = step-made _ _ _ (c .before .before .before .before .before .before .before .before .before .before .before .before .before .before .before .before .before .before .before .before .before .before .before .before .pre .1 .1 .1) (c .before .before .before .before .before .before .before .before .before .before .before .before .before .before .before .if1 .left) in (
-      c .before .before .before .before .before .before .before .before .before .before .before .apply-step .ensures .1 .ready,
-      (
-        omega (arith, c .wide .ensures .0, applied-lt (c .before .before .before .before .before .before .before .before .before .before .before .before .before .before .before .before .before .before .before .before .before .before .before .before .args .words .now) (c .before .before .before .before .before .before .before .before .before .before .before .before .before .before .before .before .before .before .before .before .before .before .before .before .args .marks .now) (stepOf (c .before .before .before .before .before .before .before .before .before .before .before .before .before .before .before .before .before .before .before .before .before .before .before .before .args .step)) (f .applies)),
-        idle-four _ _ _ _ (c .before .before .before .before .before .before .before .before .before .before .before .before .before .before .before .before .before .before .before .before .before .before .before .before .pre .0 .ready) (c .before .before .before .before .before .before .before .before .before .before .before .before .before .before .before .before .before .before .before .before .before .before .before .before .args .step) f (c .before .before .before .before .before .before .before .before .before .before .before .apply-step .ensures .0) _ (c .before .before .before .before .before .before .before .before .before .before .before .before .before .before .before .before .before .before .before .before .before .before .before .before .pre .1 .1 .0 .1) _ (c .wide .ensures .0),
-      ),
-    )
+forget-at-requires : tie.Need-forget-at-requires
+forget-at-requires c κs = (c .before .before .before .before .before .before .before .before .before .before .before .apply-step .ensures .1 .ready, omega (arith, c .before .wide .ensures .0, applied-lt (c .before .before .before .before .before .before .before .before .before .before .before .before .before .before .before .before .before .before .before .before .before .before .before .before .args .words .now) (c .before .before .before .before .before .before .before .before .before .before .before .before .before .before .before .before .before .before .before .before .before .before .before .before .args .marks .now) (stepOf (c .before .before .before .before .before .before .before .before .before .before .before .before .before .before .before .before .before .before .before .before .before .before .before .before .args .step)) (step-made _ _ _ (c .before .before .before .before .before .before .before .before .before .before .before .before .before .before .before .before .before .before .before .before .before .before .before .before .pre .1 .1 .1) (c .before .before .before .before .before .before .before .before .before .before .before .before .before .before .before .if1 .left) .applies)))
 
 returns-2 : tie.Need-returns-2
-returns-2 c = (c .before .before .before .before .before .before .before .before .before .before .before .before .before .before .apply-step .ensures .0, (c .before .before .before .before .before .before .before .before .before .before .before .before .before .before .apply-step .ensures .1, c .before .before .forget-drop .ensures))
+returns-2 c = (c .before .before .before .before .before .before .before .before .before .before .before .before .before .before .apply-step .ensures .0, (c .before .before .before .before .before .before .before .before .before .before .before .before .before .before .apply-step .ensures .1, idle-four _ _ _ _ (c .before .before .before .before .before .before .before .before .before .before .before .before .before .before .before .before .before .before .before .before .before .before .before .before .before .before .before .pre .0 .ready) (c .before .before .before .before .before .before .before .before .before .before .before .before .before .before .before .before .before .before .before .before .before .before .before .before .before .before .before .args .step) (step-made _ _ _ (c .before .before .before .before .before .before .before .before .before .before .before .before .before .before .before .before .before .before .before .before .before .before .before .before .before .before .before .pre .1 .1 .1) (c .before .before .before .before .before .before .before .before .before .before .before .before .before .before .before .before .before .before .if1 .left)) (c .before .before .before .before .before .before .before .before .before .before .before .before .before .before .apply-step .ensures .0) _ (c .before .before .before .before .before .before .before .before .before .before .before .before .before .before .before .before .before .before .before .before .before .before .before .before .before .before .before .pre .1 .1 .0 .1) _ _ (c .before .before .before .before .wide .ensures .0) (c .before .before .forget-at .ensures)))
 
 returns-3 : tie.Need-returns-3
 returns-3 c = (c .before .before .before .before .before .before .before .before .apply-step .ensures .0, (c .before .before .before .before .before .before .before .before .apply-step .ensures .1, idle-made _ _ _ _ (c .before .before .before .before .before .before .before .before .before .before .before .before .before .before .before .before .before .before .before .before .before .pre .0 .ready) (c .before .before .before .before .before .before .before .before .before .before .before .before .before .before .before .before .before .before .before .before .before .args .step) (step-made _ _ _ (c .before .before .before .before .before .before .before .before .before .before .before .before .before .before .before .before .before .before .before .before .before .pre .1 .1 .1) (c .before .before .before .before .before .before .before .before .before .before .before .before .if1 .left)) (c .before .before .before .before .before .before .before .before .apply-step .ensures .0) _ (c .before .before .before .before .before .before .before .before .before .before .before .before .before .before .before .before .before .before .before .before .before .pre .1 .1 .0 .1) (c .if2 .left)))
@@ -36,4 +28,4 @@ returns-3 c = (c .before .before .before .before .before .before .before .before
 pub make-step-spec : {M : Type 1} → statement M
 make-step-spec =
     tie.close
-    (tie.spec exclude-requires (λ c. search needs) (λ c. search needs) (λ c. search needs) (λ c. search needs) returns apply-step-requires (λ c κs. search needs) forget-drop-requires (λ c. search needs) (λ c. search needs) (λ c. search needs) (λ c. search needs) returns-2 (λ c. search needs) (λ c. search needs) (λ c. search needs) returns-3)
+    (tie.spec exclude-requires (λ c. search needs) (λ c. search needs) (λ c. search needs) (λ c. search needs) returns apply-step-requires (λ c κs. search needs) forget-at-requires (λ c. search needs) (λ c. search needs) (λ c. search needs) (λ c. search needs) returns-2 (λ c. search needs) (λ c. search needs) (λ c. search needs) returns-3)

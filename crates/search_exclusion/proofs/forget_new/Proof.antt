@@ -3,9 +3,10 @@ use native.Mathlib.Omega.{arith}
 use mathlib.Core.Path.{refl}
 use Prim.Native.Nat.{ℕ}
 use lib.ListN.{length-replicate}
+use Rattle.table.specs.View.{view}
 use Rattle.table.proofs.Encoding.{passed-limits}
 use Rattle.step_reach.proofs.Queue.{queued-none}
-use Rattle.search_exclusion.proofs.Forgets.{forgets-by}
+use Rattle.search_exclusion.proofs.Forgets.{forgets-by, new-more}
 use borrow.Author.Needs.{needs}
 use Rattle.search_exclusion.proofs.forget_new.Statement.{statement}
 use Rattle.search_exclusion.proofs.forget_new.Tie as tie
@@ -17,7 +18,7 @@ spread-requires : tie.Need-spread-requires
 spread-requires c κs = (c .before .before .before .before .before .before .before .before .before .before .before .before .before .pre .1, (omega (arith, passed-limits _ (c .before .before .before .before .before .before .before .before .before .before .before .before .before .pre .0 .placed .passed) .fewAtoms, length-replicate {A = ℕ} 1024 0, c .before .before .before .before .before .new-heads .kept .1 .1 .1 .1 .0), c .before .before .before .before .before .new-heads .ensures .1))
 
 returns : tie.Need-returns
-returns c = forgets-by _ _ _ _ _ _ (c .before .before .before .before .before .before .before .before .before .before .new-heads .ensures .0) (c .before .before .before .before .spread .ensures)
+returns c = forgets-by _ _ _ _ _ _ (new-more (view (c .before .before .before .before .before .before .before .before .before .before .before .before .before .before .before .before .before .before .args .words .now) (c .before .before .before .before .before .before .before .before .before .before .before .before .before .before .before .before .before .before .args .before .now)) (view (c .before .before .before .before .before .before .before .before .before .before .before .before .before .before .before .before .before .before .args .words .now) (c .before .before .before .before .before .before .before .before .before .before .before .before .before .before .before .before .before .before .args .after .now)) _ _ (c .before .before .before .before .before .before .before .before .before .before .new-heads .ensures .0)) (c .before .before .before .before .spread .ensures)
 
 pub forget-new-spec : {M : Type 1} → statement M
 forget-new-spec =
