@@ -20,9 +20,9 @@ use Rattle.step_conditions.specs.declared.Step.{Step}
 use Rattle.step_conditions.specs.Known.{stepOf}
 use Rattle.search_openings.specs.Opened.{StepMade}
 use Rattle.search_exclusion.specs.Smallest.{Idle}
-use Rattle.search_exclusion.specs.Forgets.{Heads, Forgets}
-use Rattle.search_exclusion.proofs.Forgets.{forgets-none, forgets-as}
-use Rattle.search_exclusion.proofs.Stays.{idle-effect}
+use Rattle.search_idle.specs.Forgets.{Heads, Forgets}
+use Rattle.search_idle.proofs.Forgets.{forgets-none, forgets-as}
+use Rattle.search_idle.proofs.Stays.{idle-effect}
 use Rattle.reducer.specs.Runs.{StepFound}
 
 -- kind 9

@@ -76,7 +76,7 @@ fn exclude(
     requires { ⌜ (State (now words) (now marks) (now index) (now heads) (now reach) (now flags)) × ((m ≡ getD (now words) 1 0) × ((2048 ≤ length (now idle)) × (Idle (getD (now words) 0 0) (view (now words) (now marks)) (now idle)))) ⌝ }
     ensures { λ _. ⌜ (now (marks .exit) ≡ marksWithout (now (words .entry)) (now (marks .entry)) atom) × ((State (now (words .entry)) (now (marks .exit)) (now (index .entry)) (now (heads .exit)) (now (reach .entry)) (now (flags .exit))) × (Idle (getD (now (words .entry)) 0 0) (view (now (words .entry)) (now (marks .exit))) (now (idle .exit)))) ⌝ }
 {
-    search_exclusion::exclude_atom(words, marks, index, atom, idle);
+    search_idle::exclude_atom(words, marks, index, atom, idle);
     step_conditions::count_heads(words, marks, index, heads);
     step_conditions::clear(flags);
     flag_kinds(flags, m);
@@ -103,7 +103,7 @@ fn make_step(
     }
     search_openings::apply_step(words, marks, index, heads, reach, flags, step);
     if step.kind == 4 {
-        search_exclusion::forget_at(words, marks, index, table::wide(step.target), idle);
+        search_idle::forget_at(words, marks, index, table::wide(step.target), idle);
     }
 }
 

@@ -1,3 +1,2 @@
 pub mod Smallest
 pub mod Tries
-pub mod Forgets

@@ -4,7 +4,7 @@ use mathlib.Core.Path.{refl, subst}
 use native.Mathlib.Omega.{arith}
 use lib.ListN.{length-replicate}
 use Rattle.table.proofs.Encoding.{passed-limits}
-use Rattle.search_exclusion.proofs.Memory.{idle-none}
+use Rattle.search_idle.proofs.Memory.{idle-none}
 use Rattle.reducer.specs.Runs.{AllOpen}
 use Rattle.reducer.proofs.Begins.{state-begun}
 use borrow.Author.Needs.{needs}

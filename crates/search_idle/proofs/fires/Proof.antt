@@ -1,12 +1,12 @@
--- `search_exclusion::fires` meets its contract.
+-- `search_idle::fires` meets its contract.
 use mathlib.Core.Path.{sym, _∙_}
 use borrow.Author.Tests.{not-true, not-false}
 use Rattle.rewriting.specs.Marked.{entry}
 use Rattle.table.specs.View.{view}
-use Rattle.search_exclusion.proofs.Forgets.{fires-gone, fires-kept}
+use Rattle.search_idle.proofs.Forgets.{fires-gone, fires-kept}
 use borrow.Author.Needs.{needs}
-use Rattle.search_exclusion.proofs.fires.Statement.{statement}
-use Rattle.search_exclusion.proofs.fires.Tie as tie
+use Rattle.search_idle.proofs.fires.Statement.{statement}
+use Rattle.search_idle.proofs.fires.Tie as tie
 
 returns : tie.Need-returns
 returns c = fires-gone (entry (view (c .before .before .before .before .before .args .words .now) (c .before .before .before .before .before .args .marks .now)) (c .before .before .before .before .before .args .t)) (sym (c .before .kept .ensures) ∙ not-true _ (c .if1 .taken))

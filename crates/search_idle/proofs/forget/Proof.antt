@@ -1,9 +1,9 @@
--- `search_exclusion::forget` meets its contract.
+-- `search_idle::forget` meets its contract.
 use native.Mathlib.Omega.{arith}
-use Rattle.search_exclusion.proofs.Forgets.{forgot-here, forgot-past}
+use Rattle.search_idle.proofs.Forgets.{forgot-here, forgot-past}
 use borrow.Author.Needs.{needs}
-use Rattle.search_exclusion.proofs.forget.Statement.{statement}
-use Rattle.search_exclusion.proofs.forget.Tie as tie
+use Rattle.search_idle.proofs.forget.Statement.{statement}
+use Rattle.search_idle.proofs.forget.Tie as tie
 
 returns : tie.Need-returns
 returns c = forgot-here _ _ (c .if1 .taken)

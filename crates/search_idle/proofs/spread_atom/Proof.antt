@@ -1,4 +1,4 @@
--- `search_exclusion::spread_atom` meets its contract. The invariant: the clauses at the places above i are met; it falls from place to place.
+-- `search_idle::spread_atom` meets its contract. The invariant: the clauses at the places above i are met; it falls from place to place.
 use native.Mathlib.Omega.{arith}
 use mathlib.Core.Path.{_≡_, refl, _∙_}
 use Prim.Native.Nat.{_<_}
@@ -7,10 +7,10 @@ use Rattle.step_parts.specs.Parts.{Stands, ownerAt}
 use Rattle.step_parts.specs.declared.Part.the-variants.{Pos}
 use Rattle.step_reach.proofs.Queue.{queued-few, queued-at}
 use Rattle.step_reach.proofs.Counts.{latest-less}
-use Rattle.search_exclusion.specs.Forgets.{Onward}
-use Rattle.search_exclusion.proofs.Forgets.{onward-none, onward-trans, MetAbove, above-start, above-on, above-end}
-use Rattle.search_exclusion.proofs.spread_atom.Statement.{statement}
-use Rattle.search_exclusion.proofs.spread_atom.Tie as tie
+use Rattle.search_idle.specs.Forgets.{Onward}
+use Rattle.search_idle.proofs.Forgets.{onward-none, onward-trans, MetAbove, above-start, above-on, above-end}
+use Rattle.search_idle.proofs.spread_atom.Statement.{statement}
+use Rattle.search_idle.proofs.spread_atom.Tie as tie
 
 abbrev Inv-loop : tie.InvT-loop
 Inv-loop words marks index k bytes₀ queue₀ top idle₀ end₀ i₀ bytes queue idle end i = (length queue ≡ length queue₀) × ((length idle ≡ length idle₀) × (Onward bytes₀ queue₀ top idle₀ bytes queue end idle × (MetAbove words marks (getD queue₀ k 0) bytes idle i × (0 < i → (i < length words) × Stands words Pos (getD queue₀ k 0) (getD index (ownerAt i) 0) i))))

@@ -1,4 +1,4 @@
--- `search_exclusion::spread` meets its contract. The invariant: the clauses of the first k atoms of the queue are met.
+-- `search_idle::spread` meets its contract. The invariant: the clauses of the first k atoms of the queue are met.
 use native.Mathlib.Omega.{arith}
 use mathlib.Core.Path.{_≡_, refl, _∙_}
 use mathlib.Core.List.{List·Memᴰ·not-nil}
@@ -6,11 +6,11 @@ use Prim.Native.Nat.{_≤_, _-_}
 use lib.ListN.{length}
 use Rattle.table.specs.View.{view}
 use Rattle.step_reach.proofs.Queue.{queued-few}
-use Rattle.search_exclusion.specs.Forgets.{Onward}
-use Rattle.search_exclusion.proofs.Forgets.{onward-none, onward-trans, MetFirst, first-on, first-end}
+use Rattle.search_idle.specs.Forgets.{Onward}
+use Rattle.search_idle.proofs.Forgets.{onward-none, onward-trans, MetFirst, first-on, first-end}
 use borrow.Author.Needs.{needs}
-use Rattle.search_exclusion.proofs.spread.Statement.{statement}
-use Rattle.search_exclusion.proofs.spread.Tie as tie
+use Rattle.search_idle.proofs.spread.Statement.{statement}
+use Rattle.search_idle.proofs.spread.Tie as tie
 
 abbrev Inv-loop : tie.InvT-loop
 Inv-loop words marks index bytes₀ queue₀ top idle₀ end₀ k₀ bytes queue idle end k = (length queue ≡ length queue₀) × ((length idle ≡ length idle₀) × (Onward bytes₀ queue₀ top idle₀ bytes queue end idle × ((k ≤ end) × MetFirst (view words marks) bytes queue k idle)))

@@ -1,4 +1,4 @@
--- `search_exclusion::forget_new` meets its contract.
+-- `search_idle::forget_new` meets its contract.
 use native.Mathlib.Omega.{arith}
 use mathlib.Core.Path.{refl}
 use Prim.Native.Nat.{ℕ}
@@ -6,10 +6,10 @@ use lib.ListN.{length-replicate}
 use Rattle.table.specs.View.{view}
 use Rattle.table.proofs.Encoding.{passed-limits}
 use Rattle.step_reach.proofs.Queue.{queued-none}
-use Rattle.search_exclusion.proofs.Forgets.{forgets-by, new-more}
+use Rattle.search_idle.proofs.Forgets.{forgets-by, new-more}
 use borrow.Author.Needs.{needs}
-use Rattle.search_exclusion.proofs.forget_new.Statement.{statement}
-use Rattle.search_exclusion.proofs.forget_new.Tie as tie
+use Rattle.search_idle.proofs.forget_new.Statement.{statement}
+use Rattle.search_idle.proofs.forget_new.Tie as tie
 
 new-heads-requires : tie.Need-new-heads-requires
 new-heads-requires c κs = (c .before .before .before .before .before .before .before .pre .0, (c .before .before .before .before .before .before .before .pre .1, (omega (arith, passed-limits _ (c .before .before .before .before .before .before .before .pre .0 .placed .passed) .fewAtoms, length-replicate {A = ℕ} 1024 0), queued-none 1024 _ _ refl (omega (arith, length-replicate {A = ℕ} 1024 0)))))

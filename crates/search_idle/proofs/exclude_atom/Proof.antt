@@ -1,12 +1,12 @@
--- `search_exclusion::exclude_atom` meets its contract.
+-- `search_idle::exclude_atom` meets its contract.
 use native.Mathlib.Omega.{arith}
 use Prim.Native.Nat.{ℕ}
 use lib.ListN.{length-replicate}
 use Rattle.table.proofs.Encoding.{passed-limits}
-use Rattle.search_exclusion.proofs.Memory.{idle-kept}
+use Rattle.search_idle.proofs.Memory.{idle-kept}
 use borrow.Author.Needs.{needs}
-use Rattle.search_exclusion.proofs.exclude_atom.Statement.{statement}
-use Rattle.search_exclusion.proofs.exclude_atom.Tie as tie
+use Rattle.search_idle.proofs.exclude_atom.Statement.{statement}
+use Rattle.search_idle.proofs.exclude_atom.Tie as tie
 
 copy-marks-requires : tie.Need-copy-marks-requires
 copy-marks-requires c κs = (c .before .before .before .before .before .before .pre .0 .marks, omega (arith, passed-limits _ (c .before .before .before .before .before .before .pre .0 .placed .passed) .short, length-replicate {A = ℕ} 8192 0))

@@ -1,12 +1,12 @@
--- `search_exclusion::join_head` meets its contract.
+-- `search_idle::join_head` meets its contract.
 use mathlib.Core.Path.{sym, _∙_}
 use borrow.Author.Tests.{not-true}
 use Rattle.rewriting.specs.Marked.{entry}
 use Rattle.table.specs.View.{view}
-use Rattle.search_exclusion.proofs.Forgets.{later-none, later-joined, heads-not}
+use Rattle.search_idle.proofs.Forgets.{later-none, later-joined, heads-not}
 use borrow.Author.Needs.{needs}
-use Rattle.search_exclusion.proofs.join_head.Statement.{statement}
-use Rattle.search_exclusion.proofs.join_head.Tie as tie
+use Rattle.search_idle.proofs.join_head.Statement.{statement}
+use Rattle.search_idle.proofs.join_head.Tie as tie
 
 returns : tie.Need-returns
 returns c = (later-none _ _ _ (c .before .before .before .before .before .before .before .pre .1 .1 .1), heads-not (entry (view (c .before .before .before .before .before .before .before .args .words .now) (c .before .before .before .before .before .before .before .args .marks .now)) (c .before .before .before .before .before .before .before .args .t)) (c .before .before .before .before .before .before .before .args .bytes .now) (sym (c .before .fires .ensures) ∙ not-true _ (c .if1 .taken)))

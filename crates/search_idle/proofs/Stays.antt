@@ -22,8 +22,8 @@ use Rattle.rewriting.proofs.Effect.{target-kept, asks, partner-asked, at-other,
 use Rattle.rewriting.proofs.Consequences.{consequences-least, consequences-are}
 use Rattle.rewriting.proofs.Exclusion.{Lacks, lacks, entry-removal, excludes-iff}
 use Rattle.step_reach.specs.Bytes.{inBytes}
 use Rattle.search_exclusion.specs.Smallest.{Excluding, Idle}
-use Rattle.search_exclusion.specs.Forgets.{definiteKept, Heads, NewHeads, Forgets}
+use Rattle.search_idle.specs.Forgets.{definiteKept, Heads, NewHeads, Forgets}
 
 -- the atom is in every set that the definite clauses of P close
 abbrev pub Follows : Marked → ℕ → Type 0

@@ -1,10 +1,10 @@
--- `search_exclusion::meet` meets its contract.
+-- `search_idle::meet` meets its contract.
 use native.Mathlib.Omega.{arith}
 use Rattle.table.specs.View.{view}
-use Rattle.search_exclusion.proofs.Forgets.{onward-none, met-owner}
+use Rattle.search_idle.proofs.Forgets.{onward-none, met-owner}
 use borrow.Author.Needs.{needs}
-use Rattle.search_exclusion.proofs.meet.Statement.{statement}
-use Rattle.search_exclusion.proofs.meet.Tie as tie
+use Rattle.search_idle.proofs.meet.Statement.{statement}
+use Rattle.search_idle.proofs.meet.Tie as tie
 
 returns : tie.Need-returns
 returns c = (onward-none _ _ _ _ (c .before .before .before .before .before .before .before .before .pre .1 .1 .1 .1), λ e. absurd (c .if1 .taken e))

@@ -1,4 +1,4 @@
--- `search_exclusion::new_heads` meets its contract. The invariant: the heads of the clauses before t that got definite have joined.
+-- `search_idle::new_heads` meets its contract. The invariant: the heads of the clauses before t that got definite have joined.
 use native.Mathlib.Omega.{arith}
 use mathlib.Core.Path.{_≡_, refl, sym, _∙_}
 use Prim.Native.Nat.{_≤_, _-_}
@@ -8,10 +8,10 @@ use Rattle.table.specs.View.{view}
 use Rattle.table.proofs.Encoding.{passed-limits}
 use Rattle.table.proofs.View.{length-view}
 use Rattle.step_reach.specs.Counts.{Queued}
-use Rattle.search_exclusion.proofs.Forgets.{NewBefore, new-past, new-on, new-end}
+use Rattle.search_idle.proofs.Forgets.{NewBefore, new-past, new-on, new-end}
 use borrow.Author.Needs.{needs}
-use Rattle.search_exclusion.proofs.new_heads.Statement.{statement}
-use Rattle.search_exclusion.proofs.new_heads.Tie as tie
+use Rattle.search_idle.proofs.new_heads.Statement.{statement}
+use Rattle.search_idle.proofs.new_heads.Tie as tie
 
 abbrev Inv-loop : tie.InvT-loop
 Inv-loop words before after index bytes₀ queue₀ top₀ t₀ t-end bytes queue top t = (t ≤ getD words 1 0) × ((t-end ≡ getD words 1 0) × ((length bytes ≡ length bytes₀) × ((length queue ≡ length queue₀) × (Queued bytes queue top × NewBefore (view words before) (view words after) t bytes))))

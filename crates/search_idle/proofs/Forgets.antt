@@ -25,7 +25,7 @@ use Rattle.step_reach.specs.Bytes.{inBytes}
 use Rattle.step_reach.specs.Counts.{Queued, Joined}
 use Rattle.step_reach.proofs.Laws.{is-out}
 use Rattle.step_reach.proofs.Queue.{take-more, queued-few}
-use Rattle.search_exclusion.specs.Forgets.{definiteKept, gotDefinite, Heads, NewHeads, Later, Forgot, Onward, Met, MetAll, Spread, Forgets}
+use Rattle.search_idle.specs.Forgets.{definiteKept, gotDefinite, Heads, NewHeads, Later, Forgot, Onward, Met, MetAll, Spread, Forgets}
 
 -- ---- a clause that is definite
 

@@ -1,4 +1,4 @@
--- `search_exclusion::forget_at` meets its contract.
+-- `search_idle::forget_at` meets its contract.
 use native.Mathlib.Omega.{arith}
 use mathlib.Core.Path.{refl, sym, _∙_}
 use mathlib.Core.List.{[]}
@@ -9,11 +9,11 @@ use Rattle.rewriting.specs.Marked.{entry}
 use Rattle.table.specs.View.{view}
 use Rattle.table.proofs.Encoding.{passed-limits}
 use Rattle.step_reach.proofs.Queue.{queued-none}
-use Rattle.search_exclusion.specs.Forgets.{Heads}
-use Rattle.search_exclusion.proofs.Forgets.{heads-not, forgets-by, forgets-none}
+use Rattle.search_idle.specs.Forgets.{Heads}
+use Rattle.search_idle.proofs.Forgets.{heads-not, forgets-by, forgets-none}
 use borrow.Author.Needs.{needs}
-use Rattle.search_exclusion.proofs.forget_at.Statement.{statement}
-use Rattle.search_exclusion.proofs.forget_at.Tie as tie
+use Rattle.search_idle.proofs.forget_at.Statement.{statement}
+use Rattle.search_idle.proofs.forget_at.Tie as tie
 
 returns : tie.Need-returns
 returns c = forgets-none (λ F. Heads F (entry (view (c .before .before .before .before .before .before .args .words .now) (c .before .before .before .before .before .before .args .marks .now)) (c .before .before .before .before .before .before .args .t))) _ _ (heads-not (entry (view (c .before .before .before .before .before .before .args .words .now) (c .before .before .before .before .before .before .args .marks .now)) (c .before .before .before .before .before .before .args .t)) [] (sym (c .before .fires .ensures) ∙ not-true _ (c .if1 .taken)))

@@ -13,9 +13,9 @@ use Rattle.table.proofs.Clearing.{view-without}
 use Rattle.step_reach.specs.Bytes.{inBytes}
 use Rattle.step_reach.proofs.Laws.{none-in}
 use Rattle.step_exclusion.proofs.Sets.{copy-view}
 use Rattle.search_exclusion.specs.Smallest.{Idle}
-use Rattle.search_exclusion.specs.Forgets.{NewHeads, Forgets}
-use Rattle.search_exclusion.proofs.Stays.{idle-removal}
+use Rattle.search_idle.specs.Forgets.{NewHeads, Forgets}
+use Rattle.search_idle.proofs.Stays.{idle-removal}
 
 -- nothing is known to be idle
 pub idle-none : (n : ℕ) (P : Marked) (k : ℕ) (s : List ℕ) → s ≡ replicate k 0 → Idle n P s

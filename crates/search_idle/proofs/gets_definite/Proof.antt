@@ -1,12 +1,12 @@
--- `search_exclusion::gets_definite` meets its contract.
+-- `search_idle::gets_definite` meets its contract.
 use mathlib.Core.Path.{sym, _∙_}
 use borrow.Author.Tests.{not-true, not-false}
 use Rattle.rewriting.specs.Marked.{entry}
 use Rattle.table.specs.View.{view}
-use Rattle.search_exclusion.proofs.Forgets.{got-not, got-now}
+use Rattle.search_idle.proofs.Forgets.{got-not, got-now}
 use borrow.Author.Needs.{needs}
-use Rattle.search_exclusion.proofs.gets_definite.Statement.{statement}
-use Rattle.search_exclusion.proofs.gets_definite.Tie as tie
+use Rattle.search_idle.proofs.gets_definite.Statement.{statement}
+use Rattle.search_idle.proofs.gets_definite.Tie as tie
 
 returns : tie.Need-returns
 returns c = got-not (entry (view (c .before .before .before .before .before .before .args .words .now) (c .before .before .before .before .before .before .args .before .now)) (c .before .before .before .before .before .before .args .t)) (entry (view (c .before .before .before .before .before .before .args .words .now) (c .before .before .before .before .before .before .args .after .now)) (c .before .before .before .before .before .before .args .t)) (sym (c .before .fires .ensures) ∙ not-true _ (c .if1 .taken))
