@@ -1,7 +1,7 @@
 -- The set of what may follow, grown atom by atom along the index, and the constraints that are forgotten on the way.
 use mathlib.Core.Path.{_≡_, refl, sym, ap, subst, _∙_}
 use mathlib.Core.Logic.{by-cases, ⊎-elim}
-use mathlib.Core.Bool.{Bool, true, false, not, So, false≢true}
+use mathlib.Core.Bool.{Bool, true, false, So, false≢true}
 use mathlib.Core.List.{List, [], List·Memᴰ·not-nil}
 use Prim.Native.Nat.{ℕ, _+_, _≤_, _<_}
 use native.Mathlib.Omega.{arith}
@@ -9,23 +9,26 @@ use native.Mathlib.Decide.{ℕ-discrete, decLt}
 use lib.Dec.{eqb}
 use lib.ListN.{length, getD, set, take, List·getD-eq-default}
 use lib.Seq.{getD-set-same, getD-set-other}
-use Rattle.semantics.specs.Lists.{_∈_}
-use Rattle.semantics.proofs.Tests.{and-iff, not-iff, not-so}
+use Rattle.semantics.specs.Lists.{_∈_, mem, null, single}
+use Rattle.semantics.proofs.Tests.{and-iff, mem-iff, so-dec, not-so, without-none}
 use Rattle.semantics.specs.Programs.{Atoms, Subset}
 use Rattle.rewriting.specs.Marked.{Entry, Marked, entry, gone}
 use Rattle.rewriting.specs.Consequences.{definite}
+use Rattle.rewriting.specs.Exclusion.{removal}
 use Rattle.rewriting.proofs.Left.{kept-lt}
+use Rattle.rewriting.proofs.Exclusion.{Lacks, lacks, entry-removal}
 use Rattle.table.specs.Questions.{Passed}
 use Rattle.table.specs.View.{view}
 use Rattle.table.proofs.View.{length-view}
 use Rattle.step_parts.specs.Parts.{Stands, Latest, ownerAt}
-use Rattle.step_parts.specs.declared.Part.the-variants.{Pos}
+use Rattle.step_parts.specs.declared.Part.{Part}
+use Rattle.step_parts.specs.declared.Part.the-variants.{Head, Pos, Neg}
 use Rattle.step_parts.proofs.Index.{stands-in, stands-clause, stands-small, kept-stands}
 use Rattle.step_reach.specs.Bytes.{inBytes}
 use Rattle.step_reach.specs.Counts.{Queued, Joined}
 use Rattle.step_reach.proofs.Laws.{is-out}
 use Rattle.step_reach.proofs.Queue.{take-more, queued-few}
-use Rattle.search_idle.specs.Forgets.{definiteKept, gotDefinite, Heads, NewHeads, Later, Forgot, Onward, Met, MetAll, Spread, Forgets}
+use Rattle.search_idle.specs.Forgets.{definiteKept, Heads, NewHeads, Later, Forgot, Onward, Met, MetAt, MetAll, Spread, HeadsWith, Forgets}
 
 -- ---- a clause that is definite
 
@@ -34,30 +37,6 @@ fires-gone e k = rw k
 
 pub fires-kept : (e : Entry) (x : Bool) → e .kept ≡ true → x ≡ definite (e .clause) → x ≡ definiteKept e
 fires-kept e x k h = rw (k, h)
-
-pub got-not : (e d : Entry) → definiteKept d ≡ false → false ≡ gotDefinite e d
-got-not e d k = rw k
-
-pub got-now : (e d : Entry) (x : Bool) → definiteKept d ≡ true → x ≡ definite (e .clause) → not x ≡ gotDefinite e d
-got-now e d x k h = rw (k, h)
-
--- ---- the heads of the clauses that get definite
-
-module _ (P Q : Marked) where
-  -- those of the clauses before t
-  abbrev pub NewBefore : ℕ → List ℕ → Type 0
-  NewBefore t s = (u : ℕ) → u < t → So (gotDefinite (entry P u) (entry Q u)) → (b : ℕ) → b ∈ entry Q u .clause .head → So (inBytes s b)
-
-  pub new-past : (t : ℕ) (s : List ℕ) → gotDefinite (entry P t) (entry Q t) ≡ false → NewBefore t s → NewBefore (t + 1) s
-  new-past t s e h u l g = by-cases (ℕ-discrete u t) (λ d. absurd (not-so e (subst (λ x. So (gotDefinite (entry P x) (entry Q x))) d g))) (λ d. h u (omega arith) g)
-
-  pub new-on : (t : ℕ) {s q s′ q′ : List ℕ} {top top′ : ℕ} → Joined (λ a. a ∈ entry Q t .clause .head) s q top s′ q′ top′ → NewBefore t s → NewBefore (t + 1) s′
-  new-on t j h u l g b m = by-cases (ℕ-discrete u t) (λ d. j .holds b (subst (λ x. b ∈ entry Q x .clause .head) d m)) (λ d. j .more b (h u (omega arith) g b m))
-
-  pub new-end : (t : ℕ) (s : List ℕ) → length Q ≤ t → NewBefore t s → NewHeads P Q (inBytes s)
-  new-end t s l h = record {
-    fresh = λ i n k. h i (omega (arith, kept-lt Q i (and-iff (entry Q i .kept) _ .0 k .0))) (and-iff (definiteKept (entry Q i)) _ .1 (k, not-iff (definite (entry P i .clause)) .1 n));
-  }
 
 -- ---- the set and the queue grow
 
@@ -109,26 +88,31 @@ met-owner Q s x x′ u t e f h = subst (Met Q s x′) e (record { out = f .out; 
 
 -- ---- along the places of an atom
 
-module _ (ws ms : List ℕ) (b : ℕ) where
-  -- the clauses at the places above i are met
-  abbrev pub MetAbove : List ℕ → List ℕ → ℕ → Type 0
-  MetAbove s x i = (t j : ℕ) → Stands ws Pos b t j → getD ms j 0 ≡ 1 → i < j → Met (view ws ms) s x t
+module _ (ws index : List ℕ) (Q : Marked) (x : Part) (b : ℕ) where
+  -- the clauses at the places above i are met, and the atom stands at i
+  abbrev pub Above : List ℕ → List ℕ → ℕ → Type 0
+  Above s y i = ((t j : ℕ) → Stands ws x b t j → i < j → Met Q s y t) × (0 < i → (i < length ws) × Stands ws x b (getD index (ownerAt i) 0) i)
 
-  pub above-start : (index s x : List ℕ) (i : ℕ) → Passed ws → Latest ws index Pos b (length ws) i → MetAbove s x i
-  above-start index s x i p f t j st e h = absurd (f .none t j st h (stands-small p st .1))
+  pub above-start : (s y : List ℕ) (i : ℕ) → Passed ws → Latest ws index x b (length ws) i → Above s y i
+  above-start s y i p f = (λ t j st h. absurd (f .none t j st h (stands-small p st .1)), f .some)
 
-  pub above-on : (index : List ℕ) {s q x s′ q′ x′ : List ℕ} {k k′ : ℕ} (i n : ℕ) → Stands ws Pos b (getD index (ownerAt i) 0) i → Latest ws index Pos b i n → Onward s q k x s′ q′ k′ x′ → (getD ms i 0 ≡ 1 → Met (view ws ms) s′ x′ (getD index (ownerAt i) 0))
-      → MetAbove s x i → MetAbove s′ x′ n
-  above-on index {s′ = s′} {x′ = x′} i n own f g m w t j st e h = by-cases (decLt j i)
-      (λ l. absurd (f .none t j st h l))
-      (λ l. by-cases (ℕ-discrete j i)
-      (λ d. subst (Met (view ws ms) s′ x′) (sym (stands-clause (subst (Stands ws Pos b t) d st) own)) (m (subst (λ u. getD ms u 0 ≡ 1) d e)))
-      (λ d. met-later (view ws ms) t g (w t j st e (omega arith))))
+  pub above-on : {s q y s′ q′ y′ : List ℕ} {k k′ : ℕ} (i n : ℕ) → 0 < i → Latest ws index x b i n → Onward s q k y s′ q′ k′ y′ → Met Q s′ y′ (getD index (ownerAt i) 0) → Above s y i → Above s′ y′ n
+  above-on {s′ = s′} {y′ = y′} i n z f g m w = (next, λ u. let (l, v) = f .some u in (omega (arith, w .1 z .0), v))
+    where
+      next : (t j : ℕ) → Stands ws x b t j → n < j → Met Q s′ y′ t
+      next t j st h = by-cases (decLt j i)
+          (λ l. absurd (f .none t j st h l))
+          (λ l. by-cases (ℕ-discrete j i)
+          (λ d. subst (Met Q s′ y′) (sym (stands-clause (subst (Stands ws x b t) d st) (w .1 z .1))) m)
+          (λ d. met-later Q t g (w .0 t j st (omega arith))))
 
-  pub above-end : (s x : List ℕ) (i : ℕ) → i ≡ 0 → MetAbove s x i → MetAll (view ws ms) s x b
-  above-end s x i z w t m = by-cases (decLt t (getD ws 1 0))
-      (λ l. let (j, st, e) = kept-stands ws ms Pos b t l m in w t j st e (omega (arith, stands-in st)))
-      (λ l. absurd (List·Memᴰ·not-nil (subst (λ e. b ∈ e .clause .pos) (List·getD-eq-default (view ws ms) gone (omega (arith, length-view ws ms))) m)))
+  pub above-end : (s y : List ℕ) (i : ℕ) → i ≡ 0 → Above s y i → MetAt ws Q x b s y
+  above-end s y i z w = record { each = λ t j st. w .0 t j st (omega (arith, stands-in st)) }
+
+pub met-all : (ws ms : List ℕ) (a : ℕ) (s y : List ℕ) → MetAt ws (view ws ms) Pos a s y → MetAll (view ws ms) s y a
+met-all ws ms a s y w t m = by-cases (decLt t (getD ws 1 0))
+    (λ l. let (j, st, e) = kept-stands ws ms Pos a t l m in w .each t j st)
+    (λ l. absurd (List·Memᴰ·not-nil (subst (λ e. a ∈ e .clause .pos) (List·getD-eq-default (view ws ms) gone (omega (arith, length-view ws ms))) m)))
 
 -- ---- along the queue
 
@@ -159,5 +143,42 @@ module _ (H : Atoms → Type 0) (Q : Marked) where
 pub forgets-as : (G H : Atoms → Type 0) (Q : Marked) (x y : List ℕ) → ((F : Atoms) → G F → H F) → Forgets G Q x y → Forgets H Q x y
 forgets-as G H Q x y h f = record { set = f .set; heads = h (inBytes (f .set)) (f .heads); less = f .less; all = f .all }
 
-pub new-more : (P Q : Marked) (F G : Atoms) → NewHeads P Q F → Subset F G → NewHeads P Q G
-new-more P Q F G n h = record { fresh = λ t w k b m. h b (n .fresh t w k b m) }
+-- ---- the clauses that lose an atom
+
+module _ (ws : List ℕ) (Q : Marked) (a : ℕ) where
+  -- no clause of the table has so large an atom
+  pub with-none : (F : Atoms) → Passed ws → 1024 ≤ a → HeadsWith ws Q a F
+  with-none F p l = record { head = λ t j st. absurd (omega (arith, stands-small p st .0)); neg = λ t j st. absurd (omega (arith, stands-small p st .0)) }
+
+  -- from the clauses with it in the head, then in the negative body, then on
+  pub forgets-two : {s q y s′ q′ y′ s″ q″ y″ s‴ y‴ : List ℕ} {k k′ k″ : ℕ} → Onward s q k y s′ q′ k′ y′ → MetAt ws Q Head a s′ y′ → Onward s′ q′ k′ y′ s″ q″ k″ y″ → MetAt ws Q Neg a s″ y″ → Spread Q s″ y″ s‴ y‴ → Forgets (HeadsWith ws Q a) Q y y‴
+  forgets-two {s‴ = s‴} f h g n w = record {
+    set = s‴;
+    heads = record {
+      head = λ t j st k b m. w .more b (g .later .more b (h .each t j st .heads k b m));
+      neg = λ t j st k b m. w .more b (n .each t j st .heads k b m);
+    };
+    less = λ t m. f .less t (g .less t (w .less t m));
+    all = w .all;
+  }
+
+definite-same : (a : ℕ) (d e : Entry) → Lacks a d e → ¬ (a ∈ e .clause .head) → ¬ (a ∈ e .clause .neg) → So (definite (d .clause)) → So (definite (e .clause))
+definite-same a d e l h n x = let w = and-iff (single (λ _. true) (d .clause .head)) _ .0 x in
+    and-iff (single (λ _. true) (e .clause .head)) _ .1 (subst (λ u. So (single (λ _. true) u)) (l .head ∙ without-none a (e .clause .head) h) (w .0), subst (λ u. So (null u)) (l .neg ∙ without-none a (e .clause .neg) n) (w .1))
+
+-- Only such a clause gets definite by a step of kind 9.
+pub new-without : (ws ms : List ℕ) (a : ℕ) (F : Atoms) → HeadsWith ws (removal a (view ws ms)) a F → NewHeads (view ws ms) (removal a (view ws ms)) F
+new-without ws ms a F g = record {
+  fresh = λ t w k. let l = lost t k in
+      by-cases (so-dec (mem a (entry (view ws ms) t .clause .head)))
+      (λ h. let (j, st, e) = kept-stands ws ms Head a t (low t l) (mem-iff _ _ .0 h) in g .head t j st k)
+      (λ h. by-cases (so-dec (mem a (entry (view ws ms) t .clause .neg)))
+      (λ n. let (j, st, e) = kept-stands ws ms Neg a t (low t l) (mem-iff _ _ .0 n) in g .neg t j st k)
+      (λ n. absurd (w (definite-same a _ _ l (λ m. h (mem-iff _ _ .1 m)) (λ m. n (mem-iff _ _ .1 m)) (and-iff (entry (removal a (view ws ms)) t .kept) _ .0 k .1)))));
+}
+  where
+    lost : (t : ℕ) → So (definiteKept (entry (removal a (view ws ms)) t)) → Lacks a (entry (removal a (view ws ms)) t) (entry (view ws ms) t)
+    lost t k = subst (λ d. Lacks a d (entry (view ws ms) t)) (sym (entry-removal a (view ws ms) t)) (lacks a (entry (view ws ms) t) (subst (λ d. So (d .kept)) (entry-removal a (view ws ms) t) (and-iff (entry (removal a (view ws ms)) t .kept) _ .0 k .0)))
+
+    low : (t : ℕ) → Lacks a (entry (removal a (view ws ms)) t) (entry (view ws ms) t) → t < getD ws 1 0
+    low t l = omega (arith, kept-lt (view ws ms) t (l .kept), length-view ws ms)

@@ -2,8 +2,8 @@
 use mathlib.Core.Path.{_≡_, sym, ap, subst, _∙_}
 use mathlib.Core.Bool.{So}
 use mathlib.Core.List.{List}
-use Prim.Native.Nat.{ℕ, _≤_, _<_}
-use lib.ListN.{length, getD, replicate}
+use Prim.Native.Nat.{ℕ, _≤_}
+use lib.ListN.{length, replicate}
 use Rattle.rewriting.specs.Marked.{Marked}
 use Rattle.rewriting.specs.Exclusion.{removal}
 use Rattle.table.specs.Questions.{Passed}
@@ -12,10 +12,10 @@ use Rattle.table.specs.Clearing.{marksWithout}
 use Rattle.table.proofs.Clearing.{view-without}
 use Rattle.step_reach.specs.Bytes.{inBytes}
 use Rattle.step_reach.proofs.Laws.{none-in}
-use Rattle.step_exclusion.proofs.Sets.{copy-view}
 use Rattle.search_exclusion.specs.Smallest.{Idle}
-use Rattle.search_idle.specs.Forgets.{NewHeads, Forgets}
+use Rattle.search_idle.specs.Forgets.{HeadsWith, Forgets}
 use Rattle.search_idle.proofs.Stays.{idle-removal}
+use Rattle.search_idle.proofs.Forgets.{forgets-as, new-without}
 
 -- nothing is known to be idle
 pub idle-none : (n : ℕ) (P : Marked) (k : ℕ) (s : List ℕ) → s ≡ replicate k 0 → Idle n P s
@@ -25,8 +25,7 @@ idle-none n P k s e = record { headless = λ t m. absurd (out t m); positive = �
     out t m = none-in k t (subst (λ s. So (inBytes s t)) e m)
 
 -- What is idle is what was, but for what is forgotten.
-pub idle-kept : (ws ms before ms′ : List ℕ) (a n : ℕ) (s s′ : List ℕ) → Passed ws → length ws ≤ length ms → ((i : ℕ) → i < length ws → getD before i 0 ≡ getD ms i 0) → ms′ ≡ marksWithout ws ms a → Forgets (NewHeads (view ws before) (view ws ms′)) (view ws ms′) s s′
-    → Idle n (view ws ms) s → Idle n (view ws ms′) s′
-idle-kept ws ms before ms′ a n s s′ p l c q d h =
+pub idle-kept : (ws ms ms′ : List ℕ) (a n : ℕ) (s s′ : List ℕ) → Passed ws → length ws ≤ length ms → ms′ ≡ marksWithout ws ms a → Forgets (HeadsWith ws (view ws ms′) a) (view ws ms′) s s′ → Idle n (view ws ms) s → Idle n (view ws ms′) s′
+idle-kept ws ms ms′ a n s s′ p l q d h =
     let e : view ws ms′ ≡ removal a (view ws ms) = ap (view ws) q ∙ view-without ws ms a p l in
-    subst (λ P. Idle n P s′) (sym e) (idle-removal (view ws ms) a n s s′ (subst (λ Q. Forgets (NewHeads (view ws ms) Q) Q s s′) e (subst (λ P. Forgets (NewHeads P (view ws ms′)) (view ws ms′) s s′) (copy-view ws before ms p c) d)) h)
+    subst (λ P. Idle n P s′) (sym e) (idle-removal (view ws ms) a n s s′ (forgets-as _ _ _ s s′ (new-without ws ms a) (subst (λ Q. Forgets (HeadsWith ws Q a) Q s s′) e d)) h)

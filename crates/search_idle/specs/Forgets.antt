@@ -1,6 +1,6 @@
 -- What may follow once clauses have got definite: a set of atoms, and the constraints that are then no longer known to be idle.
 use mathlib.Core.Path.{_≡_}
-use mathlib.Core.Bool.{Bool, not, _&&_, So}
+use mathlib.Core.Bool.{Bool, _&&_, So}
 use mathlib.Core.List.{List}
 use Prim.Native.Nat.{ℕ, _≤_}
 use lib.ListN.{length, take}
@@ -8,16 +8,15 @@ use Rattle.semantics.specs.Lists.{_∈_}
 use Rattle.semantics.specs.Programs.{Atoms, Subset}
 use Rattle.rewriting.specs.Marked.{Entry, Marked, entry}
 use Rattle.rewriting.specs.Consequences.{definite}
+use Rattle.step_parts.specs.Parts.{Stands, Latest}
+use Rattle.step_parts.specs.declared.Part.{Part}
+use Rattle.step_parts.specs.declared.Part.the-variants.{Head, Neg}
 use Rattle.step_reach.specs.Bytes.{inBytes}
 use Rattle.step_reach.specs.Counts.{Queued}
 
 -- kept, with "one head atom, no negative atoms"
 abbrev pub definiteKept : Entry → Bool
 definiteKept e = e .kept && definite (e .clause)
-
--- The clause is so, and had not one head atom and no negative atoms before.
-abbrev pub gotDefinite : Entry → Entry → Bool
-gotDefinite e d = definiteKept d && not (definite (e .clause))
 
 -- the head of such a clause is in the set
 abbrev pub Heads : Atoms → Entry → Type 0
@@ -50,6 +49,20 @@ pub record Met (Q : Marked) (s idle : List ℕ) (t : ℕ) : Type 0 where
   pub out : ¬ So (inBytes idle t)
   pub heads : Heads (inBytes s) (entry Q t)
 
+-- So is every clause with the atom in part x, also where it was dropped.
+pub record MetAt (ws : List ℕ) (Q : Marked) (x : Part) (a : ℕ) (s idle : List ℕ) : Type 0 where
+  pub each : (t j : ℕ) → Stands ws x a t j → Met Q s idle t
+
+-- The last place of an atom in a part.
+pub record LastPlace (ws index : List ℕ) (i : ℕ) : Type 0 where
+  pub part : Part
+  pub atom : ℕ
+  pub is : Latest ws index part atom (length ws) i
+
+-- Of whichever atom and part that is the last place: every clause with the atom in the part is met.
+pub record MetFrom (ws index : List ℕ) (Q : Marked) (i : ℕ) (s idle : List ℕ) : Type 0 where
+  pub each : (x : Part) (a : ℕ) → Latest ws index x a (length ws) i → MetAt ws Q x a s idle
+
 -- So is every clause with the atom in its positive body.
 abbrev pub MetAll : Marked → List ℕ → List ℕ → ℕ → Type 0
 MetAll Q s idle a = (t : ℕ) → a ∈ entry Q t .clause .pos → Met Q s idle t
@@ -59,6 +72,11 @@ pub record Spread (Q : Marked) (s idle s′ idle′ : List ℕ) : Type 0 where
   pub more : Subset (inBytes s) (inBytes s′)
   pub less : Subset (inBytes idle′) (inBytes idle)
   pub all : (a : ℕ) → So (inBytes s′ a) → MetAll Q s′ idle′ a
+
+-- The heads of the kept definite clauses are in the set that have the atom in the head or the negative body, also where it was dropped.
+pub record HeadsWith (ws : List ℕ) (Q : Marked) (a : ℕ) (F : Atoms) : Type 0 where
+  pub head : (t j : ℕ) → Stands ws Head a t j → Heads F (entry Q t)
+  pub neg : (t j : ℕ) → Stands ws Neg a t j → Heads F (entry Q t)
 
 -- For a set of atoms of which H holds, and which holds the head of each kept definite clause with an atom of the set in its positive body: what is idle was so, and has no atom
 -- of the set there.

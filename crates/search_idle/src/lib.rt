@@ -10,10 +10,10 @@ ghost use Rattle.step_parts.specs.Parts.{Ready, ownerAt};
 ghost use Rattle.step_reach.specs.Bytes.{inBytes};
 ghost use Rattle.step_reach.specs.Counts.{Queued};
 ghost use Rattle.search_exclusion.specs.Smallest.{Idle};
-ghost use Rattle.search_idle.specs.Forgets.{definiteKept, gotDefinite, Heads, NewHeads, Later, Forgot, Onward, Met, MetAll, Spread, Forgets};
+ghost use Rattle.search_idle.specs.Forgets.{definiteKept, Heads, Later, Forgot, Onward, Met, LastPlace, MetFrom, MetAt, Spread, HeadsWith, Forgets};
 use step_parts::Part;
 
-// ---- clauses that get definite
+// ---- clauses that are met
 
 // Whether clause t is kept and has one head atom and no negative atoms.
 fn fires(words: &[u16], marks: &[u8], index: &[u16], t: usize) -> bool
@@ -25,41 +25,6 @@ fn fires(words: &[u16], marks: &[u8], index: &[u16], t: usize) -> bool
     }
     step_exclusion::is_definite(words, marks, index, t)
 }
-
-// Whether clause t is so by the marks after, and had not one head atom and no negative atoms by those before.
-fn gets_definite(words: &[u16], before: &[u8], after: &[u8], index: &[u16], t: usize) -> bool
-    requires { ⌜ (Ready (now words) (now before) (now index)) × ((Ready (now words) (now after) (now index)) × (t < getD (now words) 1 0)) ⌝ }
-    ensures { λ r. ⌜ r ≡ gotDefinite (entry (view (now (words .entry)) (now (before .entry))) t) (entry (view (now (words .entry)) (now (after .entry))) t) ⌝ }
-{
-    if !fires(words, after, index, t) {
-        return false;
-    }
-    !step_exclusion::is_definite(words, before, index, t)
-}
-
-// The heads of those clauses join the set, which is empty. The queue's length then.
-fn new_heads(
-    words: &[u16],
-    before: &[u8],
-    after: &[u8],
-    index: &[u16],
-    bytes: &mut [u8],
-    queue: &mut [u16],
-) -> usize
-    requires { ⌜ (Ready (now words) (now before) (now index)) × ((Ready (now words) (now after) (now index)) × ((getD (now words) 0 0 ≤ length (now bytes)) × (Queued (now bytes) (now queue) 0))) ⌝ }
-    ensures { λ r. ⌜ (NewHeads (view (now (words .entry)) (now (before .entry))) (view (now (words .entry)) (now (after .entry))) (inBytes (now (bytes .exit)))) × (Queued (now (bytes .exit)) (now (queue .exit)) r) ⌝ }
-{
-    let mut top: usize = 0;
-    for t in 0..table::wide(words[1]) {
-        if !gets_definite(words, before, after, index, t) {
-            continue;
-        }
-        top = step_reach::join_part(words, after, index, t, Part::Head, bytes, queue, top);
-    }
-    top
-}
-
-// ---- what may follow by them
 
 // The head of clause t joins where the clause is kept and definite. The queue's length then.
 fn join_head(
@@ -89,7 +54,7 @@ fn forget(idle: &mut [u8], t: usize)
     }
 }
 
-// Where place i is kept, its clause is forgotten, and its head joins. The queue's length then.
+// The clause of place i is forgotten, and its head joins. The queue's length then.
 fn meet(
     words: &[u16],
     marks: &[u8],
@@ -101,32 +66,31 @@ fn meet(
     idle: &mut [u8],
 ) -> usize
     requires { ⌜ (Ready (now words) (now marks) (now index)) × ((i < length (now words)) × ((getD (now index) (ownerAt i) 0 < getD (now words) 1 0) × ((getD (now words) 0 0 ≤ length (now bytes)) × (Queued (now bytes) (now queue) top)))) ⌝ }
-    ensures { λ r. ⌜ (Onward (now (bytes .entry)) (now (queue .entry)) top (now (idle .entry)) (now (bytes .exit)) (now (queue .exit)) r (now (idle .exit))) × (getD (now (marks .entry)) i 0 ≡ 1 → Met (view (now (words .entry)) (now (marks .entry))) (now (bytes .exit)) (now (idle .exit)) (getD (now (index .entry)) (ownerAt i) 0)) ⌝ }
+    ensures { λ r. ⌜ (Onward (now (bytes .entry)) (now (queue .entry)) top (now (idle .entry)) (now (bytes .exit)) (now (queue .exit)) r (now (idle .exit))) × (Met (view (now (words .entry)) (now (marks .entry))) (now (bytes .exit)) (now (idle .exit)) (getD (now (index .entry)) (ownerAt i) 0)) ⌝ }
 {
-    if marks[i] != 1 {
-        return top;
-    }
     let t = step_parts::owner(words, index, i);
     forget(idle, t);
     join_head(words, marks, index, t, bytes, queue, top)
 }
 
-// So with each clause that has atom k of the queue in its positive body. The queue's length then.
-fn spread_atom(
+// ---- the places of an atom, and of those that may follow
+
+// So with the clause of each place from the last one of an atom on. The queue's length then.
+fn spread_places(
     words: &[u16],
     marks: &[u8],
     index: &[u16],
-    k: usize,
+    last: usize,
     bytes: &mut [u8],
     queue: &mut [u16],
     top: usize,
     idle: &mut [u8],
 ) -> usize
-    requires { ⌜ (Ready (now words) (now marks) (now index)) × ((k < top) × ((getD (now words) 0 0 ≤ length (now bytes)) × (Queued (now bytes) (now queue) top))) ⌝ }
-    ensures { λ r. ⌜ (Onward (now (bytes .entry)) (now (queue .entry)) top (now (idle .entry)) (now (bytes .exit)) (now (queue .exit)) r (now (idle .exit))) × (MetAll (view (now (words .entry)) (now (marks .entry))) (now (bytes .exit)) (now (idle .exit)) (getD (now (queue .entry)) k 0)) ⌝ }
+    requires { ⌜ (Ready (now words) (now marks) (now index)) × ((LastPlace (now words) (now index) last) × ((getD (now words) 0 0 ≤ length (now bytes)) × (Queued (now bytes) (now queue) top))) ⌝ }
+    ensures { λ r. ⌜ (Onward (now (bytes .entry)) (now (queue .entry)) top (now (idle .entry)) (now (bytes .exit)) (now (queue .exit)) r (now (idle .exit))) × (MetFrom (now (words .entry)) (now (index .entry)) (view (now (words .entry)) (now (marks .entry))) last (now (bytes .exit)) (now (idle .exit))) ⌝ }
 {
     let mut end = top;
-    let mut i = step_parts::last_place(words, index, Part::Pos, queue[k]);
+    let mut i = last;
     while i != 0 {
         end = meet(words, marks, index, i, bytes, queue, end, idle);
         i = step_parts::place_before(words, index, i);
@@ -134,7 +98,26 @@ fn spread_atom(
     end
 }
 
-// So with each atom of the queue, and those that join it: each is taken once.
+// So with each clause that has the atom in that part, also where it was dropped. The queue's length then.
+fn spread_atom(
+    words: &[u16],
+    marks: &[u8],
+    index: &[u16],
+    part: Part,
+    atom: u16,
+    bytes: &mut [u8],
+    queue: &mut [u16],
+    top: usize,
+    idle: &mut [u8],
+) -> usize
+    requires { ⌜ (Ready (now words) (now marks) (now index)) × ((atom < 1024) × ((getD (now words) 0 0 ≤ length (now bytes)) × (Queued (now bytes) (now queue) top))) ⌝ }
+    ensures { λ r. ⌜ (Onward (now (bytes .entry)) (now (queue .entry)) top (now (idle .entry)) (now (bytes .exit)) (now (queue .exit)) r (now (idle .exit))) × (MetAt (now (words .entry)) (view (now (words .entry)) (now (marks .entry))) part atom (now (bytes .exit)) (now (idle .exit))) ⌝ }
+{
+    let last = step_parts::last_place(words, index, part, atom);
+    spread_places(words, marks, index, last, bytes, queue, top, idle)
+}
+
+// So with each clause that has an atom of the queue in its positive body: each atom that joins is taken once.
 fn spread(
     words: &[u16],
     marks: &[u8],
@@ -150,25 +133,60 @@ fn spread(
     let mut end = top;
     let mut k: usize = 0;
     while k < end {
-        end = spread_atom(words, marks, index, k, bytes, queue, end, idle);
+        let atom = queue[k];
+        end = spread_atom(
+            words,
+            marks,
+            index,
+            Part::Pos,
+            atom,
+            bytes,
+            queue,
+            end,
+            idle,
+        );
         k += 1;
     }
 }
 
 // ---- the steps
 
-// What may follow now and did not before, by way of a clause that has got definite: the constraints with such an atom are no longer known to be idle.
-fn forget_new(words: &[u16], before: &[u8], after: &[u8], index: &[u16], idle: &mut [u8])
-    requires { ⌜ (Ready (now words) (now before) (now index)) × (Ready (now words) (now after) (now index)) ⌝ }
-    ensures { λ _. ⌜ Forgets (NewHeads (view (now (words .entry)) (now (before .entry))) (view (now (words .entry)) (now (after .entry)))) (view (now (words .entry)) (now (after .entry))) (now (idle .entry)) (now (idle .exit)) ⌝ }
+// What may follow now that the atom is dropped from heads and negative bodies, and did not before: the constraints with such an atom are no longer known to be idle.
+fn forget_without(words: &[u16], marks: &[u8], index: &[u16], atom: u16, idle: &mut [u8])
+    requires { ⌜ Ready (now words) (now marks) (now index) ⌝ }
+    ensures { λ _. ⌜ Forgets (HeadsWith (now (words .entry)) (view (now (words .entry)) (now (marks .entry))) atom) (view (now (words .entry)) (now (marks .entry))) (now (idle .entry)) (now (idle .exit)) ⌝ }
 {
+    if 1024 <= atom {
+        return;
+    }
     let mut bytes = [0u8; 1024];
     let mut queue = [0u16; 1024];
-    let top = new_heads(words, before, after, index, &mut bytes, &mut queue);
-    spread(words, after, index, &mut bytes, &mut queue, top, idle);
+    let a = spread_atom(
+        words,
+        marks,
+        index,
+        Part::Head,
+        atom,
+        &mut bytes,
+        &mut queue,
+        0,
+        idle,
+    );
+    let b = spread_atom(
+        words,
+        marks,
+        index,
+        Part::Neg,
+        atom,
+        &mut bytes,
+        &mut queue,
+        a,
+        idle,
+    );
+    spread(words, marks, index, &mut bytes, &mut queue, b, idle);
 }
 
-// The same where clause t alone may have got definite.
+// The same where clause t alone may have got one head atom and no negative atoms.
 pub fn forget_at(words: &[u16], marks: &[u8], index: &[u16], t: usize, idle: &mut [u8])
     requires { ⌜ (Ready (now words) (now marks) (now index)) × (t < getD (now words) 1 0) ⌝ }
     ensures { λ _. ⌜ Forgets (λ F. Heads F (entry (view (now (words .entry)) (now (marks .entry))) t)) (view (now (words .entry)) (now (marks .entry))) (now (idle .entry)) (now (idle .exit)) ⌝ }
@@ -196,8 +214,6 @@ pub fn exclude_atom(words: &[u16], marks: &mut [u8], index: &[u16], atom: u16, i
     requires { ⌜ (Ready (now words) (now marks) (now index)) × (Idle (getD (now words) 0 0) (view (now words) (now marks)) (now idle)) ⌝ }
     ensures { λ _. ⌜ (now (marks .exit) ≡ marksWithout (now (words .entry)) (now (marks .entry)) atom) × (Idle (getD (now (words .entry)) 0 0) (view (now (words .entry)) (now (marks .exit))) (now (idle .exit))) ⌝ }
 {
-    let mut before = [0u8; 8192];
-    step_exclusion::copy_marks(words, marks, &mut before);
     step_exclusion::remove_atom(words, marks, index, atom);
-    forget_new(words, &before, marks, index, idle);
+    forget_without(words, marks, index, atom, idle);
 }

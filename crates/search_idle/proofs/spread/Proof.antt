@@ -5,9 +5,9 @@ use mathlib.Core.List.{List·Memᴰ·not-nil}
 use Prim.Native.Nat.{_≤_, _-_}
 use lib.ListN.{length}
 use Rattle.table.specs.View.{view}
-use Rattle.step_reach.proofs.Queue.{queued-few}
+use Rattle.step_reach.proofs.Queue.{queued-few, queued-at}
 use Rattle.search_idle.specs.Forgets.{Onward}
-use Rattle.search_idle.proofs.Forgets.{onward-none, onward-trans, MetFirst, first-on, first-end}
+use Rattle.search_idle.proofs.Forgets.{onward-none, onward-trans, met-all, MetFirst, first-on, first-end}
 use borrow.Author.Needs.{needs}
 use Rattle.search_idle.proofs.spread.Statement.{statement}
 use Rattle.search_idle.proofs.spread.Tie as tie
@@ -21,17 +21,23 @@ abbrev μ-loop : tie.MeasureT-loop
 loop-holds : tie.Need-loop-holds Inv-loop μ-loop
 loop-holds c = (refl, (refl, (onward-none _ _ _ _ (c .before .before .before .before .before .before .pre .1 .1), (search needs, λ a m. absurd (List·Memᴰ·not-nil m)))))
 
+mul-atom : tie.Need-mul-atom Inv-loop μ-loop
+mul-atom c = omega (arith, queued-few (c .before .loop .inv .1 .1 .0 .later .queued))
+
+slice-read-atom : tie.Need-slice-read-atom Inv-loop μ-loop
+slice-read-atom c = omega (arith, queued-few (c .before .before .loop .inv .1 .1 .0 .later .queued), c .before .before .loop .inv .1 .1 .0 .later .queued .room)
+
 spread-atom-requires : tie.Need-spread-atom-requires Inv-loop μ-loop
-spread-atom-requires c κs = (c .before .before .before .before .before .before .before .before .before .before .before .pre .0, (c .before .before .before .loop-test .taken, (omega (arith, c .before .before .before .before .before .before .before .before .before .before .before .pre .1 .0, c .before .before .before .before .loop .inv .1 .1 .0 .later .long), c .before .before .before .before .loop .inv .1 .1 .0 .later .queued)))
+spread-atom-requires c κs = (c .before .before .before .before .before .before .before .before .before .before .before .before .pre .0, (c .before .before .before .before .before .loop .inv .1 .1 .0 .later .queued .below _ (queued-at _ (c .before .before .before .before .before .loop .inv .1 .1 .0 .later .queued) (c .before .before .before .before .loop-test .taken)), (omega (arith, c .before .before .before .before .before .before .before .before .before .before .before .before .pre .1 .0, c .before .before .before .before .before .loop .inv .1 .1 .0 .later .long), c .before .before .before .before .before .loop .inv .1 .1 .0 .later .queued)))
 
 add-k : tie.Need-add-k Inv-loop μ-loop
-add-k c = omega (arith, queued-few (c .before .before .before .before .before .before .before .before .before .before .before .loop .inv .1 .1 .0 .later .queued))
+add-k c = omega (arith, queued-few (c .before .before .before .before .before .before .before .before .before .before .before .before .loop .inv .1 .1 .0 .later .queued))
 
 loop-less : tie.Need-loop-less Inv-loop μ-loop
-loop-less c = omega (arith, queued-few (c .before .before .before .before .before .before .before .before .before .before .before .loop .inv .1 .1 .0 .later .queued))
+loop-less c = omega (arith, queued-few (c .before .before .before .before .before .before .before .before .before .before .before .before .loop .inv .1 .1 .0 .later .queued))
 
 loop-again : tie.Need-loop-again Inv-loop μ-loop
-loop-again c = (c .before .before .before .before .before .before .spread-atom .kept .1 .1 .1 .1 .1 .0 ∙ c .before .before .before .before .before .before .before .before .before .before .before .loop .inv .0, (c .before .before .before .before .before .before .spread-atom .kept .1 .1 .1 .1 .1 .1 .1 .0 ∙ c .before .before .before .before .before .before .before .before .before .before .before .loop .inv .1 .0, (onward-trans (c .before .before .before .before .before .before .before .before .before .before .before .loop .inv .1 .1 .0) (c .before .before .before .before .before .before .spread-atom .ensures .0), (omega (arith, c .before .before .before .before .before .before .spread-atom .ensures .0 .later .longer), first-on (view (c .before .before .before .before .before .before .before .before .before .before .before .before .before .before .before .before .before .before .args .words .now) (c .before .before .before .before .before .before .before .before .before .before .before .before .before .before .before .before .before .before .args .marks .now)) (c .before .before .before .before .before .before .before .before .before .before .before .loop .k) (c .before .before .before .before .before .before .before .before .before .before .loop-test .taken) (c .before .before .before .before .before .before .before .before .before .before .before .loop .inv .1 .1 .0 .later .queued) (c .before .before .before .before .before .before .spread-atom .ensures .0) (c .before .before .before .before .before .before .spread-atom .ensures .1) (c .before .before .before .before .before .before .before .before .before .before .before .loop .inv .1 .1 .1 .1)))))
+loop-again c = (c .before .before .before .before .before .before .spread-atom .kept .1 .1 .1 .1 .1 .1 .0 ∙ c .before .before .before .before .before .before .before .before .before .before .before .before .loop .inv .0, (c .before .before .before .before .before .before .spread-atom .kept .1 .1 .1 .1 .1 .1 .1 .1 .0 ∙ c .before .before .before .before .before .before .before .before .before .before .before .before .loop .inv .1 .0, (onward-trans (c .before .before .before .before .before .before .before .before .before .before .before .before .loop .inv .1 .1 .0) (c .before .before .before .before .before .before .spread-atom .ensures .0), (omega (arith, c .before .before .before .before .before .before .spread-atom .ensures .0 .later .longer), first-on (view (c .before .before .before .before .before .before .before .before .before .before .before .before .before .before .before .before .before .before .before .args .words .now) (c .before .before .before .before .before .before .before .before .before .before .before .before .before .before .before .before .before .before .before .args .marks .now)) (c .before .before .before .before .before .before .before .before .before .before .before .before .loop .k) (c .before .before .before .before .before .before .before .before .before .before .before .loop-test .taken) (c .before .before .before .before .before .before .before .before .before .before .before .before .loop .inv .1 .1 .0 .later .queued) (c .before .before .before .before .before .before .spread-atom .ensures .0) (met-all (c .before .before .before .before .before .before .before .before .before .before .before .before .before .before .before .before .before .before .before .args .words .now) (c .before .before .before .before .before .before .before .before .before .before .before .before .before .before .before .before .before .before .before .args .marks .now) _ _ _ (c .before .before .before .before .before .before .spread-atom .ensures .1)) (c .before .before .before .before .before .before .before .before .before .before .before .before .loop .inv .1 .1 .1 .1)))))
 
 same-length : tie.Need-same-length Inv-loop μ-loop
 same-length c = c .before .loop .inv .1 .1 .0 .later .long
@@ -48,4 +54,4 @@ returns c = first-end (view (c .before .before .before .before .before .before .
 pub spread-spec : {M : Type 1} → statement M
 spread-spec =
     tie.close
-    (tie.spec Inv-loop μ-loop loop-holds spread-atom-requires add-k loop-less loop-again same-length same-length-2 same-length-3 returns)
+    (tie.spec Inv-loop μ-loop loop-holds mul-atom slice-read-atom spread-atom-requires add-k loop-less loop-again same-length same-length-2 same-length-3 returns)
