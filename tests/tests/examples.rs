@@ -227,11 +227,16 @@ fn small_programs() {
 #[test]
 fn a_stack_of_192_kilobytes() {
     let calls = || {
-        let shape = SHAPES.iter().find(|shape| shape.name == "random sparse").unwrap();
-        let table = shape.table(shape.full);
-        let (steps, marks, list) = library::reduce(&table, &vec![0; table.len()], &vec![0; 32760]);
-        assert_eq!(library::check(&table, &marks, &list[..4 * steps as usize]).0, steps);
-        library::reduced_table(&table, &marks, &table);
+        let reduced = |name: &str| {
+            let shape = SHAPES.iter().find(|shape| shape.name == name).unwrap();
+            let table = shape.table(shape.full);
+            let (steps, marks, list) = library::reduce(&table, &vec![0; table.len()], &vec![0; 32760]);
+            assert_eq!(library::check(&table, &marks, &list[..4 * steps as usize]).0, steps);
+            library::reduced_table(&table, &marks, &table);
+            table
+        };
+        reduced("disjunctions that bans make facts");
+        let table = reduced("random sparse");
         assert_eq!(library::test(&table, &(0..16).collect::<Vec<_>>()), 0);
         assert_eq!(library::cycle(&table), 1);
         let pairs = words(&parse(16, "0|1. 2|3. 4|5. 6|7. 8|9. 10|11. 12|13. 14|15."));

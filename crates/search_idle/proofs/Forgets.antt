@@ -28,6 +28,7 @@ use Rattle.step_reach.specs.Bytes.{inBytes}
 use Rattle.step_reach.specs.Counts.{Queued, Joined}
 use Rattle.step_reach.proofs.Laws.{is-out}
 use Rattle.step_reach.proofs.Queue.{take-more, queued-few}
+use Rattle.search_exclusion.specs.Tries.{Unset}
 use Rattle.search_idle.specs.Forgets.{definiteKept, Heads, NewHeads, Later, Forgot, Onward, Met, MetAt, MetAll, Spread, HeadsWith, Forgets}
 
 -- ---- a clause that is definite
@@ -46,8 +47,8 @@ later-none s q top z = record { more = λ a m. m; long = refl; longer = omega ar
 pub later-joined : {X : ℕ → Type 0} {s q s′ q′ : List ℕ} {top top′ : ℕ} → Joined X s q top s′ q′ top′ → Later s q top s′ q′ top′
 later-joined j = record { more = j .more; long = j .long; longer = j .longer; before = j .before; queued = j .queued }
 
-pub heads-not : (e : Entry) (s : List ℕ) → definiteKept e ≡ false → Heads (inBytes s) e
-heads-not e s h k = absurd (not-so h k)
+pub heads-not : (e : Entry) (F : Atoms) → definiteKept e ≡ false → Heads F e
+heads-not e F h k = absurd (not-so h k)
 
 -- ---- a clause is forgotten
 
@@ -80,36 +81,36 @@ onward-trans f g = record {
 }
 
 -- a clause that is met stays so
-pub met-later : (Q : Marked) {s q x s′ q′ x′ : List ℕ} {k k′ : ℕ} (t : ℕ) → Onward s q k x s′ q′ k′ x′ → Met Q s x t → Met Q s′ x′ t
+pub met-later : (Q : Marked) {s q x s′ q′ x′ : List ℕ} {k k′ : ℕ} (t : ℕ) → Onward s q k x s′ q′ k′ x′ → Met Q (inBytes s) x t → Met Q (inBytes s′) x′ t
 met-later Q t g m = record { out = λ z. m .out (g .less t z); heads = λ k b n. g .later .more b (m .heads k b n) }
 
-pub met-owner : (Q : Marked) (s x x′ : List ℕ) (u t : ℕ) → u ≡ t → Forgot x u x′ → Heads (inBytes s) (entry Q u) → Met Q s x′ t
-met-owner Q s x x′ u t e f h = subst (Met Q s x′) e (record { out = f .out; heads = h })
+pub met-owner : (Q : Marked) (F : Atoms) (x x′ : List ℕ) (u t : ℕ) → u ≡ t → Forgot x u x′ → Heads F (entry Q u) → Met Q F x′ t
+met-owner Q F x x′ u t e f h = subst (Met Q F x′) e (record { out = f .out; heads = h })
 
 -- ---- along the places of an atom
 
 module _ (ws index : List ℕ) (Q : Marked) (x : Part) (b : ℕ) where
   -- the clauses at the places above i are met, and the atom stands at i
   abbrev pub Above : List ℕ → List ℕ → ℕ → Type 0
-  Above s y i = ((t j : ℕ) → Stands ws x b t j → i < j → Met Q s y t) × (0 < i → (i < length ws) × Stands ws x b (getD index (ownerAt i) 0) i)
+  Above s y i = ((t j : ℕ) → Stands ws x b t j → i < j → Met Q (inBytes s) y t) × (0 < i → (i < length ws) × Stands ws x b (getD index (ownerAt i) 0) i)
 
   pub above-start : (s y : List ℕ) (i : ℕ) → Passed ws → Latest ws index x b (length ws) i → Above s y i
   above-start s y i p f = (λ t j st h. absurd (f .none t j st h (stands-small p st .1)), f .some)
 
-  pub above-on : {s q y s′ q′ y′ : List ℕ} {k k′ : ℕ} (i n : ℕ) → 0 < i → Latest ws index x b i n → Onward s q k y s′ q′ k′ y′ → Met Q s′ y′ (getD index (ownerAt i) 0) → Above s y i → Above s′ y′ n
+  pub above-on : {s q y s′ q′ y′ : List ℕ} {k k′ : ℕ} (i n : ℕ) → 0 < i → Latest ws index x b i n → Onward s q k y s′ q′ k′ y′ → Met Q (inBytes s′) y′ (getD index (ownerAt i) 0) → Above s y i → Above s′ y′ n
   above-on {s′ = s′} {y′ = y′} i n z f g m w = (next, λ u. let (l, v) = f .some u in (omega (arith, w .1 z .0), v))
     where
-      next : (t j : ℕ) → Stands ws x b t j → n < j → Met Q s′ y′ t
+      next : (t j : ℕ) → Stands ws x b t j → n < j → Met Q (inBytes s′) y′ t
       next t j st h = by-cases (decLt j i)
           (λ l. absurd (f .none t j st h l))
           (λ l. by-cases (ℕ-discrete j i)
-          (λ d. subst (Met Q s′ y′) (sym (stands-clause (subst (Stands ws x b t) d st) (w .1 z .1))) m)
+          (λ d. subst (Met Q (inBytes s′) y′) (sym (stands-clause (subst (Stands ws x b t) d st) (w .1 z .1))) m)
           (λ d. met-later Q t g (w .0 t j st (omega arith))))
 
   pub above-end : (s y : List ℕ) (i : ℕ) → i ≡ 0 → Above s y i → MetAt ws Q x b s y
   above-end s y i z w = record { each = λ t j st. w .0 t j st (omega (arith, stands-in st)) }
 
-pub met-all : (ws ms : List ℕ) (a : ℕ) (s y : List ℕ) → MetAt ws (view ws ms) Pos a s y → MetAll (view ws ms) s y a
+pub met-all : (ws ms : List ℕ) (a : ℕ) (s y : List ℕ) → MetAt ws (view ws ms) Pos a s y → MetAll (view ws ms) (inBytes s) y a
 met-all ws ms a s y w t m = by-cases (decLt t (getD ws 1 0))
     (λ l. let (j, st, e) = kept-stands ws ms Pos a t l m in w .each t j st)
     (λ l. absurd (List·Memᴰ·not-nil (subst (λ e. a ∈ e .clause .pos) (List·getD-eq-default (view ws ms) gone (omega (arith, length-view ws ms))) m)))
@@ -119,9 +120,9 @@ met-all ws ms a s y w t m = by-cases (decLt t (getD ws 1 0))
 module _ (Q : Marked) where
   -- the clauses of the first k atoms are met
   abbrev pub MetFirst : List ℕ → List ℕ → ℕ → List ℕ → Type 0
-  MetFirst s q k x = (a : ℕ) → a ∈ take k q → MetAll Q s x a
+  MetFirst s q k x = (a : ℕ) → a ∈ take k q → MetAll Q (inBytes s) x a
 
-  pub first-on : {s q x s′ q′ x′ : List ℕ} {top top′ : ℕ} (k : ℕ) → k < top → Queued s q top → Onward s q top x s′ q′ top′ x′ → MetAll Q s′ x′ (getD q k 0) → MetFirst s q k x → MetFirst s′ q′ (k + 1) x′
+  pub first-on : {s q x s′ q′ x′ : List ℕ} {top top′ : ℕ} (k : ℕ) → k < top → Queued s q top → Onward s q top x s′ q′ top′ x′ → MetAll Q (inBytes s′) x′ (getD q k 0) → MetFirst s q k x → MetFirst s′ q′ (k + 1) x′
   first-on {q = q} {s′ = s′} {x′ = x′} k l z g w h a m t p = ⊎-elim
       (λ o. met-later Q t g (h a o t p))
       (λ e. w t (subst (λ c. c ∈ entry Q t .clause .pos) e p))
@@ -134,14 +135,23 @@ module _ (Q : Marked) where
 
 module _ (H : Atoms → Type 0) (Q : Marked) where
   pub forgets-by : (s x s′ x′ : List ℕ) → (Subset (inBytes s) (inBytes s′) → H (inBytes s′)) → Spread Q s x s′ x′ → Forgets H Q x x′
-  forgets-by s x s′ x′ h g = record { set = s′; heads = h (g .more); less = g .less; all = g .all }
+  forgets-by s x s′ x′ h g = record { set = inBytes s′; heads = h (g .more); less = g .less; all = g .all }
 
   -- nothing, where the set may be empty
-  pub forgets-none : (x : List ℕ) → H (inBytes []) → Forgets H Q x x
-  forgets-none x h = record { set = []; heads = h; less = λ t m. m; all = λ a m. absurd (false≢true m) }
+  pub forgets-none : (x : List ℕ) → H (λ _. false) → Forgets H Q x x
+  forgets-none x h = record { set = λ _. false; heads = h; less = λ t m. m; all = λ a m. absurd (false≢true m) }
+
+  -- nothing, where nothing is idle
+  pub forgets-nothing : (x : List ℕ) → H (λ _. true) → Unset x (length x) → Forgets H Q x x
+  forgets-nothing x h u = record {
+    set = λ _. true;
+    heads = h;
+    less = λ t m. m;
+    all = λ a m t w. record { out = λ i. by-cases (decLt t (length x)) (λ l. u .before t l i) (λ l. not-so (is-out x t (omega arith)) i); heads = λ k b n. refl };
+  }
 
 pub forgets-as : (G H : Atoms → Type 0) (Q : Marked) (x y : List ℕ) → ((F : Atoms) → G F → H F) → Forgets G Q x y → Forgets H Q x y
-forgets-as G H Q x y h f = record { set = f .set; heads = h (inBytes (f .set)) (f .heads); less = f .less; all = f .all }
+forgets-as G H Q x y h f = record { set = f .set; heads = h (f .set) (f .heads); less = f .less; all = f .all }
 
 -- ---- the clauses that lose an atom
 
@@ -150,10 +160,14 @@ module _ (ws : List ℕ) (Q : Marked) (a : ℕ) where
   pub with-none : (F : Atoms) → Passed ws → 1024 ≤ a → HeadsWith ws Q a F
   with-none F p l = record { head = λ t j st. absurd (omega (arith, stands-small p st .0)); neg = λ t j st. absurd (omega (arith, stands-small p st .0)) }
 
+  -- nothing, where nothing is idle
+  pub with-nothing : (x : List ℕ) → Unset x (length x) → Forgets (HeadsWith ws Q a) Q x x
+  with-nothing x = forgets-nothing (HeadsWith ws Q a) Q x (record { head = λ t j st k b m. refl; neg = λ t j st k b m. refl })
+
   -- from the clauses with it in the head, then in the negative body, then on
   pub forgets-two : {s q y s′ q′ y′ s″ q″ y″ s‴ y‴ : List ℕ} {k k′ k″ : ℕ} → Onward s q k y s′ q′ k′ y′ → MetAt ws Q Head a s′ y′ → Onward s′ q′ k′ y′ s″ q″ k″ y″ → MetAt ws Q Neg a s″ y″ → Spread Q s″ y″ s‴ y‴ → Forgets (HeadsWith ws Q a) Q y y‴
   forgets-two {s‴ = s‴} f h g n w = record {
-    set = s‴;
+    set = inBytes s‴;
     heads = record {
       head = λ t j st k b m. w .more b (g .later .more b (h .each t j st .heads k b m));
       neg = λ t j st k b m. w .more b (n .each t j st .heads k b m);

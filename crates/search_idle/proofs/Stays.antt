@@ -124,7 +124,7 @@ module _ (P Q : Marked) (r : (i : ℕ) → Shrinks P (entry P i) (entry Q i)) wh
 
   -- And so it is where the rest is forgotten.
   pub idle-forgets : (H : Atoms → Type 0) → ((F : Atoms) → H F → NewHeads P Q F) → (n : ℕ) (x y : List ℕ) → Forgets H Q x y → Idle n P x → Idle n Q y
-  idle-forgets H h n x y f = idle-stays (inBytes (f .set)) (record { fresh = h (inBytes (f .set)) (f .heads); on = λ b t z m. f .all b z t m .heads }) n x y (f .less) (λ b t z m. f .all b z t m .out)
+  idle-forgets H h n x y f = idle-stays (f .set) (record { fresh = h (f .set) (f .heads); on = λ b t z m. f .all b z t m .heads }) n x y (f .less) (λ b t z m. f .all b z t m .out)
 
 -- ---- kinds 1 to 8
 

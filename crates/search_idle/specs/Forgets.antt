@@ -45,13 +45,13 @@ pub record Onward (s queue : List ℕ) (top : ℕ) (idle s′ queue′ : List �
   pub less : Subset (inBytes idle′) (inBytes idle)
 
 -- Clause t is not idle, and where it is kept and definite its head is in the set.
-pub record Met (Q : Marked) (s idle : List ℕ) (t : ℕ) : Type 0 where
+pub record Met (Q : Marked) (F : Atoms) (idle : List ℕ) (t : ℕ) : Type 0 where
   pub out : ¬ So (inBytes idle t)
-  pub heads : Heads (inBytes s) (entry Q t)
+  pub heads : Heads F (entry Q t)
 
 -- So is every clause with the atom in part x, also where it was dropped.
 pub record MetAt (ws : List ℕ) (Q : Marked) (x : Part) (a : ℕ) (s idle : List ℕ) : Type 0 where
-  pub each : (t j : ℕ) → Stands ws x a t j → Met Q s idle t
+  pub each : (t j : ℕ) → Stands ws x a t j → Met Q (inBytes s) idle t
 
 -- The last place of an atom in a part.
 pub record LastPlace (ws index : List ℕ) (i : ℕ) : Type 0 where
@@ -64,14 +64,14 @@ pub record MetFrom (ws index : List ℕ) (Q : Marked) (i : ℕ) (s idle : List �
   pub each : (x : Part) (a : ℕ) → Latest ws index x a (length ws) i → MetAt ws Q x a s idle
 
 -- So is every clause with the atom in its positive body.
-abbrev pub MetAll : Marked → List ℕ → List ℕ → ℕ → Type 0
-MetAll Q s idle a = (t : ℕ) → a ∈ entry Q t .clause .pos → Met Q s idle t
+abbrev pub MetAll : Marked → Atoms → List ℕ → ℕ → Type 0
+MetAll Q F idle a = (t : ℕ) → a ∈ entry Q t .clause .pos → Met Q F idle t
 
 -- And every clause with an atom of the set there.
 pub record Spread (Q : Marked) (s idle s′ idle′ : List ℕ) : Type 0 where
   pub more : Subset (inBytes s) (inBytes s′)
   pub less : Subset (inBytes idle′) (inBytes idle)
-  pub all : (a : ℕ) → So (inBytes s′ a) → MetAll Q s′ idle′ a
+  pub all : (a : ℕ) → So (inBytes s′ a) → MetAll Q (inBytes s′) idle′ a
 
 -- The heads of the kept definite clauses are in the set that have the atom in the head or the negative body, also where it was dropped.
 pub record HeadsWith (ws : List ℕ) (Q : Marked) (a : ℕ) (F : Atoms) : Type 0 where
@@ -81,7 +81,7 @@ pub record HeadsWith (ws : List ℕ) (Q : Marked) (a : ℕ) (F : Atoms) : Type 0
 -- For a set of atoms of which H holds, and which holds the head of each kept definite clause with an atom of the set in its positive body: what is idle was so, and has no atom
 -- of the set there.
 pub record Forgets (H : Atoms → Type 0) (Q : Marked) (idle idle′ : List ℕ) : Type 0 where
-  pub set : List ℕ
-  pub heads : H (inBytes set)
+  pub set : Atoms
+  pub heads : H set
   pub less : Subset (inBytes idle′) (inBytes idle)
-  pub all : (a : ℕ) → So (inBytes set a) → MetAll Q set idle′ a
+  pub all : (a : ℕ) → So (set a) → MetAll Q set idle′ a

@@ -1,6 +1,7 @@
 // What the search of kind 9 remembers from step to step: the constraints that exclude no atom stay so, but where a clause gets definite, by which more may follow.
 // Then what may follow by it is found, from its head on: the constraints with such an atom are no longer known to be idle.
 ghost use mathlib.Core.Path.{_≡_};
+ghost use mathlib.Core.Bool.{false};
 ghost use Prim.Native.Nat.{_≤_, _<_};
 ghost use lib.ListN.{length, getD};
 ghost use Rattle.rewriting.specs.Marked.{entry};
@@ -10,6 +11,7 @@ ghost use Rattle.step_parts.specs.Parts.{Ready, ownerAt};
 ghost use Rattle.step_reach.specs.Bytes.{inBytes};
 ghost use Rattle.step_reach.specs.Counts.{Queued};
 ghost use Rattle.search_exclusion.specs.Smallest.{Idle};
+ghost use Rattle.search_exclusion.specs.Tries.{Unset};
 ghost use Rattle.search_idle.specs.Forgets.{definiteKept, Heads, Later, Forgot, Onward, Met, LastPlace, MetFrom, MetAt, Spread, HeadsWith, Forgets};
 use step_parts::Part;
 
@@ -66,7 +68,7 @@ fn meet(
     idle: &mut [u8],
 ) -> usize
     requires { ⌜ (Ready (now words) (now marks) (now index)) × ((i < length (now words)) × ((getD (now index) (ownerAt i) 0 < getD (now words) 1 0) × ((getD (now words) 0 0 ≤ length (now bytes)) × (Queued (now bytes) (now queue) top)))) ⌝ }
-    ensures { λ r. ⌜ (Onward (now (bytes .entry)) (now (queue .entry)) top (now (idle .entry)) (now (bytes .exit)) (now (queue .exit)) r (now (idle .exit))) × (Met (view (now (words .entry)) (now (marks .entry))) (now (bytes .exit)) (now (idle .exit)) (getD (now (index .entry)) (ownerAt i) 0)) ⌝ }
+    ensures { λ r. ⌜ (Onward (now (bytes .entry)) (now (queue .entry)) top (now (idle .entry)) (now (bytes .exit)) (now (queue .exit)) r (now (idle .exit))) × (Met (view (now (words .entry)) (now (marks .entry))) (inBytes (now (bytes .exit))) (now (idle .exit)) (getD (now (index .entry)) (ownerAt i) 0)) ⌝ }
 {
     let t = step_parts::owner(words, index, i);
     forget(idle, t);
@@ -151,6 +153,20 @@ fn spread(
 
 // ---- the steps
 
+// Whether some constraint is idle: each byte is looked at, so that the machine may look at many at once.
+fn any_idle(idle: &[u8]) -> bool
+    ensures { λ r. ⌜ (r ≡ false → Unset (now (idle .entry)) (length (now (idle .entry)))) ⌝ }
+{
+    let mut any = false;
+    for i in 0..idle.len() {
+        if idle[i] != 1 {
+            continue;
+        }
+        any = true;
+    }
+    any
+}
+
 // What may follow now that the atom is dropped from heads and negative bodies, and did not before: the constraints with such an atom are no longer known to be idle.
 fn forget_without(words: &[u16], marks: &[u8], index: &[u16], atom: u16, idle: &mut [u8])
     requires { ⌜ Ready (now words) (now marks) (now index) ⌝ }
@@ -186,14 +202,11 @@ fn forget_without(words: &[u16], marks: &[u8], index: &[u16], atom: u16, idle: &
     spread(words, marks, index, &mut bytes, &mut queue, b, idle);
 }
 
-// The same where clause t alone may have got one head atom and no negative atoms.
-pub fn forget_at(words: &[u16], marks: &[u8], index: &[u16], t: usize, idle: &mut [u8])
+// The same from the head of clause t on.
+fn forget_from(words: &[u16], marks: &[u8], index: &[u16], t: usize, idle: &mut [u8])
     requires { ⌜ (Ready (now words) (now marks) (now index)) × (t < getD (now words) 1 0) ⌝ }
     ensures { λ _. ⌜ Forgets (λ F. Heads F (entry (view (now (words .entry)) (now (marks .entry))) t)) (view (now (words .entry)) (now (marks .entry))) (now (idle .entry)) (now (idle .exit)) ⌝ }
 {
-    if !fires(words, marks, index, t) {
-        return;
-    }
     let mut bytes = [0u8; 1024];
     let mut queue = [0u16; 1024];
     let top = step_reach::join_part(
@@ -209,11 +222,28 @@ pub fn forget_at(words: &[u16], marks: &[u8], index: &[u16], t: usize, idle: &mu
     spread(words, marks, index, &mut bytes, &mut queue, top, idle);
 }
 
+// After a drop in clause t, which alone may have got definite by it.
+pub fn forget_at(words: &[u16], marks: &[u8], index: &[u16], t: usize, idle: &mut [u8])
+    requires { ⌜ (Ready (now words) (now marks) (now index)) × (t < getD (now words) 1 0) ⌝ }
+    ensures { λ _. ⌜ Forgets (λ F. Heads F (entry (view (now (words .entry)) (now (marks .entry))) t)) (view (now (words .entry)) (now (marks .entry))) (now (idle .entry)) (now (idle .exit)) ⌝ }
+{
+    if !fires(words, marks, index, t) {
+        return;
+    }
+    if !any_idle(idle) {
+        return;
+    }
+    forget_from(words, marks, index, t, idle);
+}
+
 // The step's effect on the marks. What is idle stays so, but for the constraints that a clause which gets definite may concern.
 pub fn exclude_atom(words: &[u16], marks: &mut [u8], index: &[u16], atom: u16, idle: &mut [u8])
     requires { ⌜ (Ready (now words) (now marks) (now index)) × (Idle (getD (now words) 0 0) (view (now words) (now marks)) (now idle)) ⌝ }
     ensures { λ _. ⌜ (now (marks .exit) ≡ marksWithout (now (words .entry)) (now (marks .entry)) atom) × (Idle (getD (now (words .entry)) 0 0) (view (now (words .entry)) (now (marks .exit))) (now (idle .exit))) ⌝ }
 {
     step_exclusion::remove_atom(words, marks, index, atom);
+    if !any_idle(idle) {
+        return;
+    }
     forget_without(words, marks, index, atom, idle);
 }

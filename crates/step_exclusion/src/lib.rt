@@ -34,7 +34,7 @@ pub fn is_definite(words: &[u16], marks: &[u8], index: &[u16], t: usize) -> bool
 }
 
 // The marks of the table's words.
-pub fn copy_marks(words: &[u16], marks: &[u8], only: &mut [u8])
+fn copy_marks(words: &[u16], marks: &[u8], only: &mut [u8])
     requires { ⌜ (length (now words) ≤ length (now marks)) × (length (now words) ≤ length (now only)) ⌝ }
     ensures { λ _. ⌜ ((i : ℕ) → i < length (now (words .entry)) → getD (now (only .exit)) i 0 ≡ getD (now (marks .entry)) i 0) ⌝ }
 {

@@ -9,7 +9,7 @@ use Rattle.search_idle.proofs.join_head.Statement.{statement}
 use Rattle.search_idle.proofs.join_head.Tie as tie
 
 returns : tie.Need-returns
-returns c = (later-none _ _ _ (c .before .before .before .before .before .before .before .pre .1 .1 .1), heads-not (entry (view (c .before .before .before .before .before .before .before .args .words .now) (c .before .before .before .before .before .before .before .args .marks .now)) (c .before .before .before .before .before .before .before .args .t)) (c .before .before .before .before .before .before .before .args .bytes .now) (sym (c .before .fires .ensures) ∙ not-true _ (c .if1 .taken)))
+returns c = (later-none _ _ _ (c .before .before .before .before .before .before .before .pre .1 .1 .1), heads-not (entry (view (c .before .before .before .before .before .before .before .args .words .now) (c .before .before .before .before .before .before .before .args .marks .now)) (c .before .before .before .before .before .before .before .args .t)) _ (sym (c .before .fires .ensures) ∙ not-true _ (c .if1 .taken)))
 
 join-part-requires : tie.Need-join-part-requires
 join-part-requires c κs = c .before .before .before .before .before .before .before .before .before .pre
