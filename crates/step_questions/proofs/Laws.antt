@@ -1,19 +1,18 @@
 -- Laws of a step: its questions in their order, and what they come to.
 use mathlib.Core.Path.{_≡_, refl, sym, ap, subst, _∙_}
 use mathlib.Core.Logic.{_≢_, by-cases}
-use mathlib.Core.Bool.{Bool, true, false, not, cond, _&&_, So, false≢true}
+use mathlib.Core.Bool.{Bool, true, false, not, cond, _&&_, So}
 use mathlib.Core.List.{List}
 use Prim.Native.Nat.{ℕ, _≤_, _<_}
 use native.Mathlib.Omega.{arith}
 use native.Mathlib.Decide.{ℕ-discrete}
 use lib.Dec.{eqb, ltb, leb}
 use lib.ListN.{length, getD, List·getD-eq-default}
-use borrow.Author.Tests.{le-leb, lt-leb, leb-true, eq-eqb, ne-eqb, lt-ltb, le-ltb}
+use borrow.Author.Tests.{le-leb, lt-leb, leb-true, eq-eqb, ne-eqb}
 use Rattle.semantics.proofs.Tests.{and-iff}
 use Rattle.rewriting.specs.Marked.{Marked, gone, entry, left}
 use Rattle.rewriting.specs.Steps.{inNoHead, targetKept, partnerKept, atomKnown, atomMatches, atomHeaded, condition, conditionHolds, applies}
 use Rattle.rewriting.specs.Kinds.{number, kindOf, usesPartner, usesAtom}
-use Rattle.rewriting.specs.Exclusion.{excludes}
 use Rattle.rewriting.proofs.Left.{kept-lt}
 use Rattle.step_kinds.proofs.Numbers.{kind-number}
 use Rattle.rewriting.proofs.Search.{partner-lt}
@@ -21,8 +20,7 @@ use Rattle.answers.specs.declared.StepQuestion.{StepQuestion}
 use Rattle.answers.specs.declared.StepQuestion.the-variants.{KindKnown, TargetKept, PartnerKept, AtomKnown, AtomMatches, AtomHeaded, ConditionHolds}
 use Rattle.table.specs.View.{view}
 use Rattle.table.specs.Effects.{marksAfter}
-use Rattle.table.specs.Clearing.{marksWithout}
-use Rattle.table.proofs.View.{length-view, after-off}
+use Rattle.table.proofs.View.{length-view}
 use Rattle.step_parts.specs.declared.Single.the-variants.{One, Other}
 use Rattle.step_parts.specs.Parts.{singleOf}
 use Rattle.step_reach.specs.Bytes.{Reached}
@@ -182,7 +180,7 @@ module _ (n : ℕ) (P : Marked) (s : Step) where
   verdict-no q e = shape-no q _ e
 
   -- 32 and 16 have the last word
-  verdict-by : ((v : Verdict) → v ≡ shapeOf n P s v) → (v : Verdict) → v ≡ conditionOf P s → v ≡ verdictAt n P s
+  pub verdict-by : ((v : Verdict) → v ≡ shapeOf n P s v) → (v : Verdict) → v ≡ conditionOf P s → v ≡ verdictAt n P s
   unfolding stepQuestions
   verdict-by h v e = e ∙ h (conditionOf P s)
 
@@ -253,60 +251,6 @@ module _ (ws ms : List ℕ) (s : Step) where
   pub made : (ms′ hs′ rs : List ℕ) (m m′ : Memo) → Shaped n P s → Fine ≡ conditionOf P s → ms′ ≡ marksAfter ws ms (stepOf s)
       → (m .reached ≡ true → Reached ws ms rs) → (m′ .heads ≡ true → Heads ws ms′ hs′) → Reach-stays ws ms ms′ m m′ → Step-taken ws ms ms′ hs′ rs s (Made m′)
   made ms′ hs′ rs m m′ h c e k f g = record { verdict = verdict-last n P s h Fine c; marks = e; holding = λ x z. let y : x ≡ m′ = cc in subst (Holding ws ms′ hs′ rs) (sym y) (record { heads = f; reached = g .stays rs k }) }
-
--- ---- a step of kind 9
-
-module _ (ws ms : List ℕ) (s : Step) (k : s .kind ≡ 9) where
-  abbrev nineP : Marked
-  nineP = view ws ms
-
-  known-nine : kindKnown (s .kind) ≡ true
-  known-nine = rw k refl
-
-  matches-nine : atomMatches nineP (stepOf s) ≡ true
-  matches-nine = rw k refl
-
-  partner-nine : (b : Bool) → b ≡ eqb (s .partner) 0 → b ≡ partnerKept nineP (stepOf s)
-  partner-nine b e = rw k e
-
-  atom-nine : (b : Bool) → b ≡ ltb (s .atom) (getD ws 0 0) → b ≡ atomKnown (getD ws 0 0) (stepOf s)
-  atom-nine b e = rw k e
-
-  module _ (hs rs : List ℕ) where
-    pub nine-13 : entry nineP (s .target) .kept ≡ false → Step-taken ws ms ms hs rs s (Not TargetKept)
-    nine-13 a = not-shaped ws ms s hs rs TargetKept (shape-13 (getD ws 0 0) nineP s Fine known-nine a)
-
-    pub nine-14 : entry nineP (s .target) .kept ≡ true → (s .partner ≡ 0 → ⊥) → Step-taken ws ms ms hs rs s (Not PartnerKept)
-    nine-14 a b = not-shaped ws ms s hs rs PartnerKept (shape-14 (getD ws 0 0) nineP s Fine known-nine a (sym (partner-nine false (sym (ne-eqb (s .partner) 0 b)))))
-
-    pub nine-15 : entry nineP (s .target) .kept ≡ true → s .partner ≡ 0 → getD ws 0 0 ≤ s .atom → Step-taken ws ms ms hs rs s (Not AtomKnown)
-    nine-15 a b c = not-shaped ws ms s hs rs AtomKnown (shape-15 (getD ws 0 0) nineP s Fine known-nine a (sym (partner-nine true (sym (eq-eqb (s .partner) 0 b)))) (sym (atom-nine false (sym (le-ltb (s .atom) (getD ws 0 0) c)))))
-
-    module _ (a : entry nineP (s .target) .kept ≡ true) (b : s .partner ≡ 0) (c : s .atom < getD ws 0 0) where
-      nine-shaped : (v : Verdict) → v ≡ shapeOf (getD ws 0 0) nineP s v
-      nine-shaped v = shape-fine (getD ws 0 0) nineP s v known-nine a (sym (partner-nine true (sym (eq-eqb (s .partner) 0 b)))) (sym (atom-nine true (sym (lt-ltb (s .atom) (getD ws 0 0) c)))) matches-nine
-
-      nine-headed : atomHeaded nineP (stepOf s) ≡ true
-      unfolding atomHeaded
-      nine-headed = rw k refl
-
-      nine-holds : (t : ℕ) (r : Bool) → t ≡ s .target → r ≡ excludes (left nineP) (entry nineP t .clause) (s .atom) → r ≡ conditionHolds nineP (stepOf s)
-      unfolding conditionHolds condition
-      nine-holds t r q e = e ∙ rw (q, k) refl
-
-      pub nine-16 : (t : ℕ) → t ≡ s .target → false ≡ excludes (left nineP) (entry nineP t .clause) (s .atom) → Step-taken ws ms ms hs rs s (Not ConditionHolds)
-      nine-16 t q e = record {
-        verdict = verdict-by (getD ws 0 0) nineP s nine-shaped (No ConditionHolds) (condition-16 nineP s nine-headed (sym (nine-holds t false q e)));
-        marks = refl;
-        holding = λ m z. let y : _≡_ {A = ℕ} 0 1 = cc in absurd (omega arith);
-      }
-
-      pub nine-made : (t : ℕ) (ms′ : List ℕ) → t ≡ s .target → true ≡ excludes (left nineP) (entry nineP t .clause) (s .atom) → ms′ ≡ marksWithout ws ms (s .atom) → Step-taken ws ms ms′ hs rs s (Made (record { heads = false; reached = false }))
-      nine-made t ms′ q e d = record {
-        verdict = verdict-by (getD ws 0 0) nineP s nine-shaped Fine (condition-fine nineP s nine-headed (sym (nine-holds t true q e)));
-        marks = d ∙ sym (after-off ws ms (stepOf s) (rw k refl));
-        holding = λ m z. let y : m ≡ record { heads = false; reached = false } = cc in subst (Holding ws ms′ hs rs) (sym y) (record { heads = λ x. absurd (false≢true x); reached = λ x. absurd (false≢true x) });
-      }
 
 -- ---- a verdict, whatever follows the questions
 

@@ -1,12 +1,12 @@
 -- `step_questions::take_exclusion` meets its contract, question by question.
-use mathlib.Core.Path.{sym, subst, _∙_}
+use mathlib.Core.Path.{sym, _∙_}
 use native.Mathlib.Omega.{arith}
 use borrow.Author.Tests.{not-true, not-false}
 use Rattle.rewriting.proofs.Left.{kept-lt}
 use Rattle.table.specs.View.{view}
 use Rattle.table.proofs.View.{length-view}
 use Rattle.table.proofs.Encoding.{passed-limits}
-use Rattle.step_questions.proofs.Laws.{nine-13, nine-14, nine-15, nine-16, nine-made}
+use Rattle.step_questions.proofs.Excluded.{nine-13, nine-14, nine-15, nine-16, nine-made}
 use borrow.Author.Needs.{needs}
 use Rattle.step_questions.proofs.take_exclusion.Statement.{statement}
 use Rattle.step_questions.proofs.take_exclusion.Tie as tie
