@@ -6,7 +6,7 @@ use mathlib.Core.List.{List}
 use Prim.Native.Nat.{ℕ, _+_, _*_, _≤_, _<_}
 use native.Mathlib.Omega.{arith}
 use lib.ListN.{length, getD, replicate, length-replicate}
-use Rattle.rewriting.specs.Kinds.{Kind, tautology, contradiction, success, noHead, blocked, failure, loop, subsumed, number, usesPartner}
+use Rattle.rewriting.specs.Kinds.{Kind, tautology, contradiction, success, noHead, blocked, failure, subsumed, number, usesPartner}
 use Rattle.rewriting.proofs.Rows.{each-kind, kinds-partner}
 use Rattle.rewriting.proofs.Quiet.{Quiet, key, quiet-all}
 use Rattle.table.specs.View.{view}

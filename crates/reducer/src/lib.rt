@@ -1,5 +1,4 @@
-// The reducer: the smallest applicable step that it does not pass over, again and again, until none applies. After a step of kind 9 the counts of heads, the reach and the flags
-// begin anew.
+// The reducer: the smallest applicable step that it does not pass over, again and again, until none applies. After each step what it opens is looked at again.
 ghost use Rattle.search_flags.specs.Flags.{allFlags};
 ghost use mathlib.Core.Path.{_≡_};
 ghost use Prim.Native.Nat.{_+_, _*_, _≤_, _<_};
@@ -61,7 +60,7 @@ fn flag_kinds(flags: &mut [u16], m: usize)
 
 // ---- the steps
 
-// A step of kind 9 is made: the search of the other kinds begins anew.
+// A step of kind 9 is made: heads are counted anew, and what it opens is flagged.
 fn exclude(
     words: &[u16],
     marks: &mut [u8],
@@ -78,8 +77,7 @@ fn exclude(
 {
     search_idle::exclude_atom(words, marks, index, atom, idle);
     step_conditions::count_heads(words, marks, index, heads);
-    step_conditions::clear(flags);
-    flag_kinds(flags, m);
+    search_removal::open_removal(words, marks, index, flags, atom);
 }
 
 // A step that was found is made.

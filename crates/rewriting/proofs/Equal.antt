@@ -20,7 +20,7 @@ use Rattle.rewriting.proofs.Sound.{Ask, partner-other, applies-ask}
 
 -- ---- equal clauses
 
-clause-equal : (c d : Clause) → c .head ≡ d .head → c .pos ≡ d .pos → c .neg ≡ d .neg → c ≡ d
+pub clause-equal : (c d : Clause) → c .head ≡ d .head → c .pos ≡ d .pos → c .neg ≡ d .neg → c ≡ d
 clause-equal c d x y z = ap (λ l. record { head = l; pos = c .pos; neg = c .neg }) x ∙ ap (λ l. record { head = d .head; pos = l; neg = c .neg }) y ∙ ap (λ l. record { head = d .head; pos = d .pos; neg = l }) z
 
 pub equal-iff : (c d : Clause) → So (equal c d) ↔ (c ≡ d)

@@ -2,17 +2,17 @@
 -- kept clauses plus literals, one for each kept clause in which the atom occurs.
 use mathlib.Core.Path.{_≡_, refl, sym, subst}
 use mathlib.Core.Logic.{_↔_, _≢_}
-use mathlib.Core.Bool.{Bool, true, false, cond, So, false≢true}
+use mathlib.Core.Bool.{Bool, true, false, So, false≢true}
 use mathlib.Core.List.{List, [], _∷_, List·Memᴰ·not-nil, List·Memᴰ·eq-of-singleton}
 use Prim.Native.Nat.{ℕ, zero, suc}
 use lib.ListN.{length}
-use Rattle.semantics.specs.Lists.{_∈_, any, all, null, single, keep, mem, without}
+use Rattle.semantics.specs.Lists.{_∈_, any, null, single, keep, mem, without}
 use Rattle.semantics.specs.Programs.{Clause, Atoms, Stable, program}
 use Rattle.semantics.proofs.Tests.{and-iff, all-iff, mem-iff, null-iff, keep-iff, not-so, without-sub, without-keeps, without-out}
 use Rattle.semantics.proofs.Models.{All, Any, Models, Same, same-stable, same-sym, stable-iff, stable-within, Closed}
 use Rattle.rewriting.specs.Marked.{Entry, Marked, entry, left}
 use Rattle.rewriting.specs.Consequences.{definite, consequences}
-use Rattle.rewriting.specs.Exclusion.{plainConstraint, occurs, excludes, lacking, lackingOf, removal}
+use Rattle.rewriting.specs.Exclusion.{plainConstraint, occurs, excludes, lackingOf, removal}
 use Rattle.rewriting.proofs.Left.{left-each, HoldsAt, models-left}
 use Rattle.rewriting.proofs.Reach.{allBut, others-closed, others-not, inNoHead-iff}
 use Rattle.rewriting.proofs.Consequences.{consequences-least, consequences-within}

@@ -12,7 +12,9 @@ pub mod Search
 pub mod Greedy
 pub mod Subclauses
 pub mod Effect
+pub mod Openings
 pub mod Reopen
+pub mod ReopenNine
 pub mod Quiet
 pub mod Counts
 pub mod Order

@@ -4,7 +4,7 @@
 -- where the clause fired in the reach and no kept clause fires in its place.
 use mathlib.Core.Path.{_≡_, refl, sym, ap, subst, _∙_}
 use mathlib.Core.Logic.{_⊎_, inl, inr, by-cases, ⊎-elim}
-use mathlib.Core.Bool.{Bool, true, false, So, false≢true}
+use mathlib.Core.Bool.{So, false≢true}
 use mathlib.Core.List.{List, List·Memᴰ·not-nil}
 use Prim.Native.Nat.{ℕ}
 use native.Mathlib.Decide.{ℕ-discrete}
@@ -14,26 +14,15 @@ use Rattle.semantics.proofs.Tests.{and-iff, all-iff, mem-iff, null-iff, within-
 use Rattle.semantics.proofs.Models.{All}
 use Rattle.rewriting.specs.Marked.{Marked, entry, left}
 use Rattle.rewriting.specs.Reaches.{reach}
-use Rattle.rewriting.specs.Steps.{Step, step, fact, inNoHead, condition, conditionHolds, applies, leftBy, effect}
-use Rattle.rewriting.specs.Kinds.{Kind, tautology, contradiction, success, noHead, blocked, failure, loop, subsumed, excluded, Deed, deletes, dropsPos, dropsNeg, removes, rowOf, number, kindOf, usesPartner, onTarget}
+use Rattle.rewriting.specs.Steps.{Step, inNoHead, condition, applies, leftBy, effect}
+use Rattle.rewriting.specs.Kinds.{Kind, blocked, loop, subsumed, Deed, deletes, dropsPos, dropsNeg, removes, rowOf, number, kindOf, usesPartner, onTarget}
 use Rattle.rewriting.specs.Uses.{dropping, drops, asksNoHead}
 use Rattle.rewriting.specs.Reducer.{passedOver, eligible}
 use Rattle.rewriting.proofs.Rows.{There, drops-there, kindOf-number}
-use Rattle.rewriting.proofs.Equal.{PassedOver, passed-iff, eligible-iff}
-use Rattle.rewriting.proofs.Subclauses.{Keeps, back}
+use Rattle.rewriting.proofs.Equal.{PassedOver, passed-iff}
+use Rattle.rewriting.proofs.Subclauses.{no-more}
+use Rattle.rewriting.proofs.Openings.{ready, opened-by}
 use Rattle.rewriting.proofs.Effect.{asks, target-kept, at-target, at-other, partner-asked, effect-below, is-deleted, heads-back, reach-drop, reach-idle, reach-in-place}
-
--- of a partner that lost a literal: what kinds 3, 5 and 8 ask of it alone
-abbrev pub ready : Kind → Clause → Bool
-ready success d = fact d
-ready blocked d = fact d
-ready subsumed d = true
-ready tautology d = false
-ready contradiction d = false
-ready noHead d = false
-ready failure d = false
-ready loop d = false
-ready excluded d = false
 
 -- the target's head is the partner's: the partner of a subsumed clause fires in its place
 abbrev pub SameHead : Marked → Step → Type 0
@@ -113,18 +102,6 @@ module _ (n : ℕ) (P : Marked) (s : Step) (h : So (applies n P s)) (on : So (on
           (λ w. inl (e, within-iff _ _ .0 w)) (λ w. inr (λ g. w (within-iff _ _ .1 (g .1)))))
           (λ e. inr (λ g. e (g .0))) (kind-dec (s .kind))
 
-  opened-at : (k : Kind) (t p a : ℕ) → So (onTarget k) → let u = step k t p a in So (applies n (effect P s) u) → Keeps k P (effect P s) p a ⊎ Opens P s u
-  unfolding applies conditionHolds condition
-  opened-at tautology t p a j q = inl tt
-  opened-at contradiction t p a j q = inl tt
-  opened-at success t p a j q = let w = simp and-iff at q in open-partner (step success t p a) refl (w .1 .0 .0) (and-iff _ _ .1 (w .1 .1 .1 .0 .0, w .1 .1 .1 .0 .1))
-  opened-at noHead t p a j q = let w = simp and-iff at q in ⊎-elim (λ x. inl (λ _. x)) inr (open-head (step noHead t p a) refl (w .1 .1 .1 .1))
-  opened-at blocked t p a j q = let w = simp and-iff at q in open-partner (step blocked t p a) refl (w .1 .0 .0) (and-iff _ _ .1 (w .1 .1 .1 .0 .0, w .1 .1 .1 .0 .1))
-  opened-at failure t p a j q = let w = simp and-iff at q in ⊎-elim (λ x. inl (λ _. x)) inr (open-head (step failure t p a) refl (w .1 .1 .1 .1))
-  opened-at loop t p a j q = ⊎-elim (λ x. inl (x a)) inr (open-reach (step loop t p a) refl)
-  opened-at subsumed t p a j q = let w = simp and-iff at q in open-partner (step subsumed t p a) refl (w .1 .0 .0) refl
-  opened-at excluded t p a j q = absurd (false≢true j)
-
   -- A step that was passed over and still applies, with the partner as it was, is still passed over.
   still-passed : (u : Step) → So (passedOver P u) → entry (effect P s) (u .partner) ≡ entry P (u .partner) → So (applies n (effect P s) u) → So (passedOver (effect P s) u)
   still-passed u o e q =
@@ -135,17 +112,6 @@ module _ (n : ℕ) (P : Marked) (s : Step) (h : So (applies n P s)) (on : So (on
       (λ x. absurd (is-deleted n P s h on x (subst (λ i. So (entry (effect P s) i .kept)) d (target-kept n (effect P s) u q)))))
       (λ d. passed-iff (effect P s) u .1 (record { kind = r .kind; lower = r .lower; equal = ap (λ c. c .clause) (at-other n P s h on (u .target) d) ∙ r .equal ∙ sym (ap (λ c. c .clause) e) }))
 
-  -- what a kind that spares asks of the other clauses, carried back: the partner as it was
-  partner-keeps : (k : Kind) (p a : ℕ) → (k ≡ blocked) ⊎ (k ≡ subsumed) → Keeps k P (effect P s) p a → entry (effect P s) p ≡ entry P p
-  partner-keeps k p a o x = ⊎-elim (λ e. subst (λ k. Keeps k P (effect P s) p a) e x) (λ e. subst (λ k. Keeps k P (effect P s) p a) e x) o
-
   -- A step of kinds 1 to 8 that is eligible after such a step was eligible before it, or is opened by it.
   pub opened : (u : Step) → So (onTarget (u .kind)) → So (eligible n (effect P s) u) → So (eligible n P u) ⊎ Opens P s u
-  opened u j q =
-      let w = eligible-iff (effect P s) u n .0 q in
-      ⊎-elim
-      (λ e. inl (eligible-iff P u n .1 (
-        back n P (effect P s) (effect-below n P s h on) u e (w .0),
-        λ o. w .1 (still-passed u o (partner-keeps (u .kind) (u .partner) (u .atom) (passed-iff P u .0 o .kind) e) (w .0)),
-      )))
-      inr (opened-at (u .kind) (u .target) (u .partner) (u .atom) j (w .0))
+  opened = opened-by n P (effect P s) (Opens P s) (record { below = λ i. no-more (effect-below n P s h on i); passed = still-passed; partner = open-partner; heads = open-head; reaches = open-reach })

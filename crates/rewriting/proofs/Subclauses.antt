@@ -25,6 +25,16 @@ pub record Subclause (d c : Entry) : Type 0 where
   pub pos : (a : ℕ) → a ∈ d .clause .pos → a ∈ c .clause .pos
   pub neg : (a : ℕ) → a ∈ d .clause .neg → a ∈ c .clause .neg
 
+-- a clause that has nothing which the other has not
+pub record NoMore (d c : Entry) : Type 0 where
+  pub kept : So (d .kept) → So (c .kept)
+  pub head : (a : ℕ) → a ∈ d .clause .head → a ∈ c .clause .head
+  pub pos : (a : ℕ) → a ∈ d .clause .pos → a ∈ c .clause .pos
+  pub neg : (a : ℕ) → a ∈ d .clause .neg → a ∈ c .clause .neg
+
+pub no-more : {d c : Entry} → Subclause d c → NoMore d c
+no-more b = record { kept = b .kept; head = λ a m. subst (λ l. a ∈ l) (b .head) m; pos = b .pos; neg = b .neg }
+
 pub below-same : {d c : Entry} → d ≡ c → Subclause d c
 below-same {c = c} e = subst (λ d. Subclause d c) (sym e) (record { kept = λ h. h; head = refl; pos = λ a m. m; neg = λ a m. m })
 
@@ -52,8 +62,8 @@ bare-iff P a = (
 )
 
 -- an atom in no kept head stays in none
-bare-on : (P Q : Marked) → ((i : ℕ) → Subclause (entry Q i) (entry P i)) → (a : ℕ) → So (inNoHead (left P) a) → So (inNoHead (left Q) a)
-bare-on P Q b a h = bare-iff Q a .1 (λ i k m. bare-iff P a .0 h i (b i .kept k) (subst (λ l. a ∈ l) (b i .head) m))
+bare-on : (P Q : Marked) → ((i : ℕ) → NoMore (entry Q i) (entry P i)) → (a : ℕ) → So (inNoHead (left P) a) → So (inNoHead (left Q) a)
+bare-on P Q b a h = bare-iff Q a .1 (λ i k m. bare-iff P a .0 h i (b i .kept k) (b i .head a m))
 
 -- ---- conditions
 
@@ -75,7 +85,7 @@ mem-more a k l f h = mem-iff a l .1 (f a (mem-iff a k .0 h))
 within-more : (j k l : List ℕ) → ((b : ℕ) → b ∈ k → b ∈ l) → So (within j k) → So (within j l)
 within-more j k l f h = within-iff j l .1 (λ a m. f a (within-iff j k .0 h a m))
 
-module _ (P Q : Marked) (t p a : ℕ) (below : (i : ℕ) → Subclause (entry Q i) (entry P i)) where
+module _ (P Q : Marked) (t p a : ℕ) (below : (i : ℕ) → NoMore (entry Q i) (entry P i)) where
   abbrev old : Clause
   old = entry P t .clause
 
@@ -85,13 +95,13 @@ module _ (P Q : Marked) (t p a : ℕ) (below : (i : ℕ) → Subclause (entry Q 
   abbrev by : Clause
   by = entry P p .clause
 
-  b : Subclause (entry Q t) (entry P t)
+  b : NoMore (entry Q t) (entry P t)
   b = below t
 
   condition-back : (k : Kind) → Keeps k P Q p a → So (condition k (left Q) new (entry Q p .clause) a) → So (condition k (left P) old by a)
   unfolding condition
   condition-back tautology e h = let w = and-iff _ _ .0 h in
-      and-iff _ _ .1 (subst (λ l. So (mem a l)) (b .head) (w .0), mem-more a (new .pos) (old .pos) (b .pos) (w .1))
+      and-iff _ _ .1 (mem-more a (new .head) (old .head) (b .head) (w .0), mem-more a (new .pos) (old .pos) (b .pos) (w .1))
   condition-back contradiction e h = let w = and-iff _ _ .0 h in
       and-iff _ _ .1 (mem-more a (new .pos) (old .pos) (b .pos) (w .0), mem-more a (new .neg) (old .neg) (b .neg) (w .1))
   condition-back success e h = let w = and-iff (fact by) (single (eqb a) (by .head) && mem a (new .pos)) .0 (rw e at h) in
@@ -105,19 +115,19 @@ module _ (P Q : Marked) (t p a : ℕ) (below : (i : ℕ) → Subclause (entry Q 
       loops (left P) old by a .1 (record { there = b .pos a (w .there); head = λ x. w .head (bare-on P Q below a x); outside = λ r. w .outside (e r) })
   condition-back subsumed e h = let w = simp and-iff at (rw e at h) in
       and-iff _ _ .1 (
-        subst (λ l. So (within (by .head) l)) (b .head) (w .0),
+        within-more (by .head) (new .head) (old .head) (b .head) (w .0),
         and-iff _ _ .1
             (within-more (by .pos) (new .pos) (old .pos) (b .pos) (w .1 .0), within-more (by .neg) (new .neg) (old .neg) (b .neg) (w .1 .1)),
       )
   condition-back excluded e h = absurd e
 
-partner-back : (u : Bool) (P Q : Marked) (p t : ℕ) → Subclause (entry Q p) (entry P p)
+partner-back : (u : Bool) (P Q : Marked) (p t : ℕ) → NoMore (entry Q p) (entry P p)
     → So (cond u (entry Q p .kept && not (eqb p t)) (eqb p 0)) → So (cond u (entry P p .kept && not (eqb p t)) (eqb p 0))
 partner-back true P Q p t b h = let w = and-iff _ _ .0 h in and-iff _ _ .1 (b .kept (w .0), w .1)
 partner-back false P Q p t b h = h
 
--- A step that applies in a program whose clauses are below those of P applies in P, where its kind's question carries back.
-pub back : (n : ℕ) (P Q : Marked) → ((i : ℕ) → Subclause (entry Q i) (entry P i)) → (u : Step) → Keeps (u .kind) P Q (u .partner) (u .atom) → So (applies n Q u) → So (applies n P u)
+-- A step that applies in a program whose clauses have nothing that those of P have not applies in P, where its kind's question carries back.
+pub back : (n : ℕ) (P Q : Marked) → ((i : ℕ) → NoMore (entry Q i) (entry P i)) → (u : Step) → Keeps (u .kind) P Q (u .partner) (u .atom) → So (applies n Q u) → So (applies n P u)
 unfolding applies conditionHolds
 back n P Q b u e h =
     let w = simp and-iff at h in

@@ -1,27 +1,30 @@
--- The clauses that can be targets as bytes, those that are idle, the first that fits, and sets of atoms taken from one another.
+-- The clauses that can be targets as bytes, those that are idle, and the first that fits.
 use mathlib.Core.Path.{_≡_, refl, sym, ap, subst, _∙_}
 use mathlib.Core.Logic.{inl, inr, ⊎-elim, by-cases}
-use mathlib.Core.Bool.{Bool, true, false, not, _&&_, So, false≢true}
+use mathlib.Core.Bool.{Bool, true, false, not, _&&_, cond, So}
 use mathlib.Core.List.{List}
 use Prim.Native.Nat.{ℕ, _+_, _≤_, _<_}
 use native.Mathlib.Omega.{arith}
 use native.Mathlib.Decide.{ℕ-discrete, decLt}
-use lib.Dec.{eqb}
-use lib.ListN.{length, getD, set}
+use lib.Dec.{eqb, ltb}
+use lib.ListN.{length, getD, set, take}
 use lib.Seq.{getD-set-same, getD-set-other}
-use borrow.Author.Tests.{eqb-true, eq-eqb, ne-eqb}
+use borrow.Author.Tests.{eqb-true, eq-eqb, ne-eqb, lt-ltb, le-ltb}
 use Rattle.semantics.specs.Lists.{all, null}
 use Rattle.semantics.specs.Programs.{Atoms}
-use Rattle.semantics.proofs.Tests.{and-iff, not-iff}
+use Rattle.semantics.proofs.Tests.{and-iff, not-iff, all-iff}
 use Rattle.rewriting.specs.Marked.{Marked, entry, left}
 use Rattle.rewriting.specs.Exclusion.{plainConstraint}
 use Rattle.rewriting.proofs.Left.{kept-lt}
 use Rattle.rewriting.proofs.Exclusion.{excludes-iff}
+use Rattle.table.specs.View.{view}
 use Rattle.step_reach.specs.Bytes.{inBytes}
-use Rattle.step_reach.proofs.Laws.{is-out}
+use Rattle.step_reach.specs.Counts.{Queued, WithSettled}
+use Rattle.step_reach.proofs.Counts.{lacks-none}
+use Rattle.search_closure.specs.Back.{Full, First, Cleared}
 use Rattle.search_exclusion.specs.declared.Best.{Best}
 use Rattle.search_exclusion.specs.Smallest.{Idle}
-use Rattle.search_exclusion.specs.Tries.{plainKept, Targets, Unset, Fits, FirstFit, Improves, Minus, BestOf, Remembered}
+use Rattle.search_exclusion.specs.Tries.{plainKept, Targets, Unset, Fits, Improves, Trial, BestOf, Remembered}
 
 -- ---- a clause that can be a target
 
@@ -60,72 +63,50 @@ unset-on s i n h = record { before = λ u l. by-cases (ℕ-discrete u i) (λ d. 
 
 -- ---- the first that fits
 
-module _ (P : Marked) (s : List ℕ) (D : Atoms) where
-  abbrev pub NoFit : ℕ → Type 0
-  NoFit t = (u : ℕ) → u < t → ¬ Fits P s D u
+-- a clause that lacks none of the atoms taken fits the set of these
+first-fits : (ws ms can : List ℕ) {s q : List ℕ} {k r : ℕ} → Queued s q k → First (Full ws ms can (take k q)) (getD ws 1 0) r → First (Fits (view ws ms) can (inBytes s)) (getD ws 1 0) r
+first-fits ws ms can {s} {q} {k} {r} z f = record {
+  within = f .within;
+  hit = λ l. let x = f .hit l in (x .1 .0, all-iff (inBytes s) (entry (view ws ms) r .clause .pos) .1 (λ a m. z .same a .1 (lacks-none (take k q) (entry (view ws ms) r .clause .pos) .0 (x .1 .1) a m)));
+  before = λ u l x. f .before u l (omega (arith, f .within), (x .0, lacks-none (take k q) (entry (view ws ms) u .clause .pos) .1 (λ a m. z .same a .0 (all-iff (inBytes s) (entry (view ws ms) u .clause .pos) .0 (x .1) a m))));
+}
 
-  pub fit-start : (low : ℕ) → Unset s low → NoFit low
-  fit-start low h u l f = h .before u l (f .0)
+module _ {P : Marked} {s : List ℕ} {D : Atoms} {atom : ℕ} {old new : Best} where
+  -- the better of the pair and the first clause that fits
+  improves-by : {end : ℕ} (t : ℕ) → old .target ≤ end → First (Fits P s D) end t → new ≡ cond (ltb t (old .target)) (record { target = t; atom = atom }) old → Improves P s D atom old new
+  improves-by t l f e = by-cases (decLt t (old .target))
+      (λ k. subst (Improves P s D atom old) (sym (e ∙ rw (lt-ltb t (old .target) k))) (now-t k))
+      (λ k. subst (Improves P s D atom old) (sym (e ∙ rw (le-ltb t (old .target) (omega arith)))) (still (omega arith)))
+    where
+      now-t : t < old .target → Improves P s D atom old (record { target = t; atom = atom })
+      now-t k = record { within = omega arith; hit = λ _. (f .hit (omega arith), refl); stays = λ d. absurd (omega arith); before = f .before }
 
-  pub fit-past : (t : ℕ) → (getD s t 0 ≡ 1 → ⊥) → NoFit t → NoFit (t + 1)
-  fit-past t n g u l f = by-cases (ℕ-discrete u t) (λ d. is-one s t u n d (f .0)) (λ d. g u (omega arith) f)
+      still : old .target ≤ t → Improves P s D atom old old
+      still k = record { within = omega arith; hit = λ h. absurd (omega arith); stays = λ _. refl; before = λ u h. f .before u (omega arith) }
 
-  pub fit-not : (t : ℕ) → all D (entry P t .clause .pos) ≡ false → NoFit t → NoFit (t + 1)
-  fit-not t n g u l f = by-cases (ℕ-discrete u t) (λ d. false≢true (sym n ∙ subst (λ x. So (all D (entry P x .clause .pos))) d (f .1))) (λ d. g u (omega arith) f)
-
-  pub fit-here : (end t : ℕ) → t < end → getD s t 0 ≡ 1 → all D (entry P t .clause .pos) ≡ true → NoFit t → FirstFit P s D end t
-  fit-here end t l e h g = record { within = omega arith; hit = λ _. (eq-eqb _ _ e, h); before = g }
-
-  pub fit-end : (end t : ℕ) → end ≤ t → NoFit t → FirstFit P s D end end
-  fit-end end t l g = record { within = omega arith; hit = λ k. absurd (omega arith); before = λ u k. g u (omega arith) }
-
-  -- the better pair
-  module _ (atom t : ℕ) (old : Best) (f : FirstFit P s D (old .target) t) where
-    pub better-new : t < old .target → Improves P s D atom old (record { target = t; atom = atom })
-    better-new l = record { within = f .within; hit = λ _. (f .hit l, refl); stays = λ e. absurd (omega arith); before = f .before }
-
-    pub better-old : old .target ≤ t → Improves P s D atom old old
-    better-old l = record { within = omega arith; hit = λ k. absurd (omega arith); stays = λ _. refl; before = λ u k. f .before u (omega arith) }
-
--- ---- one set without another
-
--- The atoms before i are taken.
-pub record Taking (s₀ d : List ℕ) (i : ℕ) (s : List ℕ) : Type 0 where
-  pub done : (b : ℕ) → b < i → inBytes s b ≡ (inBytes s₀ b && not (inBytes d b))
-  pub rest : (b : ℕ) → i ≤ b → getD s b 0 ≡ getD s₀ b 0
-
-pub taking-none : (s d : List ℕ) → Taking s d 0 s
-taking-none s d = record { done = λ b l. absurd (omega arith); rest = λ b l. refl }
-
-and-true : (b : Bool) → b ≡ (b && true)
-and-true true = refl
-and-true false = refl
-
-and-false : (b : Bool) → false ≡ (b && false)
-and-false true = refl
-and-false false = refl
-
-module _ (s₀ d : List ℕ) (i : ℕ) (s : List ℕ) (t : Taking s₀ d i s) where
-  pub taking-past : (getD d i 0 ≡ 1 → ⊥) → Taking s₀ d (i + 1) s
-  taking-past n = record {
-    done = λ b l. by-cases (ℕ-discrete b i)
-        (λ e. rw e (ap (λ x. eqb x 1) (t .rest i (omega arith)) ∙ rw (ne-eqb (getD d i 0) 1 n) (and-true (inBytes s₀ i))))
-        (λ e. t .done b (omega arith));
-    rest = λ b l. t .rest b (omega arith);
+  -- which clauses are kept does not count
+  pub improves-as : {Q : Marked} → ((t : ℕ) → entry P t .clause ≡ entry Q t .clause) → Improves P s D atom old new → Improves Q s D atom old new
+  improves-as e m = record {
+    within = m .within;
+    hit = λ l. let x = m .hit l in ((x .0 .0, subst (λ c. So (all D (c .pos))) (e (new .target)) (x .0 .1)), x .1);
+    stays = m .stays;
+    before = λ u l x. m .before u l (x .0, subst (λ c. So (all D (c .pos))) (sym (e u)) (x .1));
   }
 
-  pub taking-on : i < length s → getD d i 0 ≡ 1 → Taking s₀ d (i + 1) (set s i 0)
-  taking-on l q = record {
-    done = λ b k. by-cases (ℕ-discrete b i)
-        (λ e. rw (e, getD-set-same s i 0 0 l, eq-eqb (getD d i 0) 1 q) (and-false (inBytes s₀ i)))
-        (λ e. ap (λ x. eqb x 1) (getD-set-other s i b 0 0 e) ∙ t .done b (omega arith));
-    rest = λ b k. getD-set-other s i b 0 0 (λ e. omega arith) ∙ t .rest b (omega arith);
-  }
+-- what follows from the atom joined, and was taken back
+pub trial-by : (ws ms can : List ℕ) {atom : ℕ} {q s′ missing′ q′ todo todo′ : List ℕ} {top end t : ℕ} {old new : Best} → old .target ≤ getD ws 1 0 → WithSettled ws ms atom q top s′ missing′ q′ end
+    → First (Full ws ms can (take end q′)) (getD ws 1 0) t → new ≡ cond (ltb t (old .target)) (record { target = t; atom = atom }) old → Cleared (take end q′) todo todo′ → Trial ws ms can atom old todo todo′ new
+trial-by ws ms can {s′ = s′} {t = t} l w f e c = record {
+  follows = s′;
+  reached = w .reached;
+  better = improves-by t l (first-fits ws ms can (w .rest .queued) f) e;
+  less = c .less;
+  struck = λ b m n. w .rest .queued .same b .1 (c .gone b m n);
+}
 
-  pub taking-end : length s₀ ≤ i → length s ≡ length s₀ → Minus s₀ d s
-  taking-end h l = record {
-    is = λ b. by-cases (decLt b i) (λ k. t .done b k) (λ k. is-out s b (omega arith) ∙ rw (is-out s₀ b (omega arith)));
-  }
+-- the same atoms taken
+pub first-again : (ws ms can : List ℕ) {l l′ : List ℕ} {r : ℕ} → l′ ≡ l → First (Full ws ms can l) (getD ws 1 0) r → First (Full ws ms can l′) (getD ws 1 0) r
+first-again ws ms can {r = r} e f = subst (λ l. First (Full ws ms can l) (getD ws 1 0) r) (sym e) f
 
 -- ---- idle clauses
 

@@ -1,7 +1,7 @@
 -- What is known of the atoms tried, and that the best pair is the smallest step.
 use mathlib.Core.Path.{_≡_, sym, subst, _∙_}
 use mathlib.Core.Logic.{by-cases}
-use mathlib.Core.Bool.{true, false, not, _&&_, So, false≢true}
+use mathlib.Core.Bool.{true, false, So, false≢true}
 use mathlib.Core.List.{List}
 use Prim.Native.Nat.{ℕ, _+_, _≤_, _<_}
 use native.Mathlib.Omega.{arith}
@@ -9,7 +9,7 @@ use native.Mathlib.Decide.{ℕ-discrete, decLt}
 use lib.ListN.{length}
 use Rattle.semantics.specs.Lists.{any}
 use Rattle.semantics.specs.Programs.{Atoms}
-use Rattle.semantics.proofs.Tests.{and-iff, not-iff, all-iff, so-by, so-dec}
+use Rattle.semantics.proofs.Tests.{and-iff, all-iff, so-dec}
 use Rattle.rewriting.specs.Marked.{Marked, entry, left}
 use Rattle.rewriting.specs.Consequences.{consequences}
 use Rattle.rewriting.specs.Exclusion.{occurs}
@@ -79,8 +79,8 @@ module _ (n : ℕ) (P : Marked) (s : List ℕ) (g : Targets n P s) where
       covered : (u b : ℕ) → Excluding n P u b → So (D b) → Excluding n P u i
       covered u b x d = record { kept = x .kept; below = l; applies = excludes-within (left P) (entry P u .clause) i b (t .present i o) (sym (is b) ∙ d) (x .applies) }
 
-      pub tried-on : (rest : Atoms) → ((b : ℕ) → rest b ≡ (todo b && not (D b))) → Tried n P (i + 1) new rest
-      tried-on rest h = record {
+      pub tried-on : (rest : Atoms) → ((b : ℕ) → So (rest b) → So (todo b)) → ((b : ℕ) → So (todo b) → ¬ So (rest b) → So (D b)) → Tried n P (i + 1) new rest
+      tried-on rest less struck = record {
         known = omega (arith, m .within, t .known);
         hit = now-hit;
         early = omega (arith, now-early);
@@ -89,13 +89,13 @@ module _ (n : ℕ) (P : Marked) (s : List ℕ) (g : Targets n P s) where
             (λ k. by-cases (so-dec (todo b))
             (λ y. (self u (mine u b x k y f), λ _. omega (arith, now-early)))
             (λ y. older u b (t .least u b x (λ z. y (z .1)))));
-        present = λ b q. t .present b (and-iff (todo b) (not (D b)) .0 (sym (h b) ∙ q) .0);
+        present = λ b q. t .present b (less b q);
       }
         where
           mine : (u b : ℕ) → Excluding n P u b → ¬ (b < i) → So (todo b) → ¬ ((i + 1 ≤ b) × So (rest b)) → Excluding n P u i
           mine u b x k y f = by-cases (ℕ-discrete b i)
               (λ d. subst (Excluding n P u) d x)
-              (λ d. covered u b x (so-by (D b) (λ z. f (omega arith, h b ∙ and-iff (todo b) (not (D b)) .1 (y, not-iff (D b) .1 z)))))
+              (λ d. covered u b x (struck b y (λ z. f (omega arith, z))))
 
     -- every atom is tried
     pub tried-end : n ≤ i → BestOf n P best

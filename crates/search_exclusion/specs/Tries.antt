@@ -1,7 +1,7 @@
--- How the search goes: the clauses that can be targets as bytes, the first of them that fits an atom's consequences, and the better of two pairs.
+-- How the search goes: the clauses that can be targets as bytes, those that fit an atom's consequences, and the better of two pairs.
 use mathlib.Core.Path.{_≡_}
 use mathlib.Core.Logic.{_⊎_}
-use mathlib.Core.Bool.{Bool, not, _&&_, So}
+use mathlib.Core.Bool.{Bool, _&&_, So}
 use mathlib.Core.List.{List}
 use Prim.Native.Nat.{ℕ, _≤_, _<_}
 use lib.ListN.{length}
@@ -9,7 +9,8 @@ use Rattle.semantics.specs.Lists.{all}
 use Rattle.semantics.specs.Programs.{Atoms}
 use Rattle.rewriting.specs.Marked.{Entry, Marked, entry}
 use Rattle.rewriting.specs.Exclusion.{plainConstraint}
-use Rattle.step_reach.specs.Bytes.{inBytes}
+use Rattle.table.specs.View.{view}
+use Rattle.step_reach.specs.Bytes.{inBytes, ReachedWith}
 use Rattle.search_exclusion.specs.declared.Best.{Best}
 use Rattle.search_exclusion.specs.declared.Pick.{Pick}
 use Rattle.search_exclusion.specs.declared.Pick.the-variants.{One, Nothing}
@@ -32,12 +33,6 @@ pub record Unset (s : List ℕ) (r : ℕ) : Type 0 where
 abbrev pub Fits : Marked → List ℕ → Atoms → ℕ → Type 0
 Fits P s D t = So (inBytes s t) × So (all D (entry P t .clause .pos))
 
--- r is the first clause below the end that fits, or the end.
-pub record FirstFit (P : Marked) (s : List ℕ) (D : Atoms) (end r : ℕ) : Type 0 where
-  pub within : r ≤ end
-  pub hit : r < end → Fits P s D r
-  pub before : (u : ℕ) → u < r → ¬ Fits P s D u
-
 -- The better of a pair and the first clause that fits with an atom: a smaller target is better, and else the pair stays.
 pub record Improves (P : Marked) (s : List ℕ) (D : Atoms) (atom : ℕ) (old new : Best) : Type 0 where
   pub within : new .target ≤ old .target
@@ -45,9 +40,13 @@ pub record Improves (P : Marked) (s : List ℕ) (D : Atoms) (atom : ℕ) (old ne
   pub stays : new .target ≡ old .target → new .atom ≡ old .atom
   pub before : (u : ℕ) → u < new .target → ¬ Fits P s D u
 
--- The atoms of one set without those of the other.
-pub record Minus (s d s′ : List ℕ) : Type 0 where
-  pub is : (b : ℕ) → inBytes s′ b ≡ (inBytes s b && not (inBytes d b))
+-- The atom is tried: the pair is the better one by its consequences, and no atoms but these are struck from those to be tried.
+pub record Trial (ws ms can : List ℕ) (atom : ℕ) (old : Best) (todo todo′ : List ℕ) (new : Best) : Type 0 where
+  pub follows : List ℕ
+  pub reached : ReachedWith ws ms atom follows
+  pub better : Improves (view ws ms) can (inBytes follows) atom old new
+  pub less : (b : ℕ) → So (inBytes todo′ b) → So (inBytes todo b)
+  pub struck : (b : ℕ) → So (inBytes todo b) → ¬ So (inBytes todo′ b) → So (inBytes follows b)
 
 -- The pair is the smallest step, or its target is the number of clauses and there is none.
 pub record BestOf (n : ℕ) (P : Marked) (best : Best) : Type 0 where

@@ -1,19 +1,21 @@
 // The smallest step of kind 9, by target, then atom, with a memory of the constraints that exclude no atom.
-// The atoms are tried in order. The closure of the facts is made once a search, and grown from a copy for each atom. An atom among the consequences of an
+// The atoms are tried in order. The closure of the facts is made once a search, grown by each atom and taken back. An atom among the consequences of an
 // earlier one can't be better and is passed over; and once the best target is the first clause that can be one, no other atom is tried.
 ghost use mathlib.Core.Path.{_≡_};
-ghost use mathlib.Core.Bool.{not, _&&_};
+ghost use mathlib.Core.Bool.{not, _&&_, cond};
 ghost use Prim.Native.Nat.{_≤_, _<_};
-ghost use lib.Dec.{eqb};
-ghost use lib.ListN.{length, getD};
+ghost use lib.Dec.{eqb, ltb};
+ghost use lib.ListN.{length, getD, take};
 ghost use Rattle.rewriting.specs.Marked.{entry};
 ghost use Rattle.table.specs.View.{view};
 ghost use Rattle.step_parts.specs.Parts.{Ready};
-ghost use Rattle.step_reach.specs.Bytes.{inBytes, ReachedWith};
-ghost use Rattle.step_reach.specs.Counts.{ReachSettled};
+ghost use Rattle.step_reach.specs.Bytes.{inBytes};
+ghost use Rattle.step_reach.specs.Counts.{CountRoom, ReachSettled};
+ghost use Rattle.search_closure.specs.Back.{Full, First};
 ghost use Rattle.step_exclusion.specs.Exclusions.{Narrowed};
 ghost use Rattle.search_exclusion.specs.Smallest.{Smallest, Idle};
-ghost use Rattle.search_exclusion.specs.Tries.{plainKept, Targets, Unset, FirstFit, Improves, Minus, BestOf, Answers, Remembered};
+ghost use Rattle.search_exclusion.specs.Tries.{plainKept, Targets, Unset, Trial, BestOf, Answers, Remembered};
+use step_reach::Count;
 
 // What the search finds: a target and an atom.
 pub enum Pick {
@@ -75,92 +77,50 @@ fn first_set(bytes: &[u8], end: usize) -> usize
 
 // ---- one atom
 
-// The first target from `low` on and below the end whose positive atoms are all in the set, or the end.
-fn first_fit(
-    words: &[u16],
-    marks: &[u8],
-    index: &[u16],
-    can: &[u8],
-    follows: &[u8],
-    low: usize,
-    end: usize,
-) -> usize
-    requires { ⌜ (Ready (now words) (now marks) (now index)) × ((end ≤ getD (now words) 1 0) × ((2048 ≤ length (now can)) × (Unset (now can) low))) ⌝ }
-    ensures { λ r. ⌜ FirstFit (view (now (words .entry)) (now (marks .entry))) (now (can .entry)) (inBytes (now (follows .entry))) end r ⌝ }
+// The better of the pair and clause t with the atom.
+fn better(t: usize, atom: u16, best: Best) -> Best
+    ensures { λ r. ⌜ r ≡ cond (ltb t (best .target)) (record { target = t; atom = atom }) best ⌝ }
 {
-    for t in low..end {
-        if can[t] != 1 {
-            continue;
-        }
-        if step_exclusion::body_in(words, marks, index, t, follows) {
-            return t;
-        }
-    }
-    end
-}
-
-// The better of the pair and the first target that fits with the atom.
-fn better(
-    words: &[u16],
-    marks: &[u8],
-    index: &[u16],
-    can: &[u8],
-    follows: &[u8],
-    low: usize,
-    atom: u16,
-    best: Best,
-) -> Best
-    requires { ⌜ (Ready (now words) (now marks) (now index)) × ((best .target ≤ getD (now words) 1 0) × ((2048 ≤ length (now can)) × (Unset (now can) low))) ⌝ }
-    ensures { λ r. ⌜ Improves (view (now (words .entry)) (now (marks .entry))) (now (can .entry)) (inBytes (now (follows .entry))) atom best r ⌝ }
-{
-    let t = first_fit(words, marks, index, can, follows, low, best.target);
     if t < best.target {
         return Best { target: t, atom };
     }
     best
 }
 
-// The atoms of one set are taken from the other.
-fn cover(todo: &mut [u8], follows: &[u8])
-    requires { ⌜ length (now todo) ≤ length (now follows) ⌝ }
-    ensures { λ _. ⌜ Minus (now (todo .entry)) (now (follows .entry)) (now (todo .exit)) ⌝ }
-{
-    for i in 0..todo.len() {
-        if follows[i] != 1 {
-            continue;
-        }
-        todo[i] = 0;
-    }
-}
-
-// The consequences of the atom, from the closure of the facts with its counts and its queue: these are copies.
-fn consequences_from(
+// The atom is tried: all that follows from it joins the closure of the facts, and is taken back. The better of the pair and the first target that fits;
+// `full` is the first that fits the facts alone.
+fn try_atom(
     words: &[u16],
     only: &[u8],
     index: &[u16],
+    can: &[u8],
+    full: usize,
     atom: u16,
-    base: [u8; 1024],
-    counts: [u16; 2048],
-    list: [u16; 1024],
+    best: Best,
+    bytes: &mut [u8],
+    missing: &mut [Count],
+    queue: &mut [u16],
     top: usize,
-) -> [u8; 1024]
-    requires { ⌜ (Ready (now words) (now only) (now index)) × ((atom < getD (now words) 0 0) × ReachSettled (now words) (now only) base counts list top) ⌝ }
-    ensures { λ r. ⌜ ReachedWith (now (words .entry)) (now (only .entry)) atom r ⌝ }
+    todo: &mut [u8],
+) -> Best
+    requires { ⌜ ((Ready (now words) (now only) (now index)) × ((2048 ≤ length (now can)) × ((atom < getD (now words) 0 0) × ((best .target ≤ getD (now words) 1 0) × (1024 ≤ length (now todo)))))) × ((CountRoom (now words) (now bytes) (now missing)) × ((ReachSettled (now words) (now only) (now bytes) (now missing) (now queue) top) × (First (Full (now words) (now only) (now can) (take top (now queue))) (getD (now words) 1 0) full))) ⌝ }
+    ensures { λ r. ⌜ (Trial (now (words .entry)) (now (only .entry)) (now (can .entry)) atom best (now (todo .entry)) (now (todo .exit)) r) × ((ReachSettled (now (words .entry)) (now (only .entry)) (now (bytes .exit)) (now (missing .exit)) (now (queue .exit)) top) × (take top (now (queue .exit)) ≡ take top (now (queue .entry)))) ⌝ }
 {
-    let mut bytes = base;
-    let mut missing = counts;
-    let mut queue = list;
-    step_reach::close_with(
+    let end = step_reach::close_with(words, only, index, atom, bytes, missing, queue, top);
+    let t = search_closure::take_back(
         words,
         only,
         index,
-        atom,
-        &mut bytes,
-        &mut missing,
-        &mut queue,
+        can,
+        full,
         top,
+        end,
+        bytes,
+        missing,
+        queue,
+        todo,
     );
-    bytes
+    better(t, atom, best)
 }
 
 // ---- all atoms
@@ -172,13 +132,14 @@ fn by_atoms(
     index: &[u16],
     can: &[u8],
     low: usize,
+    full: usize,
     only: &[u8],
-    base: [u8; 1024],
-    counts: [u16; 2048],
-    list: [u16; 1024],
+    bytes: &mut [u8],
+    missing: &mut [Count],
+    queue: &mut [u16],
     top: usize,
 ) -> Best
-    requires { ⌜ ((Ready (now words) (now marks) (now index)) × ((2048 ≤ length (now can)) × ((Targets (getD (now words) 0 0) (view (now words) (now marks)) (now can)) × (Unset (now can) low)))) × ((Ready (now words) (now only) (now index)) × ((Narrowed (now words) (now marks) (now only)) × (ReachSettled (now words) (now only) base counts list top))) ⌝ }
+    requires { ⌜ ((Ready (now words) (now marks) (now index)) × ((2048 ≤ length (now can)) × ((Targets (getD (now words) 0 0) (view (now words) (now marks)) (now can)) × (Unset (now can) low)))) × ((Ready (now words) (now only) (now index)) × ((Narrowed (now words) (now marks) (now only)) × ((CountRoom (now words) (now bytes) (now missing)) × ((ReachSettled (now words) (now only) (now bytes) (now missing) (now queue) top) × (First (Full (now words) (now only) (now can) (take top (now queue))) (getD (now words) 1 0) full))))) ⌝ }
     ensures { λ r. ⌜ BestOf (getD (now (words .entry)) 0 0) (view (now (words .entry)) (now (marks .entry))) r ⌝ }
 {
     let mut todo = [0u8; 1024];
@@ -194,9 +155,20 @@ fn by_atoms(
         if !step_reach::is_in(&todo, a) {
             continue;
         }
-        let follows = consequences_from(words, only, index, a, base, counts, list, top);
-        best = better(words, marks, index, can, &follows, low, a, best);
-        cover(&mut todo, &follows);
+        best = try_atom(
+            words,
+            only,
+            index,
+            can,
+            full,
+            a,
+            best,
+            bytes,
+            missing,
+            queue,
+            top,
+            &mut todo,
+        );
     }
     best
 }
@@ -208,20 +180,22 @@ fn best_pair(words: &[u16], marks: &[u8], index: &[u16], can: &[u8], low: usize)
 {
     let mut only = [0u8; 8192];
     step_exclusion::narrow(words, marks, index, &mut only);
-    let mut base = [0u8; 1024];
-    let mut missing = [0u16; 2048];
+    let mut bytes = [0u8; 1024];
+    let mut missing: [Count; 2048] = [0; 2048];
     let mut queue = [0u16; 1024];
-    let top = step_reach::close_all(words, &only, index, &mut base, &mut missing, &mut queue);
+    let top = step_reach::close_all(words, &only, index, &mut bytes, &mut missing, &mut queue);
+    let full = search_closure::first_full(words, can, &missing);
     by_atoms(
         words,
         marks,
         index,
         can,
         low,
+        full,
         &only,
-        base,
-        missing,
-        queue,
+        &mut bytes,
+        &mut missing,
+        &mut queue,
         top,
     )
 }

@@ -2,7 +2,7 @@
 use mathlib.Core.Path.{_≡_, refl, sym, ap, subst, _∙_}
 use mathlib.Core.Logic.{by-cases, ⊎-elim}
 use mathlib.Core.Bool.{Bool, true, false, So, false≢true}
-use mathlib.Core.List.{List, [], List·Memᴰ·not-nil}
+use mathlib.Core.List.{List, List·Memᴰ·not-nil}
 use Prim.Native.Nat.{ℕ, _+_, _≤_, _<_}
 use native.Mathlib.Omega.{arith}
 use native.Mathlib.Decide.{ℕ-discrete, decLt}
@@ -20,10 +20,8 @@ use Rattle.rewriting.proofs.Exclusion.{Lacks, lacks, entry-removal}
 use Rattle.table.specs.Questions.{Passed}
 use Rattle.table.specs.View.{view}
 use Rattle.table.proofs.View.{length-view}
-use Rattle.step_parts.specs.Parts.{Stands, Latest, ownerAt}
-use Rattle.step_parts.specs.declared.Part.{Part}
 use Rattle.step_parts.specs.declared.Part.the-variants.{Head, Pos, Neg}
-use Rattle.step_parts.proofs.Index.{stands-in, stands-clause, stands-small, kept-stands}
+use Rattle.step_parts.proofs.Index.{stands-small, kept-stands}
 use Rattle.step_reach.specs.Bytes.{inBytes}
 use Rattle.step_reach.specs.Counts.{Queued, Joined}
 use Rattle.step_reach.proofs.Laws.{is-out}
@@ -88,27 +86,6 @@ pub met-owner : (Q : Marked) (F : Atoms) (x x′ : List ℕ) (u t : ℕ) → u �
 met-owner Q F x x′ u t e f h = subst (Met Q F x′) e (record { out = f .out; heads = h })
 
 -- ---- along the places of an atom
-
-module _ (ws index : List ℕ) (Q : Marked) (x : Part) (b : ℕ) where
-  -- the clauses at the places above i are met, and the atom stands at i
-  abbrev pub Above : List ℕ → List ℕ → ℕ → Type 0
-  Above s y i = ((t j : ℕ) → Stands ws x b t j → i < j → Met Q (inBytes s) y t) × (0 < i → (i < length ws) × Stands ws x b (getD index (ownerAt i) 0) i)
-
-  pub above-start : (s y : List ℕ) (i : ℕ) → Passed ws → Latest ws index x b (length ws) i → Above s y i
-  above-start s y i p f = (λ t j st h. absurd (f .none t j st h (stands-small p st .1)), f .some)
-
-  pub above-on : {s q y s′ q′ y′ : List ℕ} {k k′ : ℕ} (i n : ℕ) → 0 < i → Latest ws index x b i n → Onward s q k y s′ q′ k′ y′ → Met Q (inBytes s′) y′ (getD index (ownerAt i) 0) → Above s y i → Above s′ y′ n
-  above-on {s′ = s′} {y′ = y′} i n z f g m w = (next, λ u. let (l, v) = f .some u in (omega (arith, w .1 z .0), v))
-    where
-      next : (t j : ℕ) → Stands ws x b t j → n < j → Met Q (inBytes s′) y′ t
-      next t j st h = by-cases (decLt j i)
-          (λ l. absurd (f .none t j st h l))
-          (λ l. by-cases (ℕ-discrete j i)
-          (λ d. subst (Met Q (inBytes s′) y′) (sym (stands-clause (subst (Stands ws x b t) d st) (w .1 z .1))) m)
-          (λ d. met-later Q t g (w .0 t j st (omega arith))))
-
-  pub above-end : (s y : List ℕ) (i : ℕ) → i ≡ 0 → Above s y i → MetAt ws Q x b s y
-  above-end s y i z w = record { each = λ t j st. w .0 t j st (omega (arith, stands-in st)) }
 
 pub met-all : (ws ms : List ℕ) (a : ℕ) (s y : List ℕ) → MetAt ws (view ws ms) Pos a s y → MetAll (view ws ms) (inBytes s) y a
 met-all ws ms a s y w t m = by-cases (decLt t (getD ws 1 0))

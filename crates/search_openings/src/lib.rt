@@ -22,7 +22,7 @@ use step_parts::Part;
 // ---- what a step opens
 
 // A clause lost a literal: it is a fresh key of the kinds with a partner, 3, 5 and 8.
-fn open_partner(flags: &mut [u16], t: usize)
+pub fn open_partner(flags: &mut [u16], t: usize)
     requires { ⌜ (t < 2048) × (length (now flags) ≡ allFlags) ⌝ }
     ensures { λ _. ⌜ Opened (now (flags .entry)) (now (flags .exit)) × PartnerFresh (now (flags .exit)) t ⌝ }
 {
@@ -32,7 +32,7 @@ fn open_partner(flags: &mut [u16], t: usize)
 }
 
 // An atom lost a head: it is a fresh key of kinds 4 and 6.
-fn open_atom(flags: &mut [u16], atom: usize)
+pub fn open_atom(flags: &mut [u16], atom: usize)
     requires { ⌜ (atom < 2048) × (length (now flags) ≡ allFlags) ⌝ }
     ensures { λ _. ⌜ Opened (now (flags .entry)) (now (flags .exit)) × AtomFresh (now (flags .exit)) atom ⌝ }
 {
@@ -41,7 +41,7 @@ fn open_atom(flags: &mut [u16], atom: usize)
 }
 
 // So is every head atom of a clause that was deleted.
-fn open_head(words: &[u16], marks: &[u8], index: &[u16], flags: &mut [u16], t: usize)
+pub fn open_head(words: &[u16], marks: &[u8], index: &[u16], flags: &mut [u16], t: usize)
     requires { ⌜ (Ready (now words) (now marks) (now index)) × ((t < getD (now words) 1 0) × (length (now flags) ≡ allFlags)) ⌝ }
     ensures { λ _. ⌜ Opened (now (flags .entry)) (now (flags .exit)) × AllFresh (now (flags .exit)) (entry (view (now (words .entry)) (now (marks .entry))) t .clause .head) ⌝ }
 {

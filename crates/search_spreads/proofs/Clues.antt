@@ -130,9 +130,6 @@ along-none ws ms index flags kind p atom x a i q l = record {
   done = λ t j s h. absurd (l .none t j s h (stands-small q s .1));
 }
 
-pub latest-less : (ws index : List ℕ) (x : Part) (a i k : ℕ) → 0 < i → Latest ws index x a i k → k < i
-latest-less ws index x a i k h l = by-cases (decLt 0 k) (λ z. l .some z .0) (λ z. omega arith)
-
 module _ (ws ms index flags flags' : List ℕ) (kind p atom : ℕ) (x : Part) (a i : ℕ) (w : SpreadAlong ws ms index flags flags' kind p atom x a i) (pass : Passed ws) where
   abbrev at : ℕ → Bool
   at t = eligible (getD ws 0 0) (view ws ms) (step (kindOf kind) t p atom)

@@ -87,7 +87,7 @@ fn tally_head(words: &[u16], marks: &[u8], index: &[u16], t: usize, heads: &mut 
     tally(&words[a..b], &marks[a..b], heads);
 }
 
-pub fn clear(heads: &mut [u16])
+fn clear(heads: &mut [u16])
     ensures { λ _. ⌜ now (heads .exit) ≡ replicate (length (now (heads .entry))) 0 ⌝ }
 {
     for i in 0..heads.len() {

@@ -139,6 +139,10 @@ left-narrowed (e ∷ P) = go (e .kept) (definite (e .clause)) refl (left-narrowe
     go true false q r = rw (q, r)
     go false d q r = r
 
+-- the clauses are as they were
+pub narrowed-clause : (ws ms ks : List ℕ) → Narrowed ws ms ks → (t : ℕ) → entry (view ws ks) t .clause ≡ entry (view ws ms) t .clause
+narrowed-clause ws ms ks n t = ap (λ P. entry P t .clause) (n .is) ∙ ap (λ e. e .clause) (entry-map (view ws ms) t)
+
 -- ---- D
 
 pub consequences-by : (ws ms ks : List ℕ) (a : ℕ) (s : List ℕ) → Narrowed ws ms ks → ReachedWith ws ks a s → ConsequencesIn ws ms a s

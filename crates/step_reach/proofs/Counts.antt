@@ -1,11 +1,11 @@
 -- The reach by counts: a clause is counted, an atom is counted off place by place; and once every atom is taken, the set is closed.
 use mathlib.Core.Path.{_≡_, refl, sym, ap, subst, _∙_}
-use mathlib.Core.Logic.{inl, inr, ⊎-elim, by-cases}
+use mathlib.Core.Logic.{_↔_, inl, inr, ⊎-elim, by-cases}
 use mathlib.Core.Bool.{Bool, true, false, not, So}
 use mathlib.Core.List.{List, [], _∷_, List·Memᴰ·head, List·Memᴰ·tail, List·Memᴰ·not-nil}
 use Prim.Native.Nat.{ℕ, suc, _+_, _-_, _≤_, _<_}
 use native.Mathlib.Omega.{arith}
-use native.Mathlib.Decide.{ℕ-discrete, decLt}
+use native.Mathlib.Decide.{ℕ-discrete}
 use lib.Dec.{ltb}
 use lib.ListN.{length, getD, set, take}
 use lib.Seq.{getD-set-same, getD-set-other}
@@ -21,11 +21,11 @@ use Rattle.table.specs.View.{view}
 use Rattle.table.proofs.View.{length-view}
 use Rattle.table.proofs.Parts.{view-straight}
 use Rattle.step_parts.specs.Parts.{Stands, ownerAt, Latest}
-use Rattle.step_parts.specs.declared.Part.{Part}
 use Rattle.step_parts.specs.declared.Part.the-variants.{Pos}
+use Rattle.step_parts.proofs.Walk.{latest-less, latest-above}
 use Rattle.step_parts.proofs.Index.{stands-in, stands-clause, stands-small, stands-kept, kept-stands, stands-once}
-use Rattle.step_reach.specs.Bytes.{inBytes, ReachedWith}
-use Rattle.step_reach.specs.Counts.{Queued, Joined, QueueSpread, lacks, Fired, Rest, CountRoom, Due, Lowered, ReachSettled}
+use Rattle.step_reach.specs.Bytes.{inBytes}
+use Rattle.step_reach.specs.Counts.{Queued, Joined, QueueSpread, lacks, Fired, Rest, CountRoom, Due, Lowered, ReachSettled, WithSettled}
 use Rattle.step_reach.proofs.Queue.{take-more, take-sub, queued-few, queued-at, spread-none}
 
 -- ---- how many pass a test
@@ -54,6 +54,13 @@ count-zero : (f : ℕ → Bool) (l : List ℕ) → ((a : ℕ) → a ∈ l → f 
 count-zero f [] h = refl
 count-zero f (x ∷ l) h = rw (h x (List·Memᴰ·head refl), count-zero f l (λ a m. h a (List·Memᴰ·tail m)))
 
+-- none is lacked where each is taken
+pub lacks-none : (taken l : List ℕ) → (count (λ a. not (mem a taken)) l ≡ 0) ↔ ((a : ℕ) → a ∈ l → a ∈ taken)
+lacks-none taken l = (
+  λ z a m. mem-iff a taken .0 (so-by (mem a taken) (λ n. count-none (λ a. not (mem a taken)) l (omega arith) a m (not-iff (mem a taken) .1 n))),
+  λ h. count-zero (λ a. not (mem a taken)) l (λ a m. ap not (mem-iff a taken .1 (h a m))),
+)
+
 -- one atom more is taken
 module _ (q : List ℕ) (k : ℕ) (h : k < length q) (b : ℕ) (e : b ≡ getD q k 0) where
   others : (a : ℕ) → (a ≡ b → ⊥) → not (mem a (take k q)) ≡ not (mem a (take (k + 1) q))
@@ -61,10 +68,10 @@ module _ (q : List ℕ) (k : ℕ) (h : k < length q) (b : ℕ) (e : b ≡ getD q
       (λ m. mem-iff _ _ .1 (take-more q k a h .1 (inl (mem-iff _ _ .0 m))))
       (λ m. mem-iff _ _ .1 (⊎-elim (λ w. w) (λ d. absurd (n (d ∙ sym e))) (take-more q k a h .0 (mem-iff _ _ .0 m)))))
 
-  lacks-same : (l : List ℕ) → ¬ (b ∈ l) → count (λ a. not (mem a (take k q))) l ≡ count (λ a. not (mem a (take (k + 1) q))) l
+  pub lacks-same : (l : List ℕ) → ¬ (b ∈ l) → count (λ a. not (mem a (take k q))) l ≡ count (λ a. not (mem a (take (k + 1) q))) l
   lacks-same l n = count-same _ _ l (λ a m. others a (λ d. n (subst (λ x. x ∈ l) d m)))
 
-  lacks-less : (l : List ℕ) → So (ascending l) → b ∈ l → ¬ (b ∈ take k q) → count (λ a. not (mem a (take k q))) l ≡ suc (count (λ a. not (mem a (take (k + 1) q))) l)
+  pub lacks-less : (l : List ℕ) → So (ascending l) → b ∈ l → ¬ (b ∈ take k q) → count (λ a. not (mem a (take k q))) l ≡ suc (count (λ a. not (mem a (take (k + 1) q))) l)
   lacks-less l s m n = count-less _ _ b l s m
       (ap not (so-false (mem b (take k q)) (λ w. n (mem-iff _ _ .0 w))))
       (ap not (mem-iff b (take (k + 1) q) .1 (take-more q k b h .1 (inr e))))
@@ -133,14 +140,11 @@ walk-start ws ms index k {s} {q} {missing} {top} {i} p h r w = record {
     fits : k < length q
     fits = omega (arith, queued-few (r .queued), r .queued .room)
 
-pub latest-less : {ws index : List ℕ} {x : Part} {b i n : ℕ} → Latest ws index x b i n → 0 < i → n < i
-latest-less {ws} {index} {x} {b} {i} {n} f h = by-cases (decLt 0 n) (λ z. f .some z .0) (λ z. omega arith)
-
 module _ (ws ms index : List ℕ) (b i : ℕ) (taken : List ℕ) {s missing : List ℕ} (p : Passed ws) (w : CountingOff ws ms b taken i s missing) (st : Stands ws Pos b (getD index (ownerAt i) 0) i) where
   pub walk-due : Due ws ms s missing (getD index (ownerAt i) 0) i
   walk-due = record {
     some = λ e. omega (arith, w .late (getD index (ownerAt i) 0) i st e (omega arith));
-    last = λ e h a m. w .inside a (mem-iff a taken .0 (so-by (mem a taken) (λ n. count-none (λ a. not (mem a taken)) (entry (view ws ms) (getD index (ownerAt i) 0) .clause .pos) (omega (arith, w .late (getD index (ownerAt i) 0) i st e (omega arith))) a m (not-iff (mem a taken) .1 n))));
+    last = λ e h a m. w .inside a (lacks-none taken (entry (view ws ms) (getD index (ownerAt i) 0) .clause .pos) .0 (omega (arith, w .late (getD index (ownerAt i) 0) i st e (omega arith))) a m);
   }
 
   module _ {q s′ missing′ q′ : List ℕ} {top top′ : ℕ} (g : Lowered ws ms s missing q top (getD index (ownerAt i) 0) i s′ missing′ q′ top′) (long : getD index (ownerAt i) 0 < length missing) {n : ℕ} (f : Latest ws index Pos b i n) where
@@ -150,14 +154,10 @@ module _ (ws ms index : List ℕ) (b i : ℕ) (taken : List ℕ) {s missing : Li
     down : n < i
     down = latest-less f (omega (arith, stands-in st))
 
-    -- no place between the two, so a place above the next is one above this, or this
-    above : (t j : ℕ) → Stands ws Pos b t j → n < j → (j ≡ i → ⊥) → i < j
-    above t j q h e = by-cases (decLt j i) (λ l. absurd (f .none t j q h l)) (λ l. omega arith)
-
     past : (getD ms i 0 ≡ 1 → ⊥) → missing′ ≡ missing → CountingOff ws ms b taken n s′ missing′
     past e d = subst (CountingOff ws ms b taken n s′) (sym d) (record {
       late = λ t j q k h. w .late t j q k (omega (arith, down));
-      done = λ t h a. w .done t h (λ j q k. above t j q (a j q k) (λ z. e (subst (λ u. getD ms u 0 ≡ 1) z k)));
+      done = λ t h a. w .done t h (λ j q k. latest-above f t j q (a j q k) (λ z. e (subst (λ u. getD ms u 0 ≡ 1) z k)));
       heads = λ t h k z a m. g .spread .more a (w .heads t h k z a m);
       inside = λ a m. g .spread .more a (w .inside a m);
     })
@@ -167,7 +167,7 @@ module _ (ws ms index : List ℕ) (b i : ℕ) (taken : List ℕ) {s missing : Li
       late = λ t j q k h. rest t (λ z. let v = stands-once p (subst (λ u. Stands ws Pos b u j) z q) st in omega (arith, down)) ∙ w .late t j q k (omega (arith, down));
       done = λ t h a. by-cases (ℕ-discrete t own)
           (λ z. rw z (it ∙ (let v = w .late own i st e (omega arith) in omega arith)))
-          (λ z. rest t z ∙ w .done t h (λ j q k. above t j q (a j q k) (λ y. z (stands-clause (subst (Stands ws Pos b t) y q) st))));
+          (λ z. rest t z ∙ w .done t h (λ j q k. latest-above f t j q (a j q k) (λ y. z (stands-clause (subst (Stands ws Pos b t) y q) st))));
       heads = λ t h. by-cases (ℕ-discrete t own) (λ z. rw z (g .fired e)) (λ z k c a m. g .spread .more a (w .heads t h k (sym (rest t z) ∙ c) a m));
       inside = λ a m. g .spread .more a (w .inside a m);
     }
@@ -198,7 +198,7 @@ walk-end ws ms k b i q h w e g = record {
 pub rest-closed : (ws ms : List ℕ) (k : ℕ) {s missing q : List ℕ} {top : ℕ} → Rest ws ms (getD ws 1 0) k s missing q top → top ≤ k → So (closed (inBytes s) (left (view ws ms)))
 rest-closed ws ms k {s} {missing} {q} {top} r h = closed-iff (inBytes s) (left (view ws ms)) .1 (closed-left (inBytes s) (view ws ms) .1 (λ t e p.
     let l : t < getD ws 1 0 = omega (arith, kept-lt (view ws ms) t e, length-view ws ms) in
-    r .heads t l e (r .exact t l ∙ count-zero (λ a. not (mem a (take k q))) (entry (view ws ms) t .clause .pos) (λ a m. ap not (mem-iff a (take k q) .1 (take-sub top k q h (r .queued .same a .0 (p a m))))))))
+    r .heads t l e (r .exact t l ∙ lacks-none (take k q) (entry (view ws ms) t .clause .pos) .1 (λ a m. take-sub top k q h (r .queued .same a .0 (p a m))))))
 
 pub settled-closed : (ws ms : List ℕ) {s missing q : List ℕ} {top : ℕ} → ReachSettled ws ms s missing q top → So (closed (inBytes s) (left (view ws ms)))
 settled-closed ws ms {top = top} z = rest-closed ws ms top (z .rest) (omega arith)
@@ -213,10 +213,15 @@ rest-join ws ms m k a r j = record {
   heads = λ t h e z b w. j .more b (r .heads t h e z b w);
 }
 
-pub reached-with : (ws ms : List ℕ) (a : ℕ) {s missing q s′ missing′ q′ s″ q″ : List ℕ} {top top′ top″ : ℕ} → ReachSettled ws ms s missing q top → Joined (λ b. b ≡ a) s q top s′ q′ top′
-    → QueueSpread (view ws ms) s′ q′ top′ s″ q″ top″ → Rest ws ms (getD ws 1 0) top″ s″ missing′ q″ top″ → ReachedWith ws ms a s″
-reached-with ws ms a {top″ = top″} z j g r = record {
-  joins = g .more a (j .holds a refl);
-  holds = rest-closed ws ms top″ r (omega arith);
-  least = λ T t c. g .grown .within T c (j .only T (z .within T c) (λ b e. rw e t));
+pub settled-with : (ws ms : List ℕ) (a : ℕ) {s missing q s′ missing′ q′ s″ q″ : List ℕ} {top top′ top″ : ℕ} → ReachSettled ws ms s missing q top → Joined (λ b. b ≡ a) s q top s′ q′ top′
+    → QueueSpread (view ws ms) s′ q′ top′ s″ q″ top″ → Rest ws ms (getD ws 1 0) top″ s″ missing′ q″ top″ → WithSettled ws ms a q top s″ missing′ q″ top″
+settled-with ws ms a {top = top} {top″ = top″} z j g r = record {
+  reached = record {
+    joins = g .more a (j .holds a refl);
+    holds = rest-closed ws ms top″ r (omega arith);
+    least = λ T t c. g .grown .within T c (j .only T (z .within T c) (λ b e. rw e t));
+  };
+  rest = r;
+  longer = omega (arith, j .longer, g .longer);
+  before = g .before top (j .longer) ∙ j .before top (omega arith);
 }

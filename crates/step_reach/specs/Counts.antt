@@ -12,7 +12,7 @@ use Rattle.semantics.specs.Programs.{Atoms, Subset}
 use Rattle.rewriting.specs.Marked.{Entry, Marked, entry, left}
 use Rattle.rewriting.specs.Reach.{closed}
 use Rattle.table.specs.View.{view}
-use Rattle.step_reach.specs.Bytes.{inBytes, Grown}
+use Rattle.step_reach.specs.Bytes.{inBytes, Grown, ReachedWith}
 
 -- how many bytes are 1
 abbrev pub ones : List ℕ → ℕ
@@ -79,3 +79,10 @@ pub record Lowered (ws ms s missing queue : List ℕ) (top t i : ℕ) (s′ miss
 pub record ReachSettled (ws ms s missing queue : List ℕ) (top : ℕ) : Type 0 where
   pub within : (T : Atoms) → So (closed T (left (view ws ms))) → Subset (inBytes s) T
   pub rest : Rest ws ms (getD ws 1 0) top s missing queue top
+
+-- One atom more, and all that follows from it: every atom is taken again, and what stood in the queue still stands there.
+pub record WithSettled (ws ms : List ℕ) (a : ℕ) (queue : List ℕ) (top : ℕ) (s′ missing′ queue′ : List ℕ) (top′ : ℕ) : Type 0 where
+  pub reached : ReachedWith ws ms a s′
+  pub rest : Rest ws ms (getD ws 1 0) top′ s′ missing′ queue′ top′
+  pub longer : top ≤ top′
+  pub before : take top queue′ ≡ take top queue

@@ -12,8 +12,8 @@ ghost use Rattle.table.specs.View.{view};
 ghost use Rattle.table.specs.Slices.{kept-of};
 ghost use Rattle.step_parts.specs.Parts.{partOf, Ready, ownerAt};
 ghost use Rattle.step_parts.specs.declared.Part.the-variants.{Pos};
-ghost use Rattle.step_reach.specs.Bytes.{inBytes, Reached, ReachedWith};
-ghost use Rattle.step_reach.specs.Counts.{Queued, Joined, QueueSpread, Fired, Rest, CountRoom, Due, Lowered, ReachSettled};
+ghost use Rattle.step_reach.specs.Bytes.{inBytes, Reached};
+ghost use Rattle.step_reach.specs.Counts.{Queued, Joined, QueueSpread, Fired, Rest, CountRoom, Due, Lowered, ReachSettled, WithSettled};
 use step_parts::Part;
 
 // A count of the positive atoms of a clause. A byte is too small: a clause may have more than 255.
@@ -270,7 +270,7 @@ pub fn close_all(
     close(words, marks, index, 0, bytes, missing, queue, top)
 }
 
-// One atom more, and all that follows from it.
+// One atom more, and all that follows from it. The queue's length then.
 pub fn close_with(
     words: &[u16],
     marks: &[u8],
@@ -280,12 +280,12 @@ pub fn close_with(
     missing: &mut [Count],
     queue: &mut [u16],
     top: usize,
-)
+) -> usize
     requires { ⌜ (Ready (now words) (now marks) (now index)) × ((atom < getD (now words) 0 0) × ((CountRoom (now words) (now bytes) (now missing)) × (ReachSettled (now words) (now marks) (now bytes) (now missing) (now queue) top))) ⌝ }
-    ensures { λ _. ⌜ ReachedWith (now (words .entry)) (now (marks .entry)) atom (now (bytes .exit)) ⌝ }
+    ensures { λ r. ⌜ WithSettled (now (words .entry)) (now (marks .entry)) atom (now (queue .entry)) top (now (bytes .exit)) (now (missing .exit)) (now (queue .exit)) r ⌝ }
 {
     let end = join(bytes, queue, top, atom);
-    close(words, marks, index, top, bytes, missing, queue, end);
+    close(words, marks, index, top, bytes, missing, queue, end)
 }
 
 // The reach: afterwards the byte of an atom is 1 exactly where the atom is in the reach of the kept clauses.

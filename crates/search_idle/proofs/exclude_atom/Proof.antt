@@ -1,7 +1,6 @@
 -- `search_idle::exclude_atom` meets its contract.
 use native.Mathlib.Omega.{arith}
 use borrow.Author.Tests.{not-true}
-use Rattle.table.specs.View.{view}
 use Rattle.search_idle.proofs.Memory.{idle-kept}
 use Rattle.search_idle.proofs.Forgets.{with-nothing}
 use borrow.Author.Needs.{needs}

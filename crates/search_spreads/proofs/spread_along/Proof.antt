@@ -6,7 +6,8 @@ use lib.ListN.{getD}
 use Rattle.step_parts.specs.declared.Part.{Part}
 use Rattle.step_parts.proofs.Index.{stands-small}
 use Rattle.search_spreads.specs.Spreads.{Clue}
-use Rattle.search_spreads.proofs.Clues.{SpreadAlong, along-none, along-on, along-end, latest-less}
+use Rattle.step_parts.proofs.Walk.{latest-less}
+use Rattle.search_spreads.proofs.Clues.{SpreadAlong, along-none, along-on, along-end}
 use Rattle.search_spreads.proofs.spread_along.Statement.{statement}
 use Rattle.search_spreads.proofs.spread_along.Tie as tie
 
@@ -36,7 +37,7 @@ spread-one-requires c κs =
     (p .0, (subst (λ t. t < getD (c .before .before .before .before .before .before .before .before .before .before .before .before .args .words .now) 1 0) (sym (c .before .before .owner .ensures)) (s .clause), (p .1 .0, (p .1 .1 .0, (p .1 .1 .1 .0, c .before .before .before .before .loop .inv .2 .raising .long ∙ p .1 .1 .1 .1 .0)))))
 
 loop-less : tie.Need-loop-less Inv-loop μ-loop
-loop-less c = let l = c .before .before .before .before .before .before .loop-test .taken in let h : 0 < c .before .before .before .before .before .before .before .loop .i = omega arith in latest-less _ _ _ _ _ _ h (c .before .before .before .before .place-before .ensures _ _ _ (c .before .before .before .before .before .before .before .loop .inv .2 .here h))
+loop-less c = let l = c .before .before .before .before .before .before .loop-test .taken in let h : 0 < c .before .before .before .before .before .before .before .loop .i = omega arith in latest-less (c .before .before .before .before .place-before .ensures _ _ _ (c .before .before .before .before .before .before .before .loop .inv .2 .here h)) h
 
 loop-again : tie.Need-loop-again Inv-loop μ-loop
 loop-again c =

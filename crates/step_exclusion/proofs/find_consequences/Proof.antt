@@ -22,7 +22,7 @@ same-length : tie.Need-same-length
 same-length c = c .before .before .before .before .close-with .kept .1 .1 .1 .1 .0 ∙ c .before .before .before .before .before .before .before .before .before .before .before .before .before .close-all .kept .1 .1 .1 .0
 
 returns : tie.Need-returns
-returns c = consequences-by _ _ _ _ _ (c .before .before .before .before .before .before .before .before .before .before .before .before .before .before .before .before .before .before .before .narrow .ensures) (c .before .before .before .before .close-with .ensures)
+returns c = consequences-by _ _ _ _ _ (c .before .before .before .before .before .before .before .before .before .before .before .before .before .before .before .before .before .before .before .narrow .ensures) (c .before .before .before .before .close-with .ensures .reached)
 
 pub find-consequences-spec : {M : Type 1} → statement M
 find-consequences-spec =

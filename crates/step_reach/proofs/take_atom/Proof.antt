@@ -7,9 +7,10 @@ use Rattle.table.specs.View.{view}
 use Rattle.table.proofs.Encoding.{passed-limits}
 use Rattle.step_parts.specs.Parts.{Stands, ownerAt}
 use Rattle.step_parts.specs.declared.Part.the-variants.{Pos}
+use Rattle.step_parts.proofs.Walk.{latest-less}
 use Rattle.step_reach.specs.Counts.{QueueSpread}
 use Rattle.step_reach.proofs.Queue.{queued-few, queued-at, spread-none, spread-trans}
-use Rattle.step_reach.proofs.Counts.{room-same, CountingOff, walk-start, walk-due, walk-on, walk-end, latest-less}
+use Rattle.step_reach.proofs.Counts.{room-same, CountingOff, walk-start, walk-due, walk-on, walk-end}
 use Rattle.step_reach.proofs.take_atom.Statement.{statement}
 use Rattle.step_reach.proofs.take_atom.Tie as tie
 
