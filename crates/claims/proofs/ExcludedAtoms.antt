@@ -3,12 +3,12 @@
 use mathlib.Core.Path.{_≡_, refl, sym, ap, subst, _∙_}
 use mathlib.Core.Logic.{_↔_, _≢_}
 use mathlib.Core.Bool.{true, _&&_, So}
-use mathlib.Core.List.{List, [], _∷_}
+use mathlib.Core.List.{List, []}
 use Prim.Native.Nat.{ℕ, _*_, _/_, _≤_, _<_}
 use lib.Dec.{eqb, ltb}
 use lib.ListN.{length, getD, take}
 use borrow.Author.Tests.{eqb-true, eq-eqb, ltb-true, lt-ltb}
-use Rattle.semantics.specs.Lists.{_∈_, any, null, mem, without}
+use Rattle.semantics.specs.Lists.{_∈_, null, mem, without}
 use Rattle.semantics.specs.Programs.{Clause, Program, Atoms}
 use Rattle.semantics.proofs.Tests.{and-iff, not-iff, any-iff, mem-iff, null-iff, so-false}
 use Rattle.semantics.proofs.Models.{All}
@@ -16,7 +16,7 @@ use Rattle.rewriting.specs.Marked.{Marked, entry, left, deleted, whole}
 use Rattle.rewriting.specs.Kinds.{excluded}
 use Rattle.rewriting.specs.Consequences.{AreConsequences, consequences}
 use Rattle.rewriting.specs.Exclusion.{occurs}
-use Rattle.rewriting.specs.Steps.{Step, step, condition, conditionHolds, applies, effect}
+use Rattle.rewriting.specs.Steps.{Step, condition, conditionHolds, applies, effect}
 use Rattle.rewriting.specs.Runs.{beforeNine}
 use Rattle.rewriting.specs.Reducer.{Greedy}
 use Rattle.rewriting.proofs.Effect.{effect-off}

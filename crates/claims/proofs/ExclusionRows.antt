@@ -25,8 +25,8 @@ use Rattle.reducer_results.specs.Reductions as reductions
 use Rattle.claims.proofs.Said.{Example, writes, checked, value, refusal, AllSay}
 
 -- 0|1. <- 0.
-abbrev ban : List ℕ
-ban = 2 ∷ 2 ∷ 2 ∷ 0 ∷ 0 ∷ 0 ∷ 1 ∷ 0 ∷ 1 ∷ 0 ∷ 0 ∷ []
+abbrev excluding : List ℕ
+excluding = 2 ∷ 2 ∷ 2 ∷ 0 ∷ 0 ∷ 0 ∷ 1 ∷ 0 ∷ 1 ∷ 0 ∷ 0 ∷ []
 
 -- <- 0. 0 <- 1. 1 <- ~2. 2 <- ~1.
 abbrev chain : List ℕ
@@ -55,7 +55,7 @@ shrinks = 3 ∷ 3 ∷ 0 ∷ 1 ∷ 0 ∷ 0 ∷ 2 ∷ 0 ∷ 0 ∷ 0 ∷ 1 ∷ 1 �
 abbrev pub rows : List Example
 rows =
     -- "It deletes kept clauses with a in the positive body and drops a from the heads and negative bodies of the other kept ones": from a head; the target goes, which has it in its body: 0|1. <- 0.
-    checked ban (9 ∷ 1 ∷ 0 ∷ 0 ∷ []) (value 1) (1 ∷ 1 ∷ 1 ∷ 1 ∷ 1 ∷ 0 ∷ 1 ∷ 0 ∷ 1 ∷ 1 ∷ 1 ∷ [])
+    checked excluding (9 ∷ 1 ∷ 0 ∷ 0 ∷ []) (value 1) (1 ∷ 1 ∷ 1 ∷ 1 ∷ 1 ∷ 0 ∷ 1 ∷ 0 ∷ 1 ∷ 1 ∷ 1 ∷ [])
     -- each effect once, in one step: two clauses deleted, a head and a negative literal dropped: <- 0. 0|1. 2 <- 0. 2 <- ~0.
     ∷ checked (3 ∷ 4 ∷ 0 ∷ 1 ∷ 0 ∷ 0 ∷ 2 ∷ 0 ∷ 0 ∷ 0 ∷ 1 ∷ 1 ∷ 1 ∷ 0 ∷ 2 ∷ 0 ∷ 1 ∷ 0 ∷ 1 ∷ 2 ∷ 0 ∷ []) (9 ∷ 0 ∷ 0 ∷ 0 ∷ []) (value 1) (1 ∷ 1 ∷ 0 ∷ 1 ∷ 1 ∷ 1 ∷ 1 ∷ 1 ∷ 1 ∷ 0 ∷ 1 ∷ 0 ∷ 1 ∷ 1 ∷ 1 ∷ 1 ∷ 1 ∷ 1 ∷ 1 ∷ 1 ∷ 0 ∷ [])
     -- the atom need not be in the target: D is 1 and 0, and the target stays: <- 0. 0 <- 1. 1 <- ~2. 2 <- ~1.
@@ -89,13 +89,13 @@ rows =
     -- with a head: 0|1. 1 <- 0.
     ∷ checked (2 ∷ 2 ∷ 2 ∷ 0 ∷ 0 ∷ 0 ∷ 1 ∷ 1 ∷ 1 ∷ 0 ∷ 1 ∷ 0 ∷ []) (9 ∷ 1 ∷ 0 ∷ 0 ∷ []) (refusal 16 0) (replicate 12 1)
     -- 13 before 14, 0|1. <- 0.
-    ∷ checked ban (9 ∷ 2 ∷ 1 ∷ 2 ∷ []) (refusal 13 0) (replicate 11 1)
+    ∷ checked excluding (9 ∷ 2 ∷ 1 ∷ 2 ∷ []) (refusal 13 0) (replicate 11 1)
     -- "the partner is unused": 14 before 15, 0|1. <- 0.
-    ∷ checked ban (9 ∷ 1 ∷ 1 ∷ 2 ∷ []) (refusal 14 0) (replicate 11 1)
+    ∷ checked excluding (9 ∷ 1 ∷ 1 ∷ 2 ∷ []) (refusal 14 0) (replicate 11 1)
     -- 15: 0|1. <- 0.
-    ∷ checked ban (9 ∷ 1 ∷ 0 ∷ 2 ∷ []) (refusal 15 0) (replicate 11 1)
+    ∷ checked excluding (9 ∷ 1 ∷ 0 ∷ 2 ∷ []) (refusal 15 0) (replicate 11 1)
     -- "Question 12 allows 9": 0|1. <- 0.
-    ∷ checked ban (10 ∷ 1 ∷ 0 ∷ 0 ∷ []) (refusal 12 0) (replicate 11 1)
+    ∷ checked excluding (10 ∷ 1 ∷ 0 ∷ 0 ∷ []) (refusal 12 0) (replicate 11 1)
     -- a disjunctive fact that lost an atom is a partner of kind 3; <- 0. 0|1. 2 <- 1.
     ∷ checked shrinks (9 ∷ 0 ∷ 0 ∷ 0 ∷ 3 ∷ 2 ∷ 1 ∷ 1 ∷ []) (value 2) (1 ∷ 1 ∷ 0 ∷ 1 ∷ 1 ∷ 1 ∷ 1 ∷ 1 ∷ 1 ∷ 0 ∷ 1 ∷ 1 ∷ 1 ∷ 1 ∷ 1 ∷ 0 ∷ [])
     -- 29 reads its head as left, <- 0. 0|1. 2 <- 1.

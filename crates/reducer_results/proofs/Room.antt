@@ -1,5 +1,5 @@
 -- The most steps that a reduction can have: clauses plus literals, which are the table's words but the first two and two of each clause, and the measure of the whole program.
-use mathlib.Core.Path.{_≡_, refl, sym, ap, _∙_}
+use mathlib.Core.Path.{_≡_, refl, ap, _∙_}
 use mathlib.Core.List.{List, [], _∷_, _++_}
 use Prim.Native.Nat.{ℕ, _+_, _*_, _≤_}
 use native.Mathlib.Omega.{arith}

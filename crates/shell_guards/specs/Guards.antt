@@ -1,12 +1,10 @@
 -- Rules that are led past the reducer are a context of which the possible head atoms are known; guards stand for it in the table.
-use mathlib.Core.Bool.{Bool, cond, So}
+use mathlib.Core.Bool.{Bool, So}
 use mathlib.Core.List.{List, [], _∷_, _++_}
 use Prim.Native.Nat.{ℕ, suc}
 use lib.Dec.{ltb}
 use Rattle.semantics.specs.Lists.{any, all, keep, mem}
 use Rattle.semantics.specs.Programs.{Clause, Atoms, Subset}
-use Rattle.rewriting.specs.Kinds.{onTarget}
-use Rattle.rewriting.specs.Steps.{Step}
 use Rattle.shell_choices.specs.Stable.{Context}
 
 -- "Their head atoms, and atoms that may be set from outside" are all in H: where M satisfies the context, so does each subset of M that has all

@@ -30,22 +30,22 @@ use Rattle.shell_readback.proofs.Parts.{Part}
 -- ---- at work
 
 -- {0} <- 1. 1. <- 0. over two atoms
-abbrev banned : List Clause
-banned = translated 2 (when (1 ∷ []) [] [] ∷ when [] (0 ∷ []) [] ∷ []) (may 0 (1 ∷ []) [] ∷ [])
+abbrev excluding : List Clause
+excluding = translated 2 (when (1 ∷ []) [] [] ∷ when [] (0 ∷ []) [] ∷ []) (may 0 (1 ∷ []) [] ∷ [])
 
 -- the constraint excludes 0: the choice loses its atom, "2 <- 1" is left of it, and is left out
 abbrev nine : List Step
 nine = step excluded 1 0 0 ∷ []
 
-nine-accepted : accepted 3 (whole banned) nine ≡ true
+nine-accepted : accepted 3 (whole excluding) nine ≡ true
 unfolding left fire reachFrom reach consequences excludes condition conditionHolds applies accepted numbered translated
 nine-accepted = refl
 
-nine-left : left (leaves 3 (whole banned) nine) ≡ when (1 ∷ []) [] [] ∷ when (2 ∷ []) (1 ∷ []) [] ∷ []
+nine-left : left (leaves 3 (whole excluding) nine) ≡ when (1 ∷ []) [] [] ∷ when (2 ∷ []) (1 ∷ []) [] ∷ []
 unfolding left fire reachFrom reach consequences excludes removal condition conditionHolds applies effect leaves numbered translated
 nine-left = refl
 
-nine-told : told 2 (left (leaves 3 (whole banned) nine)) ≡ when (1 ∷ []) [] [] ∷ []
+nine-told : told 2 (left (leaves 3 (whole excluding) nine)) ≡ when (1 ∷ []) [] [] ∷ []
 unfolding left fire reachFrom reach consequences excludes removal condition conditionHolds applies effect leaves numbered translated told
 nine-told = refl
 
