@@ -556,7 +556,7 @@ static void subsumed(struct reducer *r, unsigned t)
     delete(r, t);
 }
 
-/* ---- kind 9: the constraints of positive atoms alone, bans, and the atoms that lead to all atoms of one */
+/* ---- kind 9: constraints, here those of positive atoms alone, and the atoms that lead to all atoms of one */
 
 /* Whether a kept clause has no negative atom, some positive one, and so many heads. */
 static int positive(const struct clause *c, unsigned heads)
@@ -564,11 +564,11 @@ static int positive(const struct clause *c, unsigned heads)
     return c->kept && c->heads == heads && c->body == c->conditions && c->body > 0;
 }
 
-/* Puts what an atom leads to by definite clauses into the queue. Returns the first ban that it leads to, or NONE. No success
- * is left, so no positive body has a fact's atom, and facts lead nowhere. */
+/* Puts what an atom leads to by definite clauses into the queue. Returns the first constraint that it leads to, or NONE. No
+ * success is left, so no positive body has a fact's atom, and facts lead nowhere. */
 static unsigned follow(struct reducer *r, unsigned atom, uint16_t *queue, size_t *end)
 {
-    unsigned ban = NONE;
+    unsigned constraint = NONE;
     queue[0] = (uint16_t)atom;
     r->leader[atom] = (uint16_t)atom;
     *end = 1;
@@ -579,29 +579,29 @@ static unsigned follow(struct reducer *r, unsigned atom, uint16_t *queue, size_t
             if (--r->missing[t] > 0 || c->body > c->conditions || c->heads > 1)
                 continue;
             if (c->heads == 0) {
-                ban = t < ban ? t : ban;
+                constraint = t < constraint ? t : constraint;
             } else if (r->leader[head_atom(r, t)] != atom) {
                 queue[*end] = (uint16_t)head_atom(r, t);
                 r->leader[queue[(*end)++]] = (uint16_t)atom;
             }
         }
     }
-    return ban;
+    return constraint;
 }
 
-/* The first ban that an atom leads to, or NONE, also where the atom is in no positive body, or an atom that was followed
- * leads to it: then that one leads to all that it does. */
+/* The first constraint that an atom leads to, or NONE, also where the atom is in no positive body, or an atom that was
+ * followed leads to it: then that one leads to all that it does. */
 static unsigned led_to(struct reducer *r, unsigned atom)
 {
     uint16_t queue[ATOMS];
     size_t end;
     if (r->leader[atom] != NONE || !live(r, &r->chain[POS + atom]))
         return NONE;
-    unsigned ban = follow(r, atom, queue, &end);
+    unsigned constraint = follow(r, atom, queue, &end);
     while (end > 0)
         for (uint16_t *link = &r->chain[POS + queue[--end]]; live(r, link); link = &r->next[*link])
             r->missing[r->owner[*link]]++;
-    return ban;
+    return constraint;
 }
 
 /* No atom was followed. */
@@ -612,8 +612,8 @@ static void follow_anew(struct reducer *r)
     memset(r->leader, 0xff, sizeof r->leader);
 }
 
-/* The first ban, or NONE. */
-static unsigned first_ban(const struct reducer *r)
+/* The first constraint, or NONE. */
+static unsigned first_constraint(const struct reducer *r)
 {
     for (unsigned t = 0; t < r->clauses; t++)
         if (positive(&r->clause[t], 0))
@@ -621,39 +621,39 @@ static unsigned first_ban(const struct reducer *r)
     return NONE;
 }
 
-/* A ban below which no atom leads to one, or NONE. */
+/* A constraint below which no atom leads to one, or NONE. */
 #ifdef PLAIN_SEARCH
-static unsigned least_ban(struct reducer *r)
+static unsigned least_constraint(struct reducer *r)
 {
-    return first_ban(r);
+    return first_constraint(r);
 }
 #else
 /* The first one that some atom leads to: atoms that no rule derives are followed first, and most others need not be. */
-static unsigned least_ban(struct reducer *r)
+static unsigned least_constraint(struct reducer *r)
 {
     uint8_t derived[ATOMS] = {0};
-    unsigned first = first_ban(r), least = NONE;
+    unsigned first = first_constraint(r), least = NONE;
     follow_anew(r);
     for (unsigned t = 0; t < r->clauses; t++)
         if (positive(&r->clause[t], 1))
             derived[head_atom(r, t)] = 1;
     for (unsigned i = 0; i < 2 * r->atoms && least != first; i++) {
-        unsigned atom = i % r->atoms, ban = i < r->atoms && derived[atom] ? NONE : led_to(r, atom);
-        least = ban < least ? ban : least;
+        unsigned atom = i % r->atoms, constraint = i < r->atoms && derived[atom] ? NONE : led_to(r, atom);
+        least = constraint < least ? constraint : least;
     }
     return least;
 }
 #endif
 
-/* The first ban that an atom leads to, and the first such atom; or NONE. */
-static unsigned banned(struct reducer *r, unsigned *who)
+/* The first constraint that an atom leads to, and the first such atom; or NONE. */
+static unsigned excluded(struct reducer *r, unsigned *who)
 {
-    unsigned least = least_ban(r), best = NONE;
+    unsigned least = least_constraint(r), best = NONE;
     follow_anew(r);
     for (unsigned atom = 0; atom < r->atoms && best != least; atom++) {
-        unsigned ban = led_to(r, atom);
-        if (ban < best) {
-            best = ban;
+        unsigned constraint = led_to(r, atom);
+        if (constraint < best) {
+            best = constraint;
             *who = atom;
         }
     }
@@ -678,7 +678,7 @@ static void drop_all(struct reducer *r, unsigned atom)
 /* The step of kind 9, or 0 where there is none. */
 static int exclude(struct reducer *r)
 {
-    unsigned atom = 0, target = banned(r, &atom);
+    unsigned atom = 0, target = excluded(r, &atom);
     if (target == NONE)
         return 0;
     write_step(r, EXCLUDED, target, 0, atom);

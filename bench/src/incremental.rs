@@ -2,7 +2,7 @@
 //! implementation before anything is measured.
 use gambrolt_tests::independent::program::{words, Program};
 use gambrolt_tests::independent::reduce;
-use gambrolt_tests::make::programs::{bans, copies, every, program, Size, MIDDLE, SMALL, TINY};
+use gambrolt_tests::make::programs::{copies, every, exclusions, program, Size, MIDDLE, SMALL, TINY};
 use gambrolt_tests::random::Random;
 use gambrolt_tests::rescan::Reducer;
 
@@ -38,10 +38,10 @@ const DRAWS: [Draws; 12] = [
     (copies, SMALL, 20_000),
     (copies, DENSE, 10_000),
     (copies, MIDDLE, 200),
-    (bans, TINY, 20_000),
-    (bans, SMALL, 20_000),
-    (bans, DENSE, 10_000),
-    (bans, MIDDLE, 200),
+    (exclusions, TINY, 20_000),
+    (exclusions, SMALL, 20_000),
+    (exclusions, DENSE, 10_000),
+    (exclusions, MIDDLE, 200),
 ];
 
 /// Fails where the list, its length or the marks are not the documents'; gives how many programs were compared.

@@ -2,30 +2,30 @@
 # the table, where the kind is left out; and random orders beside the solver. `writes` is that of forms.sh, `says` and `refuses`
 # those of certificate.sh, `fits` and `pairs` those of models.sh.
 
-# <- 0. 0 <- 1. 1 <- ~2. 2 <- ~1.: a rule that loses its head is the next ban
+# <- 0. 0 <- 1. 1 <- ~2. 2 <- ~1.: a rule that loses its head is the next constraint
 printf 'atoms=3\nclauses=4\nhead=\npos=0\nneg=\nhead=0\npos=1\nneg=\nhead=1\npos=\nneg=2\nhead=2\npos=\nneg=1\n' >"$tmp/in"
 printf 'atoms=3\nclauses=1\nhead=2\npos=\nneg=\nsteps=3\nstep=9,0,0,0\nstep=9,1,0,1\nstep=5,2,3,0\n' >"$tmp/want"
-writes "a ban handed on" "--text --steps"
+writes "a constraint handed on" "--text --steps"
 build/gambrolt --text "--steps=$tmp/list" "--explain=$tmp/told" --dry-run <"$tmp/in"
-says "a ban handed on: the list" 0 "yes: the list's 3 steps" --text "--check=$tmp/list"
+says "a constraint handed on: the list" 0 "yes: the list's 3 steps" --text "--check=$tmp/list"
 cat >"$tmp/want" <<'END'
 clause 0, `:- a(0).`: `a(0)` can't be; deleted clause 0; dropped it from the head of clause 1
 clause 1, `:- a(1).`: `a(1)` can't be; deleted clause 1; dropped it from the head of clause 2; dropped its negation from clause 3
 clause 2, `:- not a(2).`: deleted, since it needs `not a(2)`, but clause 3, `a(2).`, is a fact
 END
-expect "a ban handed on: the sentences" same "$tmp/want" "$tmp/told"
+expect "a constraint handed on: the sentences" same "$tmp/want" "$tmp/told"
 build/gambrolt --text "--steps=$tmp/list.json" --dry-run <"$tmp/in"
-expect "a ban handed on: the object" grep -qF '{"step": [9, 1, 0, 1], "kind": "excluded", "rule": 1, "line": 6, "atom": 1, "name": "a(1)"}' "$tmp/list.json"
-says "a ban handed on: the list in JSON" 0 "yes: the list's 3 steps" --text "--check=$tmp/list.json"
+expect "a constraint handed on: the object" grep -qF '{"step": [9, 1, 0, 1], "kind": "excluded", "rule": 1, "line": 6, "atom": 1, "name": "a(1)"}' "$tmp/list.json"
+says "a constraint handed on: the list in JSON" 0 "yes: the list's 3 steps" --text "--check=$tmp/list.json"
 refuses "an atom that can be" 'steps=1\nstep=9,0,0,2\n' "list, line 2: step 0, 9,0,0,2: the condition of a step does not hold (refused=16,0)"
 refuses "a target with a head" 'steps=1\nstep=9,1,0,1\n' "refused=16,0"
 refuses "a partner of kind 9" 'steps=1\nstep=9,0,1,0\n' "refused=14,0"
 refuses "another kind than 1 to 9" 'steps=1\nstep=10,0,0,0\n' "the kind of a step is not 1 to 9 (refused=12,0)"
 
-# an atom that leads to a ban, and more clauses than are named; heads are told as they are left
+# an atom that leads to a constraint, and more clauses than are named; heads are told as they are left
 awk 'BEGIN { print "atoms=60\nclauses=53\nhead=1\npos=0\nneg=\nhead=\npos=1\nneg=\nhead=0,2,3\npos=\nneg="; for (i = 4; i < 54; i++) print "head=" i "\npos=\nneg=0," i + 1 }' >"$tmp/in"
 build/gambrolt --text "--explain=$tmp/told" --dry-run <"$tmp/in"
-expect "an atom that leads to a ban" grep -qF "clause 1, \`:- a(1).\`: \`a(0)\` can't be, since \`a(1)\` follows from it; deleted clause 0; dropped it from the head of clause 2; dropped its negation from clauses 3, 4, 5, 6, 7, 8, 9, 10, 11, 12, 13, 14, 15, 16, 17, 18, 19, 20, 21, 22 and 30 more" "$tmp/told"
+expect "an atom that leads to a constraint" grep -qF "clause 1, \`:- a(1).\`: \`a(0)\` can't be, since \`a(1)\` follows from it; deleted clause 0; dropped it from the head of clause 2; dropped its negation from clauses 3, 4, 5, 6, 7, 8, 9, 10, 11, 12, 13, 14, 15, 16, 17, 18, 19, 20, 21, 22 and 30 more" "$tmp/told"
 
 # a disjunction as left: it blocks by the heads that it has still
 printf 'atoms=4\nclauses=3\nhead=0,1,2\npos=\nneg=\nhead=\npos=0\nneg=\nhead=3\npos=\nneg=1,2\n' >"$tmp/in"
@@ -135,13 +135,13 @@ for beside in '2 0 1 2 1' '3 1 2' '6 1 2' '7 4 2 1 1 0' '8 0 1 1 2' '10 a commen
     writes "atoms that can't be, beside $beside" ""
 done
 
-# left_alone WHAT STATEMENTS: with these beside it the ban of atom 1 stays, as the atom may be derived or set there; a list that
-# excludes it is refused in words, and one that is wrong before that as any list
+# left_alone WHAT STATEMENTS: with these beside it the constraint of atom 1 stays, as the atom may be derived or set there; a list
+# that excludes it is refused in words, and one that is wrong before that as any list
 left_alone() {
     # shellcheck disable=SC2059
     printf "asp 1 0 0\n1 0 0 0 1 1\n$2\n4 1 a 1 1\n4 1 b 1 2\n0\n" >"$tmp/in"
     cp "$tmp/in" "$tmp/want"
-    writes "$1: the ban stays" ""
+    writes "$1: the constraint stays" ""
     models "$tmp/in" >"$tmp/models"
     build/gambrolt "--steps=$tmp/list" "--explain=$tmp/told" --stats <"$tmp/in" >"$tmp/out" 2>"$tmp/err"
     models "$tmp/out" >"$tmp/reduced"
@@ -165,7 +165,7 @@ left_alone "an external" '5 1 0\n1 1 1 2 0 0'
 left_alone "an external that is true" '5 1 1\n1 1 1 2 0 0'
 left_alone "a theory atom" '1 1 1 2 0 0\n9 1 0 2 go\n9 5 1 0 0'
 left_alone "a constraint with a weight body" '1 0 2 1 2 0 0\n1 0 0 1 2 2 1 1 2 1'
-# steps before the first of kind 9 stay: c :- c. and d :- e. go, the ban of 1 is left
+# steps before the first of kind 9 stay: c :- c. and d :- e. go, the constraint of 1 is left
 printf 'asp 1 0 0\n1 0 1 3 0 1 3\n1 0 0 0 1 1\n1 0 1 4 0 1 5\n1 0 1 1 1 1 1 2 1\n1 1 1 2 0 0\n0\n' >"$tmp/in"
 printf 'asp 1 0 0\n1 0 0 0 1 1\n1 0 1 1 1 1 1 2 1\n1 1 1 2 0 0\n0\n' >"$tmp/want"
 writes "steps before the first of kind 9" ""
@@ -173,9 +173,9 @@ build/gambrolt "--steps=$tmp/list" --dry-run <"$tmp/in"
 printf 'steps=2\nstep=1,0,0,2\nstep=6,2,0,4\n' >"$tmp/want"
 expect "steps before the first of kind 9: the list" same "$tmp/want" "$tmp/list"
 
-# random_bans SEED BESIDE: bans, rules, choices, disjunctions and negations over few atoms; with BESIDE 1 a rule with a weight
-# body for one or two of them, or an external, with BESIDE 2 in its place what the table has for that, `a | y.`
-random_bans() {
+# random_exclusions SEED BESIDE: constraints, rules, choices, disjunctions and negations over few atoms; with BESIDE 1 a rule with
+# a weight body for one or two of them, or an external, with BESIDE 2 in its place what the table has for that, `a | y.`
+random_exclusions() {
     awk -v seed="$1" -v beside="$2" '
         function draw(n) { state = (16807 * state) % 2147483647; return int(state / 7) % n }
         function atom() { return 1 + draw(atoms) }
@@ -219,32 +219,32 @@ excludes() {
 seed=1
 while [ "$seed" -le "${RANDOM_PROGRAMS:-150}" ]; do
     for beside in 0 1; do
-        random_bans "$seed" "$beside" >"$tmp/in"
+        random_exclusions "$seed" "$beside" >"$tmp/in"
         build/gambrolt <"$tmp/in" >"$tmp/out" 2>"$tmp/err"
-        expect "random bans $seed $beside: status 0: $(cat "$tmp/err")" [ -s "$tmp/out" ]
+        expect "random exclusions $seed $beside: status 0: $(cat "$tmp/err")" [ -s "$tmp/out" ]
         models "$tmp/in" >"$tmp/models"
         models "$tmp/out" >"$tmp/reduced"
-        expect "random bans $seed $beside: an answer" grep -q SATISFIABLE "$tmp/models"
-        expect "random bans $seed $beside: the same stable models" same "$tmp/models" "$tmp/reduced"
+        expect "random exclusions $seed $beside: an answer" grep -q SATISFIABLE "$tmp/models"
+        expect "random exclusions $seed $beside: the same stable models" same "$tmp/models" "$tmp/reduced"
         build/gambrolt <"$tmp/out" >"$tmp/twice"
-        expect "random bans $seed $beside: nothing is left to reduce" same "$tmp/out" "$tmp/twice"
+        expect "random exclusions $seed $beside: nothing is left to reduce" same "$tmp/out" "$tmp/twice"
         steps=$(excludes)
         if [ "$beside" -eq 1 ]; then
-            expect "random bans $seed: no step of kind 9 beside what is carried" [ "$steps" -eq 0 ]
-            random_bans "$seed" 2 >"$tmp/in"
+            expect "random exclusions $seed: no step of kind 9 beside what is carried" [ "$steps" -eq 0 ]
+            random_exclusions "$seed" 2 >"$tmp/in"
             [ "$(excludes)" -gt 0 ] && echo "cut $(grep -c model "$tmp/models")" >>"$tmp/counts"
         elif [ "$steps" -gt 0 ]; then
             echo "excluded $(grep -c model "$tmp/models")" >>"$tmp/counts"
             grep -q '^1 1 ' "$tmp/in" && echo choice >>"$tmp/counts"
-            fits "random bans $seed" # $tmp/in and $tmp/out of the run without options
+            fits "random exclusions $seed" # $tmp/in and $tmp/out of the run without options
             build/gambrolt --to-lp <"$tmp/in" 2>/dev/null | gringo 2>/dev/null >"$tmp/out"
             models "$tmp/out" >"$tmp/reduced"
-            expect "random bans $seed: the same stable models from ground rules" same "$tmp/models" "$tmp/reduced"
+            expect "random exclusions $seed: the same stable models from ground rules" same "$tmp/models" "$tmp/reduced"
         fi
     done
     seed=$((seed + 1))
 done
-echo "random bans: $(grep -c excluded "$tmp/counts") orders with steps of kind 9, $(grep -c choice "$tmp/counts") of them with choices; $(grep -c cut "$tmp/counts") cut lists"
+echo "random exclusions: $(grep -c excluded "$tmp/counts") orders with steps of kind 9, $(grep -c choice "$tmp/counts") of them with choices; $(grep -c cut "$tmp/counts") cut lists"
 expect "a third of the random orders have steps of kind 9" [ "$(grep -c excluded "$tmp/counts")" -gt $((seed / 3)) ]
 expect "an eighth of them and choices" [ "$(grep -c choice "$tmp/counts")" -gt $((seed / 8)) ]
 expect "of an eighth of them a list is cut" [ "$(grep -c cut "$tmp/counts")" -gt $((seed / 8)) ]

@@ -138,7 +138,8 @@ impl EqualClauses {
 /// Lists of the reducer: how many have no step of kind 9, one or more, and another kind behind one. Steps of kind 9 in lists that
 /// were made: how many, of how many the target stays, and how many delete other clauses, drop the atom from heads, from negative
 /// bodies, make a constraint, a fact, or serve a target that had lost its head. Those that were refused: by 14; by 16 as the target
-/// is no ban, as the atom is in no kept clause, though it derives the ban, or was in one before, or as it does not derive the ban.
+/// is no positive constraint, as the atom is in no kept clause, though it derives the constraint's atoms, or was in one before, or
+/// as it does not derive them.
 #[derive(Debug, Default)]
 pub struct Exclusions {
     pub lists_without: u64,
@@ -153,7 +154,7 @@ pub struct Exclusions {
     pub facts_made: u64,
     pub target_had_head: u64,
     pub with_partner: u64,
-    pub no_ban: u64,
+    pub no_positive_constraint: u64,
     pub in_no_clause: u64,
     pub lost: u64,
     pub not_derived: u64,
@@ -182,7 +183,7 @@ impl Exclusions {
         let target = left.kept(step.target).unwrap();
         let derived = target.pos.is_subset(left.derived_from(step.atom));
         match target.head.is_empty() && target.neg.is_empty() && !target.pos.is_empty() {
-            false => self.no_ban += 1,
+            false => self.no_positive_constraint += 1,
             true if derived => self.in_no_clause += 1,
             true => self.not_derived += 1,
         }

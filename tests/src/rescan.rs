@@ -32,7 +32,7 @@ impl Clause {
     }
 
     /// A constraint of positive atoms alone, and not none.
-    fn is_ban(&self) -> bool {
+    fn is_positive_constraint(&self) -> bool {
         self.head.is_empty() && !self.pos.is_empty() && self.neg.is_empty()
     }
 }
@@ -138,16 +138,16 @@ impl Reducer {
         kind != 3 && target < partner && clause(target) == clause(partner)
     }
 
-    /// Kind 9: the first ban that some atom leads to by definite clauses, and the first such atom.
+    /// Kind 9: the first positive constraint that some atom leads to by definite clauses, and the first such atom.
     fn excluded(&self) -> Option<[u16; 4]> {
         let definite = Definite::new(self);
         let occurring: BTreeSet<u16> =
             self.kept().flat_map(|(_, c)| [&c.head, &c.pos, &c.neg]).flatten().copied().collect();
         let closures = vec![OnceCell::new(); self.atoms];
-        self.kept().filter(|(_, clause)| clause.is_ban()).find_map(|(target, ban)| {
+        self.kept().filter(|(_, clause)| clause.is_positive_constraint()).find_map(|(target, constraint)| {
             let leads = |atom: &&u16| {
                 let closure = closures[usize::from(**atom)].get_or_init(|| definite.closure(**atom));
-                ban.pos.iter().all(|&banned| closure[usize::from(banned)])
+                constraint.pos.iter().all(|&positive| closure[usize::from(positive)])
             };
             occurring.iter().find(leads).map(|&atom| [9, target, 0, atom])
         })

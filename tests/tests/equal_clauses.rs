@@ -186,7 +186,7 @@ fn empty_clauses() {
 
 #[test]
 fn equal_rules() {
-    // nothing below 8 applies: the disjunction gives heads and reach, and is no fact for 3; then the ban of 0 leaves the fact 1
+    // nothing below 8 applies: the disjunction gives heads and reach, and is no fact for 3; then excluding 0 leaves the fact 1
     reduces(2, "0|1. <- 0. <- 0.", &[[8, 2, 1, 0], [9, 1, 0, 0]], "1.");
     reduces(2, "<- 0. 0|1. <- 0. <- 0.", &[[8, 2, 0, 0], [8, 3, 0, 0], [9, 0, 0, 0]], "1.");
     reduces(3, "0|1. 2 <- 0, ~1. 2 <- 0, ~1.", &[[8, 2, 1, 0]], "0|1. 2 <- 0, ~1.");

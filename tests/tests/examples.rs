@@ -235,7 +235,7 @@ fn a_stack_of_192_kilobytes() {
             library::reduced_table(&table, &marks, &table);
             table
         };
-        reduced("disjunctions that bans make facts");
+        reduced("disjunctions that constraints make facts");
         let table = reduced("random sparse");
         assert_eq!(library::test(&table, &(0..16).collect::<Vec<_>>()), 0);
         assert_eq!(library::cycle(&table), 1);

@@ -9,7 +9,7 @@ use gambrolt_tests::independent::steps::{Left, Step};
 use gambrolt_tests::independent::table::Table;
 use gambrolt_tests::independent::{Answer, Refused};
 use gambrolt_tests::library;
-use gambrolt_tests::make::programs::{any_size, bans, every, MIDDLE, TINY};
+use gambrolt_tests::make::programs::{any_size, every, exclusions, MIDDLE, TINY};
 use gambrolt_tests::make::shapes::SHAPES;
 use gambrolt_tests::random::Random;
 use gambrolt_tests::rescan::Reducer;
@@ -80,13 +80,13 @@ fn partners_and_atoms() {
     takes(3, "2. <- 0. 1 <- ~0.", [9, 1, 0, 0], "2. 1.");
 }
 
-/// The members of D are told apart by bans: 9 on `<- x.` is taken exactly where D of the atom has x.
+/// The members of D are told apart by constraints: 9 on `<- x.` is taken exactly where D of the atom has x.
 fn derives(atoms: u16, program: &str, atom: u16, derived: &[u16]) {
-    for banned in 0..atoms {
-        let with_ban = format!("{program} <- {banned}.");
+    for x in 0..atoms {
+        let with_constraint = format!("{program} <- {x}.");
         let target = parse(atoms, program).clauses.len() as u16;
-        let answer = checked(atoms, &with_ban, &[9, target, 0, atom]).0;
-        assert_eq!(answer == Ok(1), derived.contains(&banned), "{with_ban}, atom {atom}: {answer:?}");
+        let answer = checked(atoms, &with_constraint, &[9, target, 0, atom]).0;
+        assert_eq!(answer == Ok(1), derived.contains(&x), "{with_constraint}, atom {atom}: {answer:?}");
     }
 }
 
@@ -119,7 +119,7 @@ fn what_follows_from_an_atom() {
 /// nothing.
 #[test]
 fn what_follows_as_left() {
-    // clause 1 becomes 1 <- 0., by the ban of 2
+    // clause 1 becomes 1 <- 0., by the exclusion of 2
     let program = "<- 2. 1|2 <- 0. <- 1. 0|2|3.";
     assert_eq!(checked(4, program, &[9, 2, 0, 0]).0, no(16, 0));
     assert_eq!(checked(4, program, &[9, 0, 0, 2, 9, 2, 0, 0]), (Ok(2), parse(4, "<- 1. 3.")));
@@ -174,32 +174,32 @@ fn marks_of_a_step() {
 fn heads_as_left() {
     let after = |atoms: u16, program: &str, steps: &[[u16; 4]]| checked(atoms, program, &steps.concat()).0;
     let program = "<- 0. 0|1. 2 <- 1. 2 <- ~1. <- 1, ~0. 1|2.";
-    let ban = [9, 0, 0, 0];
+    let exclusion = [9, 0, 0, 0];
     // kind 1: the atom is no longer in the head; kind 3 and 29: the disjunction has one head atom left, and serves
     assert_eq!(after(3, program, &[[3, 2, 1, 1]]), no(16, 0));
-    assert_eq!(after(3, program, &[ban, [3, 2, 1, 1]]), Ok(2));
-    assert_eq!(after(3, program, &[ban, [3, 2, 1, 0]]), no(29, 1));
+    assert_eq!(after(3, program, &[exclusion, [3, 2, 1, 1]]), Ok(2));
+    assert_eq!(after(3, program, &[exclusion, [3, 2, 1, 0]]), no(29, 1));
     // kind 4 and 6: 0 is in no head any more; in negative and positive bodies it is not either
-    assert_eq!(after(3, program, &[ban, [4, 4, 0, 0]]), no(16, 1));
+    assert_eq!(after(3, program, &[exclusion, [4, 4, 0, 0]]), no(16, 1));
     // kind 5: the fact blocks by the head that is left
     assert_eq!(after(3, program, &[[5, 3, 1, 0]]), no(16, 0));
-    assert_eq!(after(3, program, &[ban, [5, 3, 1, 0]]), Ok(2));
+    assert_eq!(after(3, program, &[exclusion, [5, 3, 1, 0]]), Ok(2));
     // kind 7 and 32: 0 is in no kept head
-    assert_eq!(after(3, program, &[ban, [7, 2, 0, 0]]), no(32, 1));
+    assert_eq!(after(3, program, &[exclusion, [7, 2, 0, 0]]), no(32, 1));
     // kind 8: 1. is within 1|2.
     assert_eq!(after(3, program, &[[8, 5, 1, 0]]), no(16, 0));
-    assert_eq!(after(3, program, &[ban, [8, 5, 1, 0]]), Ok(2));
-    // the reach: after the ban clause 1 gives 1 alone, and 2 <- 0. is gone; so 2 is outside it
+    assert_eq!(after(3, program, &[exclusion, [8, 5, 1, 0]]), Ok(2));
+    // the reach: after the exclusion clause 1 gives 1 alone, and 2 <- 0. is gone; so 2 is outside it
     let program = "<- 0. 0|1. 2 <- 0. 2 <- 3. 3 <- 2. <- 3.";
     assert_eq!(after(4, program, &[[7, 4, 0, 2]]), no(16, 0));
-    assert_eq!(after(4, program, &[ban, [7, 4, 0, 2]]), Ok(2));
+    assert_eq!(after(4, program, &[exclusion, [7, 4, 0, 2]]), Ok(2));
     // equal as left, in either order
     for step in [[8, 1, 2, 0], [8, 2, 1, 0]] {
-        assert_eq!(after(2, "<- 0. 0|1. 1.", &[ban, step]), Ok(2));
+        assert_eq!(after(2, "<- 0. 0|1. 1.", &[exclusion, step]), Ok(2));
     }
-    // kind 1: 0 <- 0, .. is deleted by the ban; 1|0 <- 1. still is a tautology by 1, and none by 0
-    assert_eq!(after(2, "<- 0. 0|1 <- 1. 0|1.", &[ban, [1, 1, 0, 1]]), Ok(2));
-    assert_eq!(after(2, "<- 0. 0|1 <- 1. 0|1.", &[ban, [1, 1, 0, 0]]), no(16, 1));
+    // kind 1: 0 <- 0, .. is deleted by the exclusion; 1|0 <- 1. still is a tautology by 1, and none by 0
+    assert_eq!(after(2, "<- 0. 0|1 <- 1. 0|1.", &[exclusion, [1, 1, 0, 1]]), Ok(2));
+    assert_eq!(after(2, "<- 0. 0|1 <- 1. 0|1.", &[exclusion, [1, 1, 0, 0]]), no(16, 1));
 }
 
 /// The reducer makes these steps, of which the count is the number, and these clauses are left. Behind the list every step is
@@ -229,7 +229,7 @@ fn near_steps(clauses: u16, atoms: u16) -> Vec<[u16; 4]> {
 #[test]
 fn the_reducers_choice() {
     reduces(2, "0|1. <- 0.", &[[9, 1, 0, 0]], "1.");
-    // kinds before 9: the ban goes by failure, the fact by success; of two equal bans the later by the earlier
+    // kinds before 9: the constraint goes by failure, the fact by success; of two equal constraints the later by the earlier
     reduces(1, "<- 0.", &[[6, 0, 0, 0]], "");
     reduces(1, "0. <- 0.", &[[3, 1, 0, 0], [5, 0, 1, 0]], "<- .");
     reduces(2, "0|1. <- 0. <- 0, 1.", &[[8, 2, 1, 0], [9, 1, 0, 0]], "1.");
@@ -238,7 +238,7 @@ fn the_reducers_choice() {
     reduces(4, "0|3. 1|3. <- 1. <- 0.", &[[9, 2, 0, 1], [8, 0, 1, 0], [6, 3, 0, 0]], "3.");
     reduces(3, "1 <- 0. 0|2. 1|2. <- 1.", &[[9, 3, 0, 0], [8, 2, 1, 0], [6, 3, 0, 1]], "2.");
     reduces(4, "0|1. 2|3. <- 0, 2. <- 3.", &[[9, 3, 0, 3], [3, 2, 1, 2], [9, 2, 0, 0]], "1. 2.");
-    // a rule that loses its head is the next ban, and comes before the given ones
+    // a rule that loses its head is the next constraint, and comes before the given ones
     let list = [[9, 0, 0, 0], [9, 1, 0, 1], [5, 2, 3, 0]];
     reduces(3, "<- 0. 0 <- 1. 1 <- ~2. 2 <- ~1.", &list, "2.");
     // nothing applies: a negative atom, two heads, two atoms of different disjunctions
@@ -287,8 +287,8 @@ fn in_every_closed_set(program: &Program, atom: u16) -> Set {
 fn may_exclude(program: &Program, target: usize, atom: u16) -> bool {
     let Clause { head, pos, neg } = &program.clauses[target];
     let occurs = program.clauses.iter().any(|c| [&c.head, &c.pos, &c.neg].iter().any(|part| part.contains(&atom)));
-    let bans = head.is_empty() && neg.is_empty() && !pos.is_empty();
-    bans && occurs && pos.is_subset(&in_every_closed_set(program, atom))
+    let positive_constraint = head.is_empty() && neg.is_empty() && !pos.is_empty();
+    positive_constraint && occurs && pos.is_subset(&in_every_closed_set(program, atom))
 }
 
 /// The program without an atom.
@@ -330,7 +330,7 @@ fn steps_of_small_programs() {
 
 #[test]
 fn steps_of_random_programs() {
-    let programs = (0..20_000).map(|seed| bans(&mut Random::new(seed), TINY));
+    let programs = (0..20_000).map(|seed| exclusions(&mut Random::new(seed), TINY));
     let taken: u64 = programs.map(|program| every_step(&program)).sum();
     println!("steps of kind 9 that apply: {taken}");
     assert!(taken > 5_000);
@@ -339,7 +339,7 @@ fn steps_of_random_programs() {
 /// Every program of some sizes, and so many random ones.
 fn small_programs(random: u64) -> impl Iterator<Item = Program> {
     let all = [(1, 3), (2, 2)].into_iter().flat_map(|(atoms, clauses)| every(atoms, clauses));
-    all.chain((0..random).map(|seed| bans(&mut Random::new(seed), TINY)))
+    all.chain((0..random).map(|seed| exclusions(&mut Random::new(seed), TINY)))
 }
 
 /// The checker's answers to every step of kind 9 on small programs are the slip's, in the order of the questions.
@@ -433,7 +433,7 @@ fn lists_of_larger_programs() {
     for seed in 0..8_000 {
         let mut random = Random::new(seed);
         let size = if seed < 100 { MIDDLE } else { any_size(&mut random) };
-        lists.compare(&bans(&mut random, size));
+        lists.compare(&exclusions(&mut random, size));
     }
     lists.report();
 }
@@ -537,23 +537,23 @@ fn writes(name: &str, expected: &[[u16; 4]]) {
     assert_eq!(Reducer::new(&program).run(), expected);
 }
 
-/// Clause k - 1 is k - 1 <- k., and clause 1,001 the ban of 0. Each rule that loses its head bans the next atom; in the end 999 <- ~1000.
+/// Clause k - 1 is k - 1 <- k., and clause 1,001 is <- 0. Each rule that loses its head excludes the next atom; in the end 999 <- ~1000.
 /// and 1000 <- ~999. have lost 999, and the second is a fact that blocks the first.
 #[test]
-fn a_ban_handed_on() {
+fn a_constraint_handed_on() {
     let chain = (1..1000).map(|atom| [9, atom - 1, 0, atom]);
     let list: Vec<[u16; 4]> = [[9, 1001, 0, 0]].into_iter().chain(chain).chain([[5, 999, 1000, 0]]).collect();
-    writes("a ban handed on along a chain", &list);
+    writes("a constraint handed on along a chain", &list);
     // the same behind three clauses more
     let behind: Vec<[u16; 4]> = list
         .iter()
         .map(|&[kind, target, partner, atom]| [kind, target + 3, if kind == 5 { partner + 3 } else { 0 }, atom])
         .collect();
-    writes("a chain behind a ban that never fires", &behind);
+    writes("a chain behind a constraint that never fires", &behind);
 }
 
-/// Clause k is k + 1 <- k., clause 599 is 0 <- 599., and clause 1,000 the ban of 300 and 599. Atom 0 leads to it; clause 599 loses its
-/// head, and as the ban of 599 is within it. The next two atoms are in no head then, and so on from each third atom.
+/// Clause k is k + 1 <- k., clause 599 is 0 <- 599., and clause 1,000 is <- 300, 599. Atom 0 leads to it; clause 599 loses its
+/// head, and as <- 599. is within it. The next two atoms are in no head then, and so on from each third atom.
 #[test]
 fn a_circle_that_cannot_be() {
     let mut list = vec![[9, 1000, 0, 0], [6, 1, 0, 1], [6, 2, 0, 2], [8, 1000, 599, 0]];
@@ -562,7 +562,7 @@ fn a_circle_that_cannot_be() {
     writes("a circle of six hundred atoms that can't be", &list);
 }
 
-/// Rounds of five clauses, the last round first: c <- d., d <- ~b., the ban, c <- b., a|b.
+/// Rounds of five clauses, the last round first: c <- d., d <- ~b., the constraint, c <- b., a|b.
 #[test]
 fn disjunctions_become_facts() {
     let mut list = Vec::new();
@@ -575,10 +575,20 @@ fn disjunctions_become_facts() {
         }
         list.extend([[5, first + 1, first + 4, 0], [6, first, 0, d]]);
     }
-    writes("disjunctions that bans make facts", &list);
+    writes("disjunctions that constraints make facts", &list);
+}
+
+/// Clause k is <- 1022 - 2k., and of the two atoms of a disjunction the second is a fact then, which no clause mentions.
+#[test]
+fn constraints_against_the_order() {
+    let list: Vec<[u16; 4]> = (0..512).map(|target| [9, target, 0, 1022 - 2 * target]).collect();
+    writes("constraints against the order of their atoms", &list);
+    // clause 0, then every second one; those between never fire
+    let behind: Vec<[u16; 4]> = (0..256).map(|target| [9, 2 * target, 0, 510 - 2 * target]).collect();
+    writes("each constraint behind one that never fires", &behind);
 }
 
 #[test]
-fn a_thousand_bans_that_never_fire() {
-    writes("a thousand bans that never fire", &[]);
+fn a_thousand_constraints_that_never_fire() {
+    writes("a thousand constraints that never fire", &[]);
 }

@@ -3,7 +3,7 @@
 #![deny(warnings)]
 use gambrolt_tests::independent::filter::output;
 use gambrolt_tests::independent::text::read_text;
-use gambrolt_tests::make::programs::{any_size, bans};
+use gambrolt_tests::make::programs::{any_size, exclusions};
 use gambrolt_tests::make::texts;
 use gambrolt_tests::random::Random;
 use std::io::Write;
@@ -151,7 +151,7 @@ fn excluded_atoms() {
     for seed in 0..400 {
         let random = &mut Random::new(seed);
         let size = any_size(random);
-        with += u64::from(compared(&texts::rendered(&bans(random, size))).contains("\nstep=9,"));
+        with += u64::from(compared(&texts::rendered(&exclusions(random, size))).contains("\nstep=9,"));
     }
     assert!(with > 50, "{with} lists have a step of kind 9");
 }
@@ -310,7 +310,7 @@ fn steps_of_every_length() {
 /// The longest lists, worked out by hand.
 #[test]
 fn thousands_of_steps() {
-    // 0 <- 1. 1 <- 2. and so on, and the ban of 0, which is handed on; 999 is one of a disjunction, whose other atom is left
+    // 0 <- 1. 1 <- 2. and so on, and the constraint of 0, which is handed on; 999 is one of a disjunction, whose other atom is left
     let rules: String = (1..1000).map(|atom| format!("head={}\npos={atom}\nneg=\n", atom - 1)).collect();
     let text = format!("atoms=1001\nclauses=1001\nhead=\npos=0\nneg=\n{rules}head=999,1000\npos=\nneg=\n");
     let lines = steps((0..1000).map(|atom| [9, atom, 0, atom]));

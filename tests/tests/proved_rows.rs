@@ -322,7 +322,7 @@ fn equal_clauses() {
 }
 
 /// 0|1. <- 0.
-const BAN: [u16; 11] = [2, 2, 2, 0, 0, 0, 1, 0, 1, 0, 0];
+const EXCLUDING: [u16; 11] = [2, 2, 2, 0, 0, 0, 1, 0, 1, 0, 0];
 /// <- 0. 0 <- 1. 1 <- ~2. 2 <- ~1.
 const CHAIN: [u16; 21] = [3, 4, 0, 1, 0, 0, 1, 1, 0, 0, 1, 1, 0, 1, 1, 2, 1, 0, 1, 2, 1];
 /// 0|1. 0 <- 0, ~0. <- 0.
@@ -343,7 +343,7 @@ fn exclusions() {
         assert_eq!(Tally::new().check(words, &vec![7; words.len()], list), (answer, marks.to_vec()));
     };
     // "It deletes kept clauses with a in the positive body and drops a from the heads and negative bodies of the other kept ones": from a head; the target goes, which has it in its body: 0|1. <- 0.
-    checked(&BAN, &[9, 1, 0, 0], Ok(1), &[1, 1, 1, 1, 1, 0, 1, 0, 1, 1, 1]);
+    checked(&EXCLUDING, &[9, 1, 0, 0], Ok(1), &[1, 1, 1, 1, 1, 0, 1, 0, 1, 1, 1]);
     // each effect once, in one step: two clauses deleted, a head and a negative literal dropped: <- 0. 0|1. 2 <- 0. 2 <- ~0.
     checked(
         &[3, 4, 0, 1, 0, 0, 2, 0, 0, 0, 1, 1, 1, 0, 2, 0, 1, 0, 1, 2, 0],
@@ -392,13 +392,13 @@ fn exclusions() {
     // with a head: 0|1. 1 <- 0.
     checked(&[2, 2, 2, 0, 0, 0, 1, 1, 1, 0, 1, 0], &[9, 1, 0, 0], no(16, 0), &[1; 12]);
     // 13 before 14, 0|1. <- 0.
-    checked(&BAN, &[9, 2, 1, 2], no(13, 0), &[1; 11]);
+    checked(&EXCLUDING, &[9, 2, 1, 2], no(13, 0), &[1; 11]);
     // "the partner is unused": 14 before 15, 0|1. <- 0.
-    checked(&BAN, &[9, 1, 1, 2], no(14, 0), &[1; 11]);
+    checked(&EXCLUDING, &[9, 1, 1, 2], no(14, 0), &[1; 11]);
     // 15: 0|1. <- 0.
-    checked(&BAN, &[9, 1, 0, 2], no(15, 0), &[1; 11]);
+    checked(&EXCLUDING, &[9, 1, 0, 2], no(15, 0), &[1; 11]);
     // "Question 12 allows 9": 0|1. <- 0.
-    checked(&BAN, &[10, 1, 0, 0], no(12, 0), &[1; 11]);
+    checked(&EXCLUDING, &[10, 1, 0, 0], no(12, 0), &[1; 11]);
     // a disjunctive fact that lost an atom is a partner of kind 3; <- 0. 0|1. 2 <- 1.
     checked(&SHRINKS, &[9, 0, 0, 0, 3, 2, 1, 1], Ok(2), &[1, 1, 0, 1, 1, 1, 1, 1, 1, 0, 1, 1, 1, 1, 1, 0]);
     // 29 reads its head as left, <- 0. 0|1. 2 <- 1.

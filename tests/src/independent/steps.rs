@@ -106,8 +106,8 @@ impl Left {
     /// Slip 8: "The target is a kept constraint with at least one positive and no negative atom .. The step applies when the
     /// target's positive atoms are all in D."
     fn excludes(&self, target: &Clause, atom: u16) -> bool {
-        let bans = target.head.is_empty() && !target.pos.is_empty() && target.neg.is_empty();
-        bans && self.occurs(atom) && target.pos.is_subset(self.derived_from(atom))
+        let positive_constraint = target.head.is_empty() && !target.pos.is_empty() && target.neg.is_empty();
+        positive_constraint && self.occurs(atom) && target.pos.is_subset(self.derived_from(atom))
     }
 
     /// Whether the step's condition holds. The target and the partner are kept, different clauses.

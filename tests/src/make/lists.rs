@@ -77,22 +77,22 @@ pub fn around_loop(random: &mut Random, table: &Table) -> Option<(Vec<u16>, usiz
     Some((list, place))
 }
 
-/// A step of kind 9 on a kept target: any; or the target is a ban; or the atom is one that steps before dropped somewhere, or leads
-/// to all of a ban but one atom; or the partner word is not 0.
+/// A step of kind 9 on a kept target: any; or the target is a constraint without negative atoms; or the atom is one that steps
+/// before dropped somewhere, or leads to all atoms of such a constraint but one; or the partner word is not 0.
 fn excluding(random: &mut Random, table: &Table, left: &Left) -> Option<Step> {
     let given = Left::new(table, &vec![1; table.words.len()]);
     let targets = (0..left.clauses.len() as u16).filter(|&target| left.kept(target).is_some());
     let all: Vec<Step> =
         targets.flat_map(|target| (0..left.atoms).map(move |atom| Step::new(9, target, 0, atom))).collect();
     let target = |step: &Step| left.kept(step.target).unwrap();
-    let bans = |step: &Step| target(step).head.is_empty() && target(step).neg.is_empty();
+    let positive_constraint = |step: &Step| target(step).head.is_empty() && target(step).neg.is_empty();
     let missed = |step: &Step| target(step).pos.difference(left.derived_from(step.atom)).count();
     let groups: [&dyn Fn(&Step) -> bool; 6] = [
         &|_| true,
-        &|step| bans(step),
-        &|step| bans(step) && missed(step) == 1,
-        &|step| bans(step) && missed(step) == 0 && !left.occurs(step.atom),
-        &|step| missed(step) == 0 && !bans(step),
+        &|step| positive_constraint(step),
+        &|step| positive_constraint(step) && missed(step) == 1,
+        &|step| positive_constraint(step) && missed(step) == 0 && !left.occurs(step.atom),
+        &|step| missed(step) == 0 && !positive_constraint(step),
         &|step| given.occurs(step.atom) && !left.occurs(step.atom),
     ];
     let some: Vec<_> = groups.into_iter().filter(|group| all.iter().any(group)).collect();

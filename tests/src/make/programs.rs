@@ -117,9 +117,9 @@ pub fn copies(random: &mut Random, size: Size) -> Program {
     Program { atoms: atoms + 2, clauses }
 }
 
-/// A program in which atoms often can't be: bans of one or two positive atoms, definite clauses that lead to them, and
+/// A program in which atoms often can't be: constraints of one or two positive atoms, definite clauses that lead to them, and
 /// disjunctions and negations that keep both from going otherwise; at times an atom more, which is in no clause.
-pub fn bans(random: &mut Random, size: Size) -> Program {
+pub fn exclusions(random: &mut Random, size: Size) -> Program {
     const COUNTS: [(usize, usize, usize); 17] = [
         (0, 1, 0),
         (0, 1, 0),

@@ -10,7 +10,7 @@ pub struct Shape {
     pub program: fn(usize) -> Program,
 }
 
-pub const SHAPES: [Shape; 20] = [
+pub const SHAPES: [Shape; 22] = [
     Shape { name: "random sparse", full: 2048, program: sparse },
     Shape { name: "random sparse with constraints", full: 2048, program: sparse_with_constraints },
     Shape { name: "chain of facts against clause order", full: 1024, program: chain },
@@ -26,11 +26,13 @@ pub const SHAPES: [Shape; 20] = [
     Shape { name: "subsumption with late partners", full: 511, program: late_partners },
     Shape { name: "kinds that open one another", full: 255, program: cascade },
     Shape { name: "bodies of twelve that all go", full: 500, program: bodies },
-    Shape { name: "a thousand bans that never fire", full: 512, program: idle_bans },
-    Shape { name: "a circle of six hundred atoms that can't be", full: 200, program: banned_circle },
-    Shape { name: "a ban handed on along a chain", full: 1000, program: banned_chain },
-    Shape { name: "disjunctions that bans make facts", full: 255, program: shrinking_heads },
-    Shape { name: "a chain behind a ban that never fires", full: 1000, program: chain_behind_idle_ban },
+    Shape { name: "a thousand constraints that never fire", full: 512, program: idle_constraints },
+    Shape { name: "a circle of six hundred atoms that can't be", full: 200, program: excluded_circle },
+    Shape { name: "a constraint handed on along a chain", full: 1000, program: excluded_chain },
+    Shape { name: "disjunctions that constraints make facts", full: 255, program: shrinking_heads },
+    Shape { name: "a chain behind a constraint that never fires", full: 1000, program: chain_behind_idle_constraint },
+    Shape { name: "constraints against the order of their atoms", full: 512, program: against_atoms },
+    Shape { name: "each constraint behind one that never fires", full: 256, program: each_behind_idle_constraint },
 ];
 
 fn clause(head: &[usize], pos: &[usize], neg: &[usize]) -> Clause {
@@ -181,16 +183,16 @@ fn bodies(size: usize) -> Program {
     program(pairs + 11, clauses)
 }
 
-/// One atom of each two holds, and no atom leads to both atoms of a ban.
-fn idle_bans(size: usize) -> Program {
+/// One atom of each two holds, and no atom leads to both atoms of a constraint.
+fn idle_constraints(size: usize) -> Program {
     let mut clauses: Vec<Clause> = (0..size).map(|i| clause(&[2 * i, 2 * i + 1], &[], &[])).collect();
     clauses.extend((2..2 * size).map(|i| clause(&[], &[i - 2, i], &[])));
     program(2 * size, clauses)
 }
 
-/// A circle in which every third atom has a rule from outside too, and its last atom is banned beside another: each of those that
-/// have one leads to the ban, goes, and takes the two behind it along, which then are in no head.
-fn banned_circle(size: usize) -> Program {
+/// A circle in which every third atom has a rule from outside too, and a constraint has its last atom and another: each of those
+/// that have one leads to the constraint, goes, and takes the two behind it along, which then are in no head.
+fn excluded_circle(size: usize) -> Program {
     let ring = 3 * size;
     let mut clauses: Vec<Clause> = (0..ring).map(|i| clause(&[(i + 1) % ring], &[i], &[])).collect();
     clauses.extend((0..size).map(|i| clause(&[3 * i], &[], &[ring + i])));
@@ -199,8 +201,8 @@ fn banned_circle(size: usize) -> Program {
     program(ring + size + 1, clauses)
 }
 
-/// 0 <- 1. 1 <- 2. and so on, and 0 is banned: each rule that loses its head is the ban of the next atom.
-fn banned_chain(size: usize) -> Program {
+/// 0 <- 1. 1 <- 2. and so on, and <- 0.: each rule that loses its head is the constraint of the next atom.
+fn excluded_chain(size: usize) -> Program {
     let mut clauses: Vec<Clause> = (1..size).map(|i| clause(&[i - 1], &[i], &[])).collect();
     clauses.push(clause(&[size - 1], &[], &[size]));
     clauses.push(clause(&[size], &[], &[size - 1]));
@@ -208,24 +210,40 @@ fn banned_chain(size: usize) -> Program {
     program(size + 1, clauses)
 }
 
-/// Rounds against clause order: a ban makes a disjunction a fact, which opens success, blocked and failure, and shortens the
-/// next round's ban to one atom.
+/// Rounds against clause order: a constraint makes a disjunction a fact, which opens success, blocked and failure, and shortens
+/// the next round's constraint to one atom.
 fn shrinking_heads(size: usize) -> Program {
     let mut clauses = Vec::new();
     for (a, b, c, d) in (0..size).rev().map(|i| (4 * i, 4 * i + 1, 4 * i + 2, 4 * i + 3)) {
-        let ban = if a > 0 { clause(&[], &[a - 2, a], &[]) } else { clause(&[], &[a], &[]) };
-        clauses.extend([clause(&[c], &[d], &[]), clause(&[d], &[], &[b]), ban]);
+        let constraint = if a > 0 { clause(&[], &[a - 2, a], &[]) } else { clause(&[], &[a], &[]) };
+        clauses.extend([clause(&[c], &[d], &[]), clause(&[d], &[], &[b]), constraint]);
         clauses.extend([clause(&[c], &[b], &[]), clause(&[a, b], &[], &[])]);
     }
     program(4 * size, clauses)
 }
 
-/// The chain of `banned_chain`, behind a ban of two atoms that none leads to: each search follows every atom.
-fn chain_behind_idle_ban(size: usize) -> Program {
-    let Program { atoms, clauses } = banned_chain(size);
+/// The chain of `excluded_chain`, behind a constraint of two atoms that none leads to: each search follows every atom.
+fn chain_behind_idle_constraint(size: usize) -> Program {
+    let Program { atoms, clauses } = excluded_chain(size);
     let [a, b, c, d] = [0, 1, 2, 3].map(|i| usize::from(atoms) + i);
     let idle = [clause(&[], &[a, b], &[]), clause(&[a, c], &[], &[]), clause(&[b, d], &[], &[])];
     program(usize::from(atoms) + 4, [idle.to_vec(), clauses].concat())
+}
+
+/// One atom of each two can't be, and the constraints of these stand against the order of their atoms.
+fn against_atoms(size: usize) -> Program {
+    let mut clauses: Vec<Clause> = (0..size).rev().map(|i| clause(&[], &[2 * i], &[])).collect();
+    clauses.extend((0..size).map(|i| clause(&[2 * i, 2 * i + 1], &[], &[])));
+    program(2 * size, clauses)
+}
+
+/// The same, and before each but the first a constraint of two further atoms that none leads to.
+fn each_behind_idle_constraint(size: usize) -> Program {
+    let idle = |i: usize| clause(&[], &[2 * (size + i), 2 * (size + i + 1)], &[]);
+    let constraints = |i: usize| (i + 1 < size).then(|| idle(i)).into_iter().chain([clause(&[], &[2 * i], &[])]);
+    let mut clauses: Vec<Clause> = (0..size).rev().flat_map(constraints).collect();
+    clauses.extend((0..2 * size).map(|i| clause(&[2 * i, 2 * i + 1], &[], &[])));
+    program(4 * size, clauses)
 }
 
 impl Shape {

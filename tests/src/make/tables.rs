@@ -1,5 +1,7 @@
 //! Tables, sound and damaged.
-use super::programs::{bans as banning, choices as choosing, circular as circling, copies as copying, program, Size};
+use super::programs::{
+    choices as choosing, circular as circling, copies as copying, exclusions as excluding, program, Size,
+};
 use crate::independent::program::words;
 use crate::random::Random;
 
@@ -24,8 +26,8 @@ pub fn copies(random: &mut Random, size: Size) -> Vec<u16> {
 }
 
 /// The words of a random program with atoms that can't be.
-pub fn bans(random: &mut Random, size: Size) -> Vec<u16> {
-    words(&banning(random, size))
+pub fn exclusions(random: &mut Random, size: Size) -> Vec<u16> {
+    words(&excluding(random, size))
 }
 
 /// The words of a random program, most often damaged in one to three places.

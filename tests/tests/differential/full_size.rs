@@ -5,12 +5,27 @@ use gambrolt_tests::independent::reduce::smallest;
 use gambrolt_tests::independent::steps::Left;
 use gambrolt_tests::independent::table::Table;
 use gambrolt_tests::library;
-use gambrolt_tests::make::shapes::Shape;
+use gambrolt_tests::make::shapes::{Shape, SHAPES};
 use std::collections::BTreeSet;
+use std::sync::atomic::{AtomicUsize, Ordering};
+use std::thread;
 use std::time::Instant;
 
+/// All shapes, by two threads, the slowest first; how many cases they make.
+pub fn all(samples: usize) -> u64 {
+    let taken = AtomicUsize::new(0);
+    let work = || {
+        let mut tally = Tally::new();
+        while let Some(shape) = SHAPES.iter().rev().nth(taken.fetch_add(1, Ordering::Relaxed)) {
+            reduced(shape, samples, &mut tally);
+        }
+        tally.cases
+    };
+    thread::scope(|scope| [(); 2].map(|()| scope.spawn(&work)).map(|worker| worker.join().unwrap()).iter().sum())
+}
+
 /// Small tables of a shape step by step; larger ones at some of their steps.
-pub fn reduced(shape: &Shape, samples: usize, tally: &mut Tally) {
+fn reduced(shape: &Shape, samples: usize, tally: &mut Tally) {
     let (start, full) = (Instant::now(), shape.full);
     for size in [1, 2, 12, 40, 100] {
         let table = shape.table(size);

@@ -10,8 +10,8 @@ mod tables;
 mod texts;
 
 use gambrolt_tests::compare::{Circles, EqualClauses, Exclusions, Listed, Loops, Tally, Texts, LAST};
-use gambrolt_tests::make::shapes::SHAPES;
 use gambrolt_tests::random::Random;
+use std::thread;
 use std::time::Instant;
 
 /// A group of cases: its name, how many draws it makes, and what one draw compares.
@@ -52,12 +52,11 @@ fn main() {
         std::env::var("GAMBROLT_ROUNDS").map_or(1, |rounds| rounds.parse().expect("GAMBROLT_ROUNDS is a number"));
     let mut tally = Tally::new();
     for round in 0..rounds {
+        let shapes = thread::spawn(move || full_size::all(if round == 0 { 12 } else { 100 }));
         for (number, group) in GROUPS.iter().enumerate() {
             run(group, 1_000_000 * round + 1_000 * (1 + number as u64), &mut tally);
         }
-        for shape in &SHAPES {
-            full_size::reduced(shape, if round == 0 { 12 } else { 100 }, &mut tally);
-        }
+        tally.cases += shapes.join().expect("the full-size tables are reduced as the documents say");
     }
     report(&tally);
 }
@@ -118,10 +117,10 @@ fn exclusions(steps: &Exclusions) {
     println!("lists of the reducer, and steps of kind 9 in lists: {steps:?}");
     let Exclusions { lists_without, lists_with, others_behind, made, target_stays, others_deleted, .. } = steps;
     let Exclusions { heads_dropped, negatives_dropped, constraints_made, facts_made, target_had_head, .. } = steps;
-    let Exclusions { with_partner, no_ban, in_no_clause, lost, not_derived, .. } = steps;
+    let Exclusions { with_partner, no_positive_constraint, in_no_clause, lost, not_derived, .. } = steps;
     let lists = lists_without.min(lists_with).min(others_behind);
     let drops = heads_dropped.min(negatives_dropped).min(constraints_made).min(facts_made);
-    let refused = no_ban.min(not_derived).min(with_partner);
+    let refused = no_positive_constraint.min(not_derived).min(with_partner);
     assert!(
         lists.min(made).min(target_stays).min(others_deleted).min(drops).min(refused) > &1_000,
         "too few of a kind"

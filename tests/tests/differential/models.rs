@@ -32,7 +32,7 @@ pub fn largest_sets(random: &mut Random, tally: &mut Tally) {
 
 /// Every set of a small program, before and after, by the definition alone and by the library's test.
 pub fn same_models(random: &mut Random, tally: &mut Tally) {
-    let table = if random.once_in(2) { tables::bans(random, TINY) } else { tables::table(random, TINY) };
+    let table = if random.once_in(2) { tables::exclusions(random, TINY) } else { tables::table(random, TINY) };
     let marks = marks::any(random, table.len() + 1);
     let (_, left, _) = tally.reduce(&table, &marks, &[0; 500]);
     same_stable_sets(tally, &table, &left);

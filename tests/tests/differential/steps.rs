@@ -64,11 +64,11 @@ pub fn equal_clauses(random: &mut Random, tally: &mut Tally) {
     }
 }
 
-/// A step of kind 9 behind steps and before others, most often in a program with bans: made, or refused by 14 where it has a
-/// partner, and else by 16.
+/// A step of kind 9 behind steps and before others, most often in a program with atoms that can't be: made, or refused by 14
+/// where it has a partner, and else by 16.
 pub fn exclusions(random: &mut Random, tally: &mut Tally) {
     let size = any_size(random);
-    let table = if random.once_in(5) { tables::table(random, size) } else { tables::bans(random, size) };
+    let table = if random.once_in(5) { tables::table(random, size) } else { tables::exclusions(random, size) };
     let read = Table::read(&table).unwrap();
     let Some((list, place)) = lists::around_exclusion(random, &read) else { return };
     let marks = random.bytes(table.len());
@@ -87,7 +87,7 @@ pub fn exclusions(random: &mut Random, tally: &mut Tally) {
 /// A program with atoms that can't be: the reducer's list, and behind it every step near the program's words, which is refused.
 pub fn excluded_atoms(random: &mut Random, tally: &mut Tally) {
     let size = any_size(random);
-    let table = tables::bans(random, size);
+    let table = tables::exclusions(random, size);
     let marks = random.bytes(table.len());
     let (steps, left, list) = tally.reduce(&table, &marks, &vec![0; 4 * table.len()]);
     let list = &list[..4 * steps.expect("room for every list") as usize];
@@ -119,7 +119,7 @@ pub fn reduced_middle(random: &mut Random, tally: &mut Tally) {
 fn reduce_and_check(random: &mut Random, tally: &mut Tally, size: Size) {
     let table = match random.upto(5) {
         0 | 1 => tables::copies(random, size),
-        2 => tables::bans(random, size),
+        2 => tables::exclusions(random, size),
         _ => tables::mostly_sound(random, size),
     };
     let marks = marks::any(random, table.len());
