@@ -69,10 +69,9 @@ fn exclude(
     reach: &[u8],
     flags: &mut [u16],
     idle: &mut [u8],
-    m: usize,
     atom: u16,
 )
-    requires { ⌜ (State (now words) (now marks) (now index) (now heads) (now reach) (now flags)) × ((m ≡ getD (now words) 1 0) × ((2048 ≤ length (now idle)) × (Idle (getD (now words) 0 0) (view (now words) (now marks)) (now idle)))) ⌝ }
+    requires { ⌜ (State (now words) (now marks) (now index) (now heads) (now reach) (now flags)) × (Idle (getD (now words) 0 0) (view (now words) (now marks)) (now idle)) ⌝ }
     ensures { λ _. ⌜ (now (marks .exit) ≡ marksWithout (now (words .entry)) (now (marks .entry)) atom) × ((State (now (words .entry)) (now (marks .exit)) (now (index .entry)) (now (heads .exit)) (now (reach .entry)) (now (flags .exit))) × (Idle (getD (now (words .entry)) 0 0) (view (now (words .entry)) (now (marks .exit))) (now (idle .exit)))) ⌝ }
 {
     search_idle::exclude_atom(words, marks, index, atom, idle);
@@ -89,14 +88,13 @@ fn make_step(
     reach: &[u8],
     flags: &mut [u16],
     idle: &mut [u8],
-    m: usize,
     step: Step,
 )
-    requires { ⌜ (State (now words) (now marks) (now index) (now heads) (now reach) (now flags)) × ((m ≡ getD (now words) 1 0) × (((2048 ≤ length (now idle)) × (Idle (getD (now words) 0 0) (view (now words) (now marks)) (now idle))) × (StepFound (now words) (now marks) step))) ⌝ }
+    requires { ⌜ (State (now words) (now marks) (now index) (now heads) (now reach) (now flags)) × ((Idle (getD (now words) 0 0) (view (now words) (now marks)) (now idle)) × (StepFound (now words) (now marks) step)) ⌝ }
     ensures { λ _. ⌜ (now (marks .exit) ≡ marksAfter (now (words .entry)) (now (marks .entry)) (stepOf step)) × ((State (now (words .entry)) (now (marks .exit)) (now (index .entry)) (now (heads .exit)) (now (reach .entry)) (now (flags .exit))) × (Idle (getD (now (words .entry)) 0 0) (view (now (words .entry)) (now (marks .exit))) (now (idle .exit)))) ⌝ }
 {
     if step.kind == 9 {
-        exclude(words, marks, index, heads, reach, flags, idle, m, step.atom);
+        exclude(words, marks, index, heads, reach, flags, idle, step.atom);
         return;
     }
     search_openings::apply_step(words, marks, index, heads, reach, flags, step);
@@ -127,7 +125,7 @@ fn run_steps(
             return s;
         };
         write_step(list, s, step);
-        make_step(words, marks, index, heads, reach, flags, idle, m, step);
+        make_step(words, marks, index, heads, reach, flags, idle, step);
         s += 1;
     }
 }

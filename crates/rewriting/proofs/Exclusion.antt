@@ -10,7 +10,7 @@ use Rattle.semantics.specs.Lists.{_∈_, any, null, single, keep, mem, without}
 use Rattle.semantics.specs.Programs.{Clause, Atoms, Stable, program}
 use Rattle.semantics.proofs.Tests.{and-iff, all-iff, mem-iff, null-iff, keep-iff, not-so, without-sub, without-keeps, without-out}
 use Rattle.semantics.proofs.Models.{All, Any, Models, Same, same-stable, same-sym, stable-iff, stable-within, Closed}
-use Rattle.rewriting.specs.Marked.{Entry, Marked, entry, left}
+use Rattle.rewriting.specs.Marked.{Entry, Marked, entry, left, deleted}
 use Rattle.rewriting.specs.Consequences.{definite, consequences}
 use Rattle.rewriting.specs.Exclusion.{plainConstraint, occurs, excludes, lackingOf, removal}
 use Rattle.rewriting.proofs.Left.{left-each, HoldsAt, models-left}
@@ -53,6 +53,10 @@ stays a e k f = go (mem a (e .clause .pos)) refl
     go : (t : Bool) → mem a (e .clause .pos) ≡ t → So (lackingOf a e .kept)
     go true r = absurd (f (mem-iff _ _ .0 r))
     go false r = rw (k, r) refl
+
+-- and one with it there is deleted
+pub goes : (a : ℕ) (e : Entry) → So (e .kept) → a ∈ e .clause .pos → lackingOf a e ≡ deleted (e .clause)
+goes a e k m = rw (k, mem-iff _ _ .1 m)
 
 -- ---- below a set without the atom
 

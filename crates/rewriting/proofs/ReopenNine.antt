@@ -96,8 +96,8 @@ module _ (n : ℕ) (P : Marked) (a : ℕ) where
           bare-iff Q (u .atom) .0 q i (subst (λ d. So (d .kept)) (sym (entry-removal a P i)) s) (subst (λ d. u .atom ∈ d .clause .head) (sym (entry-removal a P i)) l)
 
   -- A step of kinds 1 to 8 that is eligible after the atom went was eligible before, or is opened.
-  pub opened-without : (u : Step) → So (onTarget (u .kind)) → So (eligible n (removal a P) u) → So (eligible n P u) ⊎ OpensWithout P a u
-  opened-without = opened-by n P Q (OpensWithout P a) (record {
+  pub opened-removal : (u : Step) → So (onTarget (u .kind)) → So (eligible n (removal a P) u) → So (eligible n P u) ⊎ OpensWithout P a u
+  opened-removal = opened-by n P Q (OpensWithout P a) (record {
     below = λ i. subst (λ d. NoMore d (entry P i)) (sym (entry-removal a P i)) (no-more-lacking a (entry P i));
     passed = still-passed;
     partner = λ u x k _. open-partner u x k;

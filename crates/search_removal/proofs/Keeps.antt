@@ -7,15 +7,14 @@ use Prim.Native.Nat.{ℕ, _+_, _≤_, _<_}
 use native.Mathlib.Omega.{arith}
 use lib.ListN.{length, getD}
 use Rattle.semantics.specs.Lists.{_∈_}
-use Rattle.semantics.proofs.Tests.{mem-iff}
-use Rattle.rewriting.specs.Marked.{Entry, Marked, entry, deleted}
+use Rattle.rewriting.specs.Marked.{Marked, entry}
 use Rattle.rewriting.specs.Steps.{Step}
 use Rattle.rewriting.specs.Kinds.{Kind, number}
 use Rattle.rewriting.specs.Reducer.{eligible}
 use Rattle.rewriting.specs.Exclusion.{lackingOf, removal}
 use Rattle.rewriting.proofs.Left.{kept-lt}
-use Rattle.rewriting.proofs.Exclusion.{entry-removal, lacks}
-use Rattle.rewriting.proofs.ReopenNine.{OpensWithout, openPartner, openHead, openReach, opened-without}
+use Rattle.rewriting.proofs.Exclusion.{entry-removal, lacks, goes}
+use Rattle.rewriting.proofs.ReopenNine.{OpensWithout, openPartner, openHead, openReach, opened-removal}
 use Rattle.rewriting.proofs.Quiet.{key}
 use Rattle.table.specs.View.{view}
 use Rattle.table.specs.Clearing.{marksWithout}
@@ -32,10 +31,6 @@ use Rattle.search_keys.specs.State.{State, Flagged}
 use Rattle.search_openings.specs.Opened.{Opened, AtomFresh}
 use Rattle.search_openings.proofs.Carries.{partner-key, atom-key, state-left}
 use Rattle.search_removal.specs.Removed.{RemovalOpen}
-
--- a kept clause with the atom in its positive body is deleted
-goes : (a : ℕ) (e : Entry) → So (e .kept) → a ∈ e .clause .pos → lackingOf a e ≡ deleted (e .clause)
-goes a e k m = rw (k, mem-iff _ _ .1 m)
 
 module _ (ws ms index hs rs flags : List ℕ) (z : State ws ms index hs rs flags) (a : ℕ) (ms' flags' : List ℕ) (q : ms' ≡ marksWithout ws ms a) (o : Opened flags flags') (r : RemovalOpen ws (view ws ms') flags' a) where
   abbrev P : Marked
@@ -65,7 +60,7 @@ module _ (ws ms index hs rs flags : List ℕ) (z : State ws ms index hs rs flags
   pub state-removed : (hs' : List ℕ) → Heads ws ms' hs' → getD ws 0 0 ≤ length hs' → State ws ms' index hs' rs flags'
   state-removed hs' c n = state-left ws ms index hs rs flags z ms' flags' (OpensWithout P a)
       (record {
-        opened = λ u j v. opened-without (getD ws 0 0) P a u j (subst (λ R. So (eligible (getD ws 0 0) R u)) is-removal v);
+        opened = λ u j v. opened-removal (getD ws 0 0) P a u j (subst (λ R. So (eligible (getD ws 0 0) R u)) is-removal v);
         kept = λ t k. lacks a (entry P t) (subst (λ d. So (d .kept)) (is-lacking t) k) .kept;
         raised = o;
         fresh = fresh;

@@ -6,7 +6,7 @@ use Rattle.reducer.proofs.exclude.Statement.{statement}
 use Rattle.reducer.proofs.exclude.Tie as tie
 
 exclude-atom-requires : tie.Need-exclude-atom-requires
-exclude-atom-requires c κs = (c .before .before .before .before .before .before .before .before .before .pre .0 .ready, c .before .before .before .before .before .before .before .before .before .pre .1 .1 .1)
+exclude-atom-requires c κs = (c .before .before .before .before .before .before .before .before .before .pre .0 .ready, c .before .before .before .before .before .before .before .before .before .pre .1)
 
 count-heads-requires : tie.Need-count-heads-requires
 count-heads-requires c κs = (record { placed = c .before .before .before .before .before .before .before .before .before .before .before .before .before .before .before .before .pre .0 .ready .placed; marks = omega (arith, c .before .before .before .before .before .before .exclude-atom .kept .1 .0, c .before .before .before .before .before .before .before .before .before .before .before .before .before .before .before .before .pre .0 .ready .marks) }, c .before .before .before .before .before .before .before .before .before .before .before .before .before .before .before .before .pre .0 .atoms)
