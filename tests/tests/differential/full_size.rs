@@ -53,6 +53,8 @@ fn sampled(name: &str, table: &[u16], samples: usize, tally: &mut Tally) -> usiz
     let list = &list[..4 * steps];
     assert_eq!(library::check(table, &fresh, list), (answer, left.clone()), "{name}: the reducer's list is not taken");
     let read = Table::read(table).unwrap();
+    // what every atom derives takes the literal implementation seconds
+    let samples = if list.chunks(4).any(|step| step[0] == 9) { samples / 3 } else { samples };
     let places: BTreeSet<usize> = (0..=samples).map(|sample| steps * sample / samples).collect();
     for step in places {
         let (_, marks) = library::check(table, &fresh, &list[..4 * step]);

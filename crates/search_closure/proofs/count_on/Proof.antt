@@ -4,7 +4,7 @@ use mathlib.Core.Path.{sym, subst}
 use Prim.Native.Nat.{_≤_}
 use lib.ListN.{getD}
 use Rattle.table.proofs.Encoding.{passed-limits}
-use Rattle.search_closure.proofs.Back.{counted-past, counted-here}
+use Rattle.search_closure.proofs.Counting.{counted-past, counted-here}
 use borrow.Author.Needs.{needs}
 use Rattle.search_closure.proofs.count_on.Statement.{statement}
 use Rattle.search_closure.proofs.count_on.Tie as tie

@@ -7,7 +7,7 @@ use lib.ListN.{getD}
 use borrow.Author.Tests.{eqb-true, eq-eqb}
 use Rattle.table.proofs.Encoding.{passed-limits}
 use Rattle.step_reach.specs.Bytes.{inBytes}
-use Rattle.search_closure.proofs.Back.{no-on}
+use Rattle.search_closure.proofs.Counting.{no-on}
 use borrow.Author.Needs.{needs}
 use Rattle.search_closure.proofs.first_full.Statement.{statement}
 use Rattle.search_closure.proofs.first_full.Tie as tie

@@ -1,7 +1,7 @@
 -- `search_closure::lesser` meets its contract.
 use native.Mathlib.Omega.{arith}
 use borrow.Author.Tests.{eqb-true}
-use Rattle.search_closure.proofs.Back.{lesser-first, lesser-here}
+use Rattle.search_closure.proofs.Counting.{lesser-first, lesser-here}
 use borrow.Author.Needs.{needs}
 use Rattle.search_closure.proofs.lesser.Statement.{statement}
 use Rattle.search_closure.proofs.lesser.Tie as tie

@@ -7,7 +7,7 @@ use Rattle.table.proofs.Encoding.{passed-limits}
 use Rattle.step_parts.specs.Parts.{Stands, ownerAt}
 use Rattle.step_parts.specs.declared.Part.the-variants.{Pos}
 use Rattle.step_parts.proofs.Walk.{latest-less}
-use Rattle.search_closure.proofs.Back.{CountingOn, counting-start, counting-few, counting-on, counting-end}
+use Rattle.search_closure.proofs.Counting.{CountingOn, counting-start, counting-few, counting-on, counting-end}
 use Rattle.search_closure.proofs.put_back.Statement.{statement}
 use Rattle.search_closure.proofs.put_back.Tie as tie
 

@@ -3,7 +3,7 @@ use native.Mathlib.Omega.{arith}
 use Prim.Native.Nat.{ℕ}
 use lib.ListN.{length-replicate}
 use Rattle.table.proofs.Encoding.{passed-limits}
-use Rattle.search_closure.proofs.Back.{first-settled}
+use Rattle.search_closure.proofs.Counting.{first-settled}
 use borrow.Author.Needs.{needs}
 use Rattle.search_exclusion.proofs.best_pair.Statement.{statement}
 use Rattle.search_exclusion.proofs.best_pair.Tie as tie
