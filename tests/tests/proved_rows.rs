@@ -363,7 +363,10 @@ fn exclusions() {
     checked(&[2, 2, 1, 0, 0, 0, 0, 1, 0, 0], &[9, 1, 0, 1], no(16, 0), &[1; 10]);
     // 1 is in a negative body alone; the heads of facts are in every D: 0. <- 0. 2 <- ~1.
     checked(&NEGATIVE, &[9, 1, 0, 1], Ok(1), &[1, 1, 1, 1, 1, 1, 1, 1, 1, 1, 1, 1, 1, 1, 0]);
-    // and occurs no more after the step: 0. <- 0. 2 <- ~1.
+    // and in a head alone: 0. <- 0. 1|2.
+    let head_alone = [3, 3, 1, 0, 0, 0, 0, 1, 0, 0, 2, 0, 0, 1, 2];
+    checked(&head_alone, &[9, 1, 0, 1], Ok(1), &[1, 1, 1, 1, 1, 1, 1, 1, 1, 1, 1, 1, 1, 0, 1]);
+    // an atom that a step dropped occurs no more: 0. <- 0. 2 <- ~1.
     checked(&NEGATIVE, &[9, 1, 0, 1, 9, 1, 0, 1], no(16, 1), &[1, 1, 1, 1, 1, 1, 1, 1, 1, 1, 1, 1, 1, 1, 0]);
     // "no negative atoms": D does not go through clause 0, and {1, 2} is stable: 0 <- 1, ~2. <- 0. 1|3. 2 <- 1.
     checked(&THROUGH_NEGATIVE, &[9, 1, 0, 1], no(16, 0), &[1; 22]);

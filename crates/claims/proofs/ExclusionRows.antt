@@ -70,7 +70,9 @@ rows =
     ∷ checked (2 ∷ 2 ∷ 1 ∷ 0 ∷ 0 ∷ 0 ∷ 0 ∷ 1 ∷ 0 ∷ 0 ∷ []) (9 ∷ 1 ∷ 0 ∷ 1 ∷ []) (refusal 16 0) (replicate 10 1)
     -- 1 is in a negative body alone; the heads of facts are in every D: 0. <- 0. 2 <- ~1.
     ∷ checked negative (9 ∷ 1 ∷ 0 ∷ 1 ∷ []) (value 1) (1 ∷ 1 ∷ 1 ∷ 1 ∷ 1 ∷ 1 ∷ 1 ∷ 1 ∷ 1 ∷ 1 ∷ 1 ∷ 1 ∷ 1 ∷ 1 ∷ 0 ∷ [])
-    -- and occurs no more after the step: 0. <- 0. 2 <- ~1.
+    -- and in a head alone: 0. <- 0. 1|2.
+    ∷ checked (3 ∷ 3 ∷ 1 ∷ 0 ∷ 0 ∷ 0 ∷ 0 ∷ 1 ∷ 0 ∷ 0 ∷ 2 ∷ 0 ∷ 0 ∷ 1 ∷ 2 ∷ []) (9 ∷ 1 ∷ 0 ∷ 1 ∷ []) (value 1) (1 ∷ 1 ∷ 1 ∷ 1 ∷ 1 ∷ 1 ∷ 1 ∷ 1 ∷ 1 ∷ 1 ∷ 1 ∷ 1 ∷ 1 ∷ 0 ∷ 1 ∷ [])
+    -- an atom that a step dropped occurs no more: 0. <- 0. 2 <- ~1.
     ∷ checked negative (9 ∷ 1 ∷ 0 ∷ 1 ∷ 9 ∷ 1 ∷ 0 ∷ 1 ∷ []) (refusal 16 1) (1 ∷ 1 ∷ 1 ∷ 1 ∷ 1 ∷ 1 ∷ 1 ∷ 1 ∷ 1 ∷ 1 ∷ 1 ∷ 1 ∷ 1 ∷ 1 ∷ 0 ∷ [])
     -- "no negative atoms": D does not go through clause 0, and {1, 2} is stable: 0 <- 1, ~2. <- 0. 1|3. 2 <- 1.
     ∷ checked throughNegative (9 ∷ 1 ∷ 0 ∷ 1 ∷ []) (refusal 16 0) (replicate 22 1)
@@ -126,4 +128,4 @@ rows =
 
 pub exclusions : AllSay rows
 unfolding left fire reachFrom reach consequences excludes removal inNoHead condition atomHeaded conditionHolds applies effect same passedOver eligible least firstAtom firstPartner firstTarget firstStep reduce ask questions.atomsFrom questions.partsFrom questions.clauseFrom questions.clausesFrom questions.allUsed questions.tableOf startFrom clausesOf programOf part entryAt entriesFrom view find clears clearPart clearClause clearFrom marksWithout marksAfter marksAfterAll wordsOf reductions.literals reductions.room reductions.stepsOf reductions.reduction questions.onWalk questions.onTable checking.stepsFrom checking.checkList steps.shapeQuestions steps.conditionQuestions steps.stepQuestions
-exclusions = ((refl, refl), ((refl, refl), ((refl, refl), ((refl, refl), ((refl, refl), ((refl, refl), ((refl, refl), ((refl, refl), ((refl, refl), ((refl, refl), ((refl, refl), ((refl, refl), ((refl, refl), ((refl, refl), ((refl, refl), ((refl, refl), ((refl, refl), ((refl, refl), ((refl, refl), ((refl, refl), ((refl, refl), ((refl, refl), ((refl, refl), ((refl, refl), ((refl, refl), ((refl, refl), ((refl, refl), ((refl, refl), ((refl, refl), ((refl, refl), ((refl, refl), ((refl, refl), ((refl, refl), ((refl, refl), tt))))))))))))))))))))))))))))))))))
+exclusions = ((refl, refl), ((refl, refl), ((refl, refl), ((refl, refl), ((refl, refl), ((refl, refl), ((refl, refl), ((refl, refl), ((refl, refl), ((refl, refl), ((refl, refl), ((refl, refl), ((refl, refl), ((refl, refl), ((refl, refl), ((refl, refl), ((refl, refl), ((refl, refl), ((refl, refl), ((refl, refl), ((refl, refl), ((refl, refl), ((refl, refl), ((refl, refl), ((refl, refl), ((refl, refl), ((refl, refl), ((refl, refl), ((refl, refl), ((refl, refl), ((refl, refl), ((refl, refl), ((refl, refl), ((refl, refl), ((refl, refl), tt)))))))))))))))))))))))))))))))))))
