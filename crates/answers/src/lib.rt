@@ -1,5 +1,6 @@
 // What a call answers: the questions of documents 01 and 02, the refusal that holds the first one answered no, the answer of every call, and the one
 // number that it is for a caller in C.
+#![tactic(auto)]
 ghost use Rattle.std.specs.Prelude.{◌≡◌, ◌≤◌, length, take};
 ghost use Rattle.std.proofs.lemmas.List.Edits.{sets};
 ghost use Rattle.answers.specs.Refusals.{call_number, word_number, step_number, entry_number, byte_number, refusal_number, refusal_place};
@@ -7,7 +8,7 @@ ghost use Rattle.answers.specs.Answers.{refusal_code, answer_code, Small};
 ghost use Rattle.semantics.specs.Lists.{bit};
 
 // Questions about a call as a whole: their place is 0.
-#[derive(Drop)]
+#[derive(Clone, Copy)]
 pub enum CallQuestion {
     // 1: 2 to 8,192 words.
     TableLength,
@@ -34,7 +35,7 @@ pub enum CallQuestion {
 }
 
 // Questions about a word of the table: their place is its index, or that of its clause's first word.
-#[derive(Drop)]
+#[derive(Clone, Copy)]
 pub enum WordQuestion {
     // 2: at most 1,024 atoms.
     AtomLimit,
@@ -55,7 +56,7 @@ pub enum WordQuestion {
 }
 
 // Questions about a step of a list: their place is its number.
-#[derive(Drop)]
+#[derive(Clone, Copy)]
 pub enum StepQuestion {
     // 12: a kind from 1 to 8.
     KindKnown,
@@ -74,7 +75,7 @@ pub enum StepQuestion {
 }
 
 // Questions about an entry of a set: their place is its index.
-#[derive(Drop)]
+#[derive(Clone, Copy)]
 pub enum EntryQuestion {
     // 20: an atom below n.
     EntryBelow,
@@ -83,7 +84,7 @@ pub enum EntryQuestion {
 }
 
 // Questions about a text: their place is the first byte of a line, or the first byte left over.
-#[derive(Drop)]
+#[derive(Clone, Copy)]
 pub enum ByteQuestion {
     // 2: at most 1,024 atoms.
     TextAtomLimit,
@@ -102,7 +103,7 @@ pub enum ByteQuestion {
 }
 
 // The first question that is answered no, with the place of what it asks about.
-#[derive(Drop)]
+#[derive(Clone, Copy)]
 pub enum Refusal {
     Call(CallQuestion),
     Word(WordQuestion, usize),
@@ -112,7 +113,7 @@ pub enum Refusal {
 }
 
 // The answer of a call: the value of one that is taken, or the first question that is answered no.
-#[derive(Drop)]
+#[derive(Clone, Copy)]
 pub enum Answer {
     Accepted(usize),
     Refused(Refusal),

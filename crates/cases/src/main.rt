@@ -15,6 +15,7 @@
 //
 // In a text a slash stands for a line feed, a tilde for a carriage return, a caret for NUL and an underscore for a tab.
 // At most 128 numbers before and after the colon, and 128 bytes of a text, are read.
+#![tactic(auto)]
 use cases_lines::{SIZE, WORDS};
 use libc::STDIN_FILENO;
 use table::Checked;

@@ -1,4 +1,5 @@
 // What the lines of cases are made of: printing, numbers and bytes read from a line, and sums over digits. It uses no call of the library.
+#![tactic(auto)]
 ghost use Rattle.std.specs.Prelude.{◌≤◌, ◌<◌};
 
 use libc::STDOUT_FILENO;

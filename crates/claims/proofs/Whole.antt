@@ -2,7 +2,7 @@
 -- the marks that the reducer left; with any four words behind it, it is refused at step s.
 use mathlib.Core.Path.{◌≡◌, refl, sym, ap, subst, ◌∙◌}
 use mathlib.Core.Bool.{true, So}
-use mathlib.Core.List.{List, [], ◌∷◌, ◌++◌, append_nil}
+use mathlib.Core.List.{List, [], ◌∷◌, ◌++◌, append-nil}
 use Prim.Native.Nat.{ℕ, suc, ◌+◌, ◌-◌, ◌*◌, ◌/◌, ◌%◌, ◌≤◌, ◌<◌}
 use native.Mathlib.Omega.{arith}
 use native.Mathlib.Nat.{add-zero, mul-div_right, mul-mod_right}
@@ -149,7 +149,7 @@ module _ (ws ms : List ℕ) (p : Passed ws) (l : length ws ≤ length ms) where
   -- "Checked with marks that pass 9, it is accepted", with the number of its steps, and leaves the reducer's marks
   pub list_accepted : check_list ws ms (words_of (steps_of ws)) ≡ record { answer = Accepted (length (steps_of ws)); marks = marks_left }
   unfolding steps_from
-  list_accepted = ap (check_list ws ms) (sym (append_nil (words_of (steps_of ws)))) ∙ behind [] 0 refl (omega arith)
+  list_accepted = ap (check_list ws ms) (sym (append-nil (words_of (steps_of ws)))) ∙ behind [] 0 refl (omega arith)
 
   -- "and with any four words behind it, it is refused at step s", and leaves the same marks
   pub further_refused : (a b c d : ℕ)

@@ -1,4 +1,5 @@
 // The cycle answer: does some atom lead back to itself?
+#![tactic(auto)]
 ghost use Rattle.std.specs.Prelude.{◌≡◌};
 ghost use Rattle.cycle.specs.Answer.{cycle_of};
 
@@ -8,7 +9,7 @@ use table::Checked;
 mod search;
 
 // Where a move of the search leads: to an atom, or to a cycle.
-#[derive(Drop)]
+#[derive(Clone, Copy)]
 pub enum Move {
     At(u16),
     Cycle,

@@ -22,6 +22,7 @@ use Rattle.dependency.proofs.Chains.{leads_join, leads_head, strip_cyclic}
 -- the turned clauses are those of a clause and one of its head atoms
 turned_of : (a : ℕ) (cs : List Clause) (d : Clause) → d ∈ turned a cs → (c : Clause) × (c ∈ cs) × (h : ℕ) × (h ∈ c.head) × (turn a c h ≡ d)
 unfolding turned
+turned_of a [] d m = elim m [ ]
 turned_of a (c ∷ cs) d m = ⊎_elim
     (λ l. let (h, k, e) = Memᴰ.of_map (turn a c) c.head l in (c, Memᴰ.head refl, h, k, e))
     (λ r. let (b, q, h, k, e) = turned_of a cs d r in (b, Memᴰ.tail q, h, k, e))
@@ -29,6 +30,7 @@ turned_of a (c ∷ cs) d m = ⊎_elim
 
 turned_in : (a : ℕ) (cs : List Clause) (c : Clause) (h : ℕ) → c ∈ cs → h ∈ c.head → turn a c h ∈ turned a cs
 unfolding turned
+turned_in a [] c h x'' k = elim x'' [ ]
 turned_in a (d ∷ cs) c h (Memᴰ.head e) k = Memᴰ.append_left (turned a cs) (subst (λ (x : Clause). turn a c h ∈ map (turn a x) x.head) e (Memᴰ.map (turn a c) k))
 turned_in a (d ∷ cs) c h (Memᴰ.tail q) k = Memᴰ.append_right (map (turn a d) d.head) (turned_in a cs c h q k)
 
@@ -81,6 +83,7 @@ module _ (cs : List Clause) (tight : ¬ Cyclic cs) where
   bodies (c ∷ ds) = c.pos ++ bodies ds
 
   in_bodies : (ds : List Clause) {c : Clause} {b : ℕ} → c ∈ ds → b ∈ c.pos → b ∈ bodies ds
+  in_bodies [] {c = c} {b = b} x'' m = elim x'' [ ]
   in_bodies (d ∷ ds) {b = b} (Memᴰ.head e) m = Memᴰ.append_left (bodies ds) (subst (λ (c : Clause). b ∈ c.pos) e m)
   in_bodies (d ∷ ds) (Memᴰ.tail q) m = Memᴰ.append_right d.pos (in_bodies ds q m)
 

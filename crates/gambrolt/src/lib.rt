@@ -1,4 +1,5 @@
 // The library as C calls it: numbers and slices in, one number out.
+#![tactic(auto)]
 ghost use Rattle.std.specs.Prelude.{◌≡◌, length};
 ghost use Rattle.answers.specs.declared.Answer.TheVariants.{Accepted, Refused};
 ghost use Rattle.answers.specs.Answers.{answer_code};

@@ -1,7 +1,7 @@
 -- The words found, one word after the other.
 use Prim.Native.Nat.{ℕ, ◌+◌, ◌^◌, ◌≤◌, ◌<◌}
 use mathlib.Core.Path.{◌≡◌, refl, sym, ap, ◌∙◌}
-use mathlib.Core.List.{List, [], ◌∷◌, ◌++◌, append_nil}
+use mathlib.Core.List.{List, [], ◌∷◌, ◌++◌, append-nil}
 use mathlib.Core.Bool.{Bool, true, false}
 use native.Mathlib.Omega.{arith}
 use native.Mathlib.Numerals.{add-one}
@@ -30,7 +30,7 @@ module _ (ws : List ℕ) where
   module _ (found : List ℕ) (k x : ℕ) (g : Finding ws found k x) where
     finding_aside : stable_word (program_of ws) x ≡ false → Finding ws found k (x + 1)
     finding_aside e =
-        let q : keep (stable_word (program_of ws)) (below (x + 1)) ≡ keep (stable_word (program_of ws)) (below x) = keep_more (stable_word (program_of ws)) x ∙ rw e (append_nil _) in
+        let q : keep (stable_word (program_of ws)) (below (x + 1)) ≡ keep (stable_word (program_of ws)) (below x) = keep_more (stable_word (program_of ws)) x ∙ rw e (append-nil _) in
         record { count = g.count ∙ ap length (sym q); words = g.words ∙ sym q }
 
     module _ (few : get_or ws 0 0 ≤ 16) (h : x < 2 ^ get_or ws 0 0) (room : 12870 ≤ length found) (e : stable_word (program_of ws) x ≡ true) where

@@ -1,4 +1,5 @@
 // The call that lists all stable models of a program of at most 16 atoms.
+#![tactic(auto)]
 ghost use Rattle.std.specs.Prelude.{◌≡◌, length};
 ghost use Rattle.models_list.specs.Answer.{models_answer, models_out};
 
@@ -15,7 +16,7 @@ const MAX_ATOMS: u16 = 16;
 const MAX_MODELS: usize = 12870;
 
 // What the reduct by a set comes to: the set fails a clause, or as many clauses are to be asked of its subsets.
-#[derive(Drop)]
+#[derive(Clone, Copy)]
 pub enum Reduct {
     Fails,
     Asks(usize),

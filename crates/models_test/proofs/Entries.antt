@@ -2,7 +2,7 @@
 use Prim.Native.Nat.{ℕ, ◌-◌, ◌≤◌}
 use mathlib.Core.Path.{◌≡◌, sym, ap, subst, ◌∙◌}
 use mathlib.Core.Logic.{◌↔◌}
-use mathlib.Core.List.{List, [], append_nil}
+use mathlib.Core.List.{List, [], append-nil}
 use native.Mathlib.Nat.{zero-add, le_of_eq}
 use lib.ListN.{length}
 use lib.Seq.{take-length}
@@ -32,6 +32,6 @@ set_iff set n = (
   λ h. (
     length set,
     sym (set_on set n (To (length set)) h.0
-        (sym (atoms_of (Entry EntryBelow) (Entry EntryAscending) set set [] n 0 (sym (append_nil set)) h.1 ∙ ap To (zero-add (length set))))),
+        (sym (atoms_of (Entry EntryBelow) (Entry EntryAscending) set set [] n 0 (sym (append-nil set)) h.1 ∙ ap To (zero-add (length set))))),
   ),
 )

@@ -1,4 +1,5 @@
 // The test of a set: is it a stable model of the table's program?
+#![tactic(auto)]
 ghost use Rattle.std.specs.Prelude.{◌≡◌};
 ghost use Rattle.models_test.specs.Answer.{set_of, test_of};
 

@@ -1,7 +1,7 @@
 -- The program's input buffer: a text that is longer than it prints what its first bytes print.
 use mathlib.Core.Path.{◌≡◌, sym, ap, ◌∙◌}
 use mathlib.Core.Logic.{by_cases}
-use mathlib.Core.List.{List, append_nil, ◌++◌}
+use mathlib.Core.List.{List, append-nil, ◌++◌}
 use Prim.Native.Nat.{ℕ, ◌≤◌, ◌<◌}
 use native.Mathlib.Omega.{arith}
 use native.Mathlib.Decide.{dec_lt}
@@ -27,7 +27,7 @@ unfolding output_of
 long_output ts h = ap (λ (a : Answer). printed a (table_after ts (replicate 8192 0))) (too_long ts h)
 
 take_all : (n : ℕ) (ts : List ℕ) → length ts ≤ n → take n ts ≡ ts
-take_all n ts h = sym (append_nil (take n ts)) ∙ ap (λ r. take n ts ++ r) (sym (drop_of_length-le ts h)) ∙ take-append-drop n ts
+take_all n ts h = sym (append-nil (take n ts)) ∙ ap (λ r. take n ts ++ r) (sym (drop_of_length-le ts h)) ∙ take-append-drop n ts
 
 -- Bytes past the buffer change nothing.
 pub input_enough : (ts : List ℕ) → output_of (take input_bytes ts) ≡ output_of ts

@@ -1,7 +1,7 @@
 -- The output's lines, one after the other.
 use Prim.Native.Nat.{ℕ, suc, ◌+◌, ◌-◌, ◌≤◌, ◌<◌}
 use mathlib.Core.Path.{◌≡◌, subst}
-use mathlib.Core.List.{List, [], ◌∷◌, ◌++◌, append_nil}
+use mathlib.Core.List.{List, [], ◌∷◌, ◌++◌, append-nil}
 use native.Mathlib.Omega.{arith}
 use lib.ListN.{length, take, drop}
 use Rattle.table.specs.Places.{cut}
@@ -13,7 +13,7 @@ use Rattle.reduce_filter.specs.Output.{step_key, step_lines}
 
 pub pair_puts : (w w1 w2 : List ℕ) (p q r a b : ℕ) → Puts w w1 p q (digits a) → Puts w1 w2 q r (44 ∷ digits b) → Puts w w2 p r (commas (a ∷ b ∷ []))
 unfolding commas others
-pair_puts w w1 w2 p q r a b x y = rw (append_nil (digits b)) (puts_then w w1 w2 p q r (digits a) (44 ∷ digits b) x y)
+pair_puts w w1 w2 p q r a b x y = rw (append-nil (digits b)) (puts_then w w1 w2 p q r (digits a) (44 ∷ digits b) x y)
 
 -- the words of a step as a part of the list
 pub four_words : (from : ℕ) → from + 4 - from ≡ 4

@@ -1,4 +1,5 @@
 // The program's whole work as one function on slices: text in, the reduced program and its steps out.
+#![tactic(auto)]
 ghost use Rattle.std.specs.Prelude.{◌≡◌, [], ◌∷◌, ◌+◌, ◌*◌, ◌≤◌, length};
 ghost use Rattle.table.specs.Places.{cut};
 ghost use Rattle.text_form.specs.Digits.{commas};
@@ -33,7 +34,7 @@ pub fn output_buffer() -> [u8; OUTPUT_BYTES]
 }
 
 // The number of bytes printed, and whether the input was refused.
-#[derive(Drop)]
+#[derive(Clone, Copy)]
 pub struct Printed {
     pub bytes: usize,
     pub refused: bool,

@@ -1,4 +1,5 @@
 // The program on standard input and output, with what it has to report as its exit status.
+#![tactic(auto)]
 ghost use Rattle.std.specs.Prelude.{◌≤◌};
 
 use libc::{STDIN_FILENO, STDOUT_FILENO};

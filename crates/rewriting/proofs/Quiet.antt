@@ -25,6 +25,7 @@ least_none (suc k) f h = rw (least_none k f (λ i l. h i (omega arith))) (h k (o
 
 pub least_some : {B : Type 0} (k : ℕ) (f : ℕ → Option B) (b : B) (i : ℕ) → i < k → f i ≡ some b → ((j : ℕ) → j < i → f j ≡ none) → least k f ≡ some b
 unfolding least
+least_some {B = B} zero f b i l e h = elim l [ ]
 least_some (suc k) f b i l e h = by_cases (dec_lt i k) (λ x. rw (least_some k f b i x e h))
     (λ x. let d : i ≡ k = omega arith in rw (least_none k f (λ j y. h j (omega arith))) (subst (λ j. f j ≡ some b) d e))
 

@@ -1,6 +1,7 @@
 // The smallest step of kind 9, by target, then atom, with a memory of the constraints that exclude no atom.
 // The atoms are tried in order. The closure of the facts is made once a search, grown by each atom and taken back. An atom among the consequences of an
 // earlier one can't be better and is passed over; and once the best target is the first clause that can be one, no other atom is tried.
+#![tactic(auto)]
 ghost use Rattle.std.specs.Prelude.{◌≡◌, not, ◌&&◌, cond, ◌≤◌, ◌<◌, eqb, ltb, length, get_or, take};
 ghost use Rattle.rewriting.specs.Marked.{entry};
 ghost use Rattle.table.specs.View.{view};
@@ -15,14 +16,14 @@ ghost use Rattle.search_exclusion.specs.Tries.{plain_kept, Targets, Unset, Trial
 use step_reach::Count;
 
 // What the search finds: a target and an atom.
-#[derive(Drop)]
+#[derive(Clone, Copy)]
 pub enum Pick {
     One(u16, u16),
     Nothing,
 }
 
 // A target and an atom; the target is the number of clauses where there is none.
-#[derive(Drop)]
+#[derive(Clone, Copy)]
 pub struct Best {
     pub target: usize,
     pub atom: u16,

@@ -1,4 +1,5 @@
 // The search of one kind: its flagged targets in order, each with its atoms or partners, left at the first applicable step.
+#![tactic(auto)]
 ghost use Rattle.std.specs.Prelude.{◌≡◌, ◌&&◌, ◌≤◌, ◌<◌, eqb, length, get_or};
 ghost use Rattle.rewriting.specs.Marked.{entry, left};
 ghost use Rattle.rewriting.specs.Kinds.{kind_of};
@@ -15,7 +16,7 @@ use step_conditions::Step;
 use step_parts::{Bounds, Part};
 
 // What a search finds.
-#[derive(Drop)]
+#[derive(Clone, Copy)]
 pub enum Found {
     One(Step),
     Nothing,

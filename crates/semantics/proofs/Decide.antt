@@ -19,6 +19,7 @@ map_mem f (Memᴰ.head e) = Memᴰ.head (ap f e)
 map_mem f (Memᴰ.tail m) = Memᴰ.tail (map_mem f m)
 
 pub map_of : {A B : Type 0} (f : A → B) (l : List A) {y : B} → y ∈ map f l → (x : A) × (x ∈ l) × (y ≡ f x)
+map_of {A = A} {B = B} f [] {y = y} x' = elim x' [ ]
 map_of f (x ∷ l) (Memᴰ.head e) = (x, Memᴰ.head refl, e)
 map_of f (x ∷ l) (Memᴰ.tail m) = let w = map_of f l m in (w.0, Memᴰ.tail w.1, w.2)
 

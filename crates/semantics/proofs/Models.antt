@@ -5,7 +5,7 @@ use mathlib.Core.Logic.Iff
 use mathlib.Core.Logic.{◌↔◌}
 use mathlib.Core.Bool.{Bool, true, false, not, cond, ◌&&◌, So}
 use mathlib.Core.List.Memᴰ
-use mathlib.Core.List.{List, ◌∷◌, ◌++◌}
+use mathlib.Core.List.{List, ◌∷◌, ◌++◌, []}
 use mathlib.Core.Logic.{⊎_elim}
 use Prim.Native.Nat.{ℕ, ◌<◌}
 use Rattle.semantics.specs.Lists.{◌∈◌, any}
@@ -47,6 +47,7 @@ reduct_iff M cs d = (to cs, λ h. from cs h.0 h.1 h.2 h.3)
     Left cs = (c : Clause) × (c ∈ cs) × (¬ Any M c.neg) × (d ≡ strip c)
 
     to : (cs : List Clause) → d ∈ reduct M cs → Left cs
+    to [] m = elim m [ ]
     to (c ∷ cs) m = go (any M c.neg) refl m (to cs)
       where
         go : (t : Bool) → any M c.neg ≡ t → d ∈ cond t (reduct M cs) (strip c ∷ reduct M cs) → (d ∈ reduct M cs → Left cs) → Left (c ∷ cs)
@@ -55,6 +56,7 @@ reduct_iff M cs d = (to cs, λ h. from cs h.0 h.1 h.2 h.3)
         go false e (Memᴰ.tail m) f = let w = f m in (w.0, Memᴰ.tail w.1, w.2, w.3)
 
     from : (cs : List Clause) (c : Clause) → c ∈ cs → ¬ Any M c.neg → d ≡ strip c → d ∈ reduct M cs
+    from [] c x3 n q = elim x3 [ ]
     from (b ∷ cs) c (Memᴰ.head e) n q = rw (so_false (any M b.neg) (λ s. n (rw e ((any_iff _ _).0 s)))) (Memᴰ.head (rw e at q))
     from (b ∷ cs) c (Memᴰ.tail m) n q = go (any M b.neg) (from cs c m n q)
       where

@@ -86,6 +86,7 @@ module _ {A : Type 0} (p : A → Bool) where
   all_iff l = (elims l, intro l)
     where
       elims : (l : List A) → So (all p l) → (x : A) → x ∈ l → So (p x)
+      elims [] h x x4 = elim x4 [ ]
       elims (y ∷ l) h x (Memᴰ.head e) = subst (λ z. So (p z)) (sym e) ((and_iff _ _).0 h).0
       elims (y ∷ l) h x (Memᴰ.tail m) = elims l ((and_iff (p y) (all p l)).0 h).1 x m
 
@@ -105,6 +106,7 @@ module _ {A : Type 0} (p : A → Bool) where
       elims (y ∷ l) h = step y l (p y) refl h (elims l)
 
       intro : (l : List A) (x : A) → x ∈ l → So (p x) → So (any p l)
+      intro [] x x4 h = elim x4 [ ]
       intro (y ∷ l) x (Memᴰ.head e) h = subst (λ b. So (b || any p l)) (sym h ∙ ap p e) refl
       intro (y ∷ l) x (Memᴰ.tail m) h = or_right (p y) (any p l) (intro l x m h)
 
@@ -113,6 +115,7 @@ module _ {A : Type 0} (p : A → Bool) where
   keep_iff l x = (elims l, λ h. intro l h.0 h.1)
     where
       elims : (l : List A) → x ∈ keep p l → (x ∈ l) × So (p x)
+      elims [] m = elim m [ ]
       elims (y ∷ l) m = go (p y) refl m (elims l)
         where
           go : (t : Bool) → p y ≡ t → x ∈ cond t (y ∷ keep p l) (keep p l) → (x ∈ keep p l → (x ∈ l) × So (p x)) → (x ∈ y ∷ l) × So (p x)
@@ -121,6 +124,7 @@ module _ {A : Type 0} (p : A → Bool) where
           go false e m f = (Memᴰ.tail (f m).0, (f m).1)
 
       intro : (l : List A) → x ∈ l → So (p x) → x ∈ keep p l
+      intro [] x3 h = elim x3 [ ]
       intro (y ∷ l) (Memᴰ.head e) h = let k : p y ≡ true = ap p (sym e) ∙ h in rw k (Memᴰ.head e)
       intro (y ∷ l) (Memᴰ.tail m) h = go (p y) (intro l m h)
         where
@@ -157,6 +161,7 @@ same_iff (x ∷ k) (y ∷ l) = (
 -- ---- a number taken out of a list
 
 pub without_sub : (a b : ℕ) (l : List ℕ) → b ∈ without a l → b ∈ l
+without_sub a b [] m = elim m [ ]
 without_sub a b (x ∷ l) m = step (eqb a x) (λ k. without_sub _ _ _ k) m
   where
     step : (t : Bool) → (b ∈ without a l → b ∈ l) → b ∈ cond t (without a l) (x ∷ without a l) → b ∈ x ∷ l
@@ -165,6 +170,7 @@ without_sub a b (x ∷ l) m = step (eqb a x) (λ k. without_sub _ _ _ k) m
     step false f (Memᴰ.tail m) = Memᴰ.tail (f m)
 
 pub without_keeps : (a b : ℕ) (l : List ℕ) → b ∈ l → b ≢ a → b ∈ without a l
+without_keeps a b [] m d = elim m [ ]
 without_keeps a b (x ∷ l) m d = step (eqb a x) refl (λ k. without_keeps _ _ _ k d) (Memᴰ.cases_cons m)
   where
     step : (t : Bool) → eqb a x ≡ t → (b ∈ l → b ∈ without a l) → (b ≡ x) ⊎ (b ∈ l) → b ∈ cond t (without a l) (x ∷ without a l)
@@ -174,6 +180,7 @@ without_keeps a b (x ∷ l) m d = step (eqb a x) refl (λ k. without_keeps _ _ _
     step false q f (inr m) = Memᴰ.tail (f m)
 
 pub without_out : (a : ℕ) (l : List ℕ) → ¬ (a ∈ without a l)
+without_out a [] m = elim m [ ]
 without_out a (x ∷ l) m = step (eqb a x) refl (without_out a l) m
   where
     step : (t : Bool) → eqb a x ≡ t → ¬ (a ∈ without a l) → ¬ (a ∈ cond t (without a l) (x ∷ without a l))
@@ -188,6 +195,7 @@ without_none a (x ∷ l) h = rw (ne_eqb _ _ (λ e. h (Memᴰ.head e)), without_n
 -- a number stands once in an ascending list
 pub length_without : (a : ℕ) (l : List ℕ) → So (ascending l) → a ∈ l → suc (length (without a l)) ≡ length l
 unfolding ascending
+length_without a [] s x'' = elim x'' [ ]
 length_without a (x ∷ l) s (Memᴰ.head e) =
     let w = (and_iff _ _).0 s in
     rw (eq-eqb _ _ e, without_none a l (λ m. let k = ltb-true x a ((all_iff (λ y. ltb x y) l).0 w.0 a m) in omega arith))
@@ -214,6 +222,7 @@ module _ {A : Type 0} where
   count_bound f (x ∷ l) = omega (arith, bit_bound (f x), count_bound f l)
 
   pub count_none : (f : A → Bool) (l : List A) → count f l ≤ 0 → (x : A) → x ∈ l → ¬ So (f x)
+  count_none f [] h x x5 q = elim x5 [ ]
   count_none f (y ∷ l) h x (Memᴰ.head e) q =
       let b = bit_true _ (subst (λ z. So (f z)) e q) in omega arith
   count_none f (y ∷ l) h x (Memᴰ.tail m) q =
@@ -225,6 +234,7 @@ module _ {A : Type 0} where
     count_le (x ∷ l) = omega (arith, bit_le _ _ (h x), count_le l)
 
     pub count_lt : (l : List A) (x : A) → x ∈ l → So (g x) → ¬ So (f x) → count f l < count g l
+    count_lt [] x x5 q n = elim x5 [ ]
     count_lt (y ∷ l) x (Memᴰ.head e) q n =
         omega (arith, bit_true _ (subst (λ z. So (g z)) e q), bit_false _ (λ k. n (subst (λ z. So (f z)) (sym e) k)), count_le l)
     count_lt (y ∷ l) x (Memᴰ.tail m) q n = omega (arith, bit_le _ _ (h y), count_lt l x m q n)

@@ -4,7 +4,7 @@ use mathlib.Core.Logic.{◌↔◌}
 use mathlib.Core.Bool.{Bool, not, ◌&&◌, So}
 use mathlib.Core.List.Memᴰ
 use mathlib.Core.List.{List, [], ◌∷◌, map}
-use Prim.Native.Nat.{ℕ, ◌+◌, ◌≤◌, ◌<◌}
+use Prim.Native.Nat.{ℕ, suc, ◌+◌, ◌≤◌, ◌<◌}
 use native.Mathlib.Omega.{arith}
 use lib.Dec.{eqb}
 use lib.ListN.{length}
@@ -23,11 +23,13 @@ use Rattle.shell_choices.proofs.Below.{split, split_high, split_within}
 
 pub numbered_low : (x : ℕ) (ks : List Choice) (i : Numbered) → i ∈ numbered x ks → x ≤ i.fresh
 unfolding numbered
+numbered_low x [] i x'' = elim x'' [ ]
 numbered_low x (k ∷ ks) i (Memᴰ.head e) = omega (arith, ap (λ (j : Numbered). j.fresh) e)
 numbered_low x (k ∷ ks) i (Memᴰ.tail m) = omega (arith, numbered_low _ ks i m)
 
 pub numbered_high : (x : ℕ) (ks : List Choice) (i : Numbered) → i ∈ numbered x ks → i.fresh < x + length ks
 unfolding numbered
+numbered_high x [] i x'' = elim x'' [ ]
 numbered_high x (k ∷ ks) i (Memᴰ.head e) = omega (arith, ap (λ (j : Numbered). j.fresh) e)
 numbered_high x (k ∷ ks) i (Memᴰ.tail m) = omega (arith, numbered_high _ ks i m)
 
@@ -35,11 +37,12 @@ numbered_high x (k ∷ ks) i (Memᴰ.tail m) = omega (arith, numbered_high _ ks 
 pub numbered_choices : (x : ℕ) (ks : List Choice) → map (λ (i : Numbered). i.choice) (numbered x ks) ≡ ks
 unfolding numbered
 numbered_choices x [] = refl
-numbered_choices x (k ∷ ks) = rw (numbered_choices _ ks)
+numbered_choices x (k ∷ ks) = ap (λ l. k ∷ l) (numbered_choices (suc x) ks)
 
 -- no two have the same
 pub numbered_one : (x : ℕ) (ks : List Choice) (i j : Numbered) → i ∈ numbered x ks → j ∈ numbered x ks → i.fresh ≡ j.fresh → i ≡ j
 unfolding numbered
+numbered_one x [] i j x4 _ q = elim x4 [ ]
 numbered_one x (k ∷ ks) i j (Memᴰ.head e) (Memᴰ.head f) q = e ∙ sym f
 numbered_one x (k ∷ ks) i j (Memᴰ.head e) (Memᴰ.tail f) q = absurd (omega (arith, ap (λ (j : Numbered). j.fresh) e, numbered_low _ ks j f))
 numbered_one x (k ∷ ks) i j (Memᴰ.tail e) (Memᴰ.head f) q = absurd (omega (arith, ap (λ (j : Numbered). j.fresh) f, numbered_low _ ks i e))

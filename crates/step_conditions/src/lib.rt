@@ -1,4 +1,5 @@
 // For each kind whether it applies, on the words and the marks of a table that passed, and the mark that a step clears.
+#![tactic(auto)]
 ghost use Rattle.std.specs.Prelude.{◌≡◌, ◌&&◌, not, ℕ, ◌+◌, ◌-◌, ◌≤◌, ◌<◌, eqb, length, get_or, set, replicate};
 ghost use Rattle.std.proofs.Math.Bool.{So};
 ghost use Rattle.semantics.specs.Lists.{mem, single};
@@ -17,7 +18,7 @@ ghost use Rattle.step_conditions.specs.Known.{Heads, Tallied, Positive, Known, p
 use step_parts::{Part, Single};
 
 // A step of a list: four words.
-#[derive(Drop)]
+#[derive(Clone, Copy)]
 pub struct Step {
     pub kind: u16,
     pub target: u16,

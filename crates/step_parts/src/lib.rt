@@ -1,4 +1,5 @@
 // The clauses of a table that passed: where they start, and tests on their parts, read through the marks.
+#![tactic(auto)]
 ghost use Rattle.std.specs.Prelude.{◌≡◌, ℕ, ◌+◌, ◌-◌, ◌≤◌, ◌<◌, length, get_or};
 ghost use Rattle.semantics.specs.Lists.{mem, within, null};
 ghost use Rattle.rewriting.specs.Marked.{entry};
@@ -10,7 +11,7 @@ ghost use Rattle.step_parts.specs.Parts.{part_of, span_of, Spanned, Stands, last
 ghost use Rattle.step_parts.specs.declared.Part.{Part};
 
 // A part of a clause.
-#[derive(Drop)]
+#[derive(Clone, Copy)]
 pub enum Part {
     Head,
     Pos,
@@ -18,14 +19,14 @@ pub enum Part {
 }
 
 // The words of a part: the place of the first, and the place past the last.
-#[derive(Drop)]
+#[derive(Clone, Copy)]
 pub struct Bounds {
     pub from: usize,
     pub end: usize,
 }
 
 // The only kept atom of a part, where there is exactly one.
-#[derive(Drop)]
+#[derive(Clone, Copy)]
 pub enum Single {
     One(u16),
     Other,

@@ -1,4 +1,5 @@
 // One step of a list: questions 12 to 16 with 29 and 32 before 16, then the step made; what is known of the program is kept from step to step.
+#![tactic(auto)]
 ghost use Rattle.std.specs.Prelude.{◌≡◌, ◌≢◌, List, true, not, ◌&&◌, ℕ, ◌≤◌, ◌<◌, eqb, length, get_or};
 ghost use Rattle.std.proofs.Math.Bool.{So};
 ghost use Rattle.rewriting.specs.Steps.{partner_kept, atom_known, atom_matches, condition_holds, applies};
@@ -17,21 +18,21 @@ use step_conditions::Step;
 use step_parts::{Part, Single};
 
 // What the questions of a step come to.
-#[derive(Drop)]
+#[derive(Clone, Copy)]
 pub enum Verdict {
     Fine,
     No(StepQuestion),
 }
 
 // Whether the kept heads and the reach are those of the marks as they stand.
-#[derive(Drop)]
+#[derive(Clone, Copy)]
 pub struct Memo {
     pub heads: bool,
     pub reached: bool,
 }
 
 // A step that was made, with what is known after it; or the question that it was refused by.
-#[derive(Drop)]
+#[derive(Clone, Copy)]
 pub enum Taken {
     Made(Memo),
     Not(StepQuestion),

@@ -1,7 +1,7 @@
 -- Sets of atoms as bytes: what grows within every closed set, and that bytes which are within the reach and closed are the reach.
 use mathlib.Core.Path.{◌≡◌, refl, subst, ◌∙◌}
 use mathlib.Core.Bool.{false, So, false≢true}
-use mathlib.Core.List.{List, ◌++◌, append_nil}
+use mathlib.Core.List.{List, ◌++◌, append-nil}
 use Prim.Native.Nat.{ℕ, ◌+◌, ◌≤◌, ◌<◌}
 use lib.Dec.{eqb}
 use lib.ListN.{length, set, drop, replicate, get_or-eq_default}
@@ -49,4 +49,4 @@ pub fill_on : (v : ℕ) (s₀ s : List ℕ) (i : ℕ) → i < length s₀ → s 
 fill_on v s₀ s i h e = rw e (fill_more i v s₀ h)
 
 pub clear_end : (s₀ s : List ℕ) (i : ℕ) → i ≡ length s₀ → s ≡ replicate i 0 ++ drop i s₀ → s ≡ replicate (length s₀) 0
-clear_end s₀ s i q e = e ∙ rw (q, drop-length s₀) (append_nil (replicate (length s₀) 0))
+clear_end s₀ s i q e = e ∙ rw (q, drop-length s₀) (append-nil (replicate (length s₀) 0))

@@ -3,7 +3,7 @@ use Prim.Native.Nat.{ℕ, zero, suc, ◌+◌, ◌-◌, ◌≤◌}
 use mathlib.Core.Path.{◌≡◌, refl, sym, ap, subst, ◌∙◌}
 use mathlib.Core.Logic.{◌↔◌}
 use mathlib.Core.List.Memᴰ
-use mathlib.Core.List.{List, [], ◌∷◌, ◌++◌, append_assoc, append_nil}
+use mathlib.Core.List.{List, [], ◌∷◌, ◌++◌, append_assoc, append-nil}
 use native.Mathlib.Omega.{arith}
 use native.Mathlib.Numerals.{add-one, add-two, add-three}
 use native.Mathlib.Nat.{add-zero}
@@ -33,7 +33,7 @@ pub use Rattle.table.proofs.Laws.{on_inv}
 -- The table of a program is that program's.
 pub program_encode : (P : Program) → program_of (encode P) ≡ P
 unfolding program_of encode
-program_encode P = ap (program P.atoms) (clauses_stand (encode P) 2 P.clauses [] (sym (append_nil (clauses_words P.clauses))))
+program_encode P = ap (program P.atoms) (clauses_stand (encode P) 2 P.clauses [] (sym (append-nil (clauses_words P.clauses))))
 
 -- ---- the words of a program within the limits pass
 
@@ -68,7 +68,7 @@ pub encode_passes : (P : Program) → Within P → Passed (encode P)
 unfolding table_of ask on_walk all_used encode
 encode_passes P g =
     let ws = encode P in
-    let (e, a, d, w) = clauses_of_lem ws P.atoms 2 P.clauses [] (sym (append_nil (clauses_words P.clauses))) g.ordered in
+    let (e, a, d, w) = clauses_of_lem ws P.atoms 2 P.clauses [] (sym (append-nil (clauses_words P.clauses))) g.ordered in
     record { valid = rw (le-leb 2 (length ws) (omega arith), le-leb (length ws) 8192 g.few_words, le-leb P.atoms 1024 g.few_atoms, le-leb (length P.clauses) 2048 g.few_clauses, a, le-leb (length ws) e (omega arith)) }
 
 -- ---- a table that passes is the words of a program within the limits
@@ -184,7 +184,7 @@ passed_encode ws p =
     let cs = clauses_of ws (get_or ws 1 0) 2 in
     let ts = (clauses_inv ws (get_or ws 0 0) (get_or ws 1 0) 2 l.end l.long l.clauses).1 in
     rw (length_clauses_of ws (get_or ws 1 0) 2)
-    (ap (λ l. get_or ws 0 0 ∷ get_or ws 1 0 ∷ l) (sym (ts ∙ ap (λ l. clauses_words cs ++ l) (drop_of_length-le ws l.used) ∙ append_nil (clauses_words cs)))
+    (ap (λ l. get_or ws 0 0 ∷ get_or ws 1 0 ∷ l) (sym (ts ∙ ap (λ l. clauses_words cs ++ l) (drop_of_length-le ws l.used) ∙ append-nil (clauses_words cs)))
     ∙ sym (drop-cons ws 0 0 (omega (arith, l.long)) ∙ ap (λ l. get_or ws 0 0 ∷ l) (drop-cons ws 1 0 (omega (arith, l.long)))))
 
 pub passed_within : (ws : List ℕ) → Passed ws → Within (program_of ws)

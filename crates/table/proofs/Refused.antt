@@ -45,7 +45,7 @@ module _ (Q : Refusal → Type 0) (b : ℕ) where
   unfolding atoms_from
   atoms_near below above f g ws n low at zero h = omega arith
   atoms_near below above f g ws n low at (suc k) h =
-      near_ask _ _ _ (f at (omega arith)) (λ _. near_ask _ _ _ (g at (omega arith)) (λ _. atoms_near below above f g ws n _ (at + 1) k (omega arith)))
+      near_ask _ _ _ (f at (omega arith)) (λ _. near_ask _ _ _ (g at (omega arith)) (λ _. atoms_near below above f g ws n (get_or ws at 0 + 1) (at + 1) k (omega arith)))
 
 -- ---- a table
 

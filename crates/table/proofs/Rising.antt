@@ -39,6 +39,7 @@ rising_from n low (x ∷ xs) o h =
     )
 
 rising_low : (n low : ℕ) (xs : List ℕ) → Rising n low xs → (a : ℕ) → a ∈ xs → low ≤ a
+rising_low n low [] r a x'' = elim x'' [ ]
 rising_low n low (x ∷ xs) r a (Memᴰ.head e) = rw e r.1
 rising_low n low (x ∷ xs) r a (Memᴰ.tail m) = omega (arith, r.1, rising_low n (x + 1) xs r.2 a m)
 

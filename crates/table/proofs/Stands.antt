@@ -55,4 +55,4 @@ unfolding clauses_words clauses_of
 clauses_stand ws at [] r e = refl
 clauses_stand ws at (c ∷ cs) r e =
     let s = stands ws at c (clauses_words cs ++ r) (e ∙ append_assoc (clause_words c) (clauses_words cs) r) in
-    rw (clause_stands ws at c _ s, s.h, s.p, s.q, clauses_stand ws _ cs r s.next)
+    rw (clause_stands ws at c _ s, s.h, s.p, s.q, clauses_stand ws (at + 3 + length c.head + length c.pos + length c.neg) cs r s.next)

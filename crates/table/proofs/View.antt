@@ -93,7 +93,7 @@ part_drop w k j o (suc len) a b l r =
     taken false = sym (without_none (get_or w o 0) rest fresh)
 
     here : j ≡ o → part w (set k j 0) o (suc len) ≡ without (get_or w j 0) (part w k o (suc len))
-    here e = rw (e, get_or-set_same k o 0 0 (omega arith), part_other w k o 0 (suc o) len (inl (omega arith))) (taken (eqb (get_or k o 0) 1))
+    here e = rw (e, get_or-set_same k o 0 0 (omega arith)) (part_other w k j 0 (suc o) len (inl (omega arith)) ∙ taken (eqb (get_or k o 0) 1))
 
     passed : o < j → (t : Bool) → cond t (get_or w o 0 ∷ without (get_or w j 0) rest) (without (get_or w j 0) rest) ≡ without (get_or w j 0) (cond t (get_or w o 0 ∷ rest) rest)
     passed h true = rw (ne_eqb (get_or w j 0) (get_or w o 0) (λ e. let q = r o j (omega arith) h b in omega arith))

@@ -1,18 +1,19 @@
 // The table of a ground program: its limits, and questions 1 to 8 as definitions.
+#![tactic(auto)]
 ghost use Rattle.std.specs.Prelude.{◌≡◌, ◌≤◌, ◌<◌, length};
 ghost use Rattle.table.specs.Places.{next_at};
 
 use answers::Refusal;
 
 // What a walk over words comes to: the place past them, or a refusal.
-#[derive(Drop)]
+#[derive(Clone, Copy)]
 pub enum Walk {
     To(usize),
     Stop(Refusal),
 }
 
 // A table that passed questions 1 to 8: its numbers.
-#[derive(Drop)]
+#[derive(Clone, Copy)]
 pub struct Table {
     pub atoms: u16,
     pub clauses: u16,
@@ -20,7 +21,7 @@ pub struct Table {
 }
 
 // The answer of the table check.
-#[derive(Drop)]
+#[derive(Clone, Copy)]
 pub enum Checked {
     Valid(Table),
     Refused(Refusal),

@@ -1,4 +1,5 @@
 // The clauses of a table: their parts, and the next one.
+#![tactic(auto)]
 ghost use Rattle.std.specs.Prelude.{◌≡◌, ◌+◌, ◌≤◌, length};
 ghost use Rattle.table.specs.Places.{next_at};
 ghost use Rattle.table.specs.Programs.{clause_of};

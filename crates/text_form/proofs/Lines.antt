@@ -3,7 +3,7 @@ use Prim.Native.Nat.{ℕ, zero, suc, ◌+◌, ◌-◌, ◌≤◌, ◌<◌}
 use mathlib.Core.Path.{◌≡◌, refl, sym, ap, subst, ◌∙◌}
 use mathlib.Core.Logic.{◌↔◌}
 use mathlib.Core.List.Memᴰ
-use mathlib.Core.List.{List, [], ◌∷◌, ◌++◌, append_assoc, append_nil}
+use mathlib.Core.List.{List, [], ◌∷◌, ◌++◌, append_assoc, append-nil}
 use mathlib.Core.Bool.{Bool, true, false, ◌&&◌, cond, So}
 use native.Mathlib.Omega.{arith}
 use lib.ListN.{length, length-append, length-drop, get_or, take, drop}
@@ -263,7 +263,7 @@ one (x ∷ y ∷ xs) h = absurd (omega arith)
 
 pub commas_one : (x : ℕ) → commas (x ∷ []) ≡ digits x
 unfolding commas others
-commas_one x = append_nil (digits x)
+commas_one x = append-nil (digits x)
 
 module _ (ts key : List ℕ) (limit : ℕ) (q : ByteQuestion) where
   pub count_of : (r : List ℕ) (x at : ℕ) → drop at ts ≡ line_text key (digits x) ++ r → x ≤ limit → limit ≤ 9999 → (e : ℕ) × (count_at ts key limit q at ≡ done x e) × (drop e ts ≡ r)

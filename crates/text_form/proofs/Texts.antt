@@ -2,9 +2,9 @@
 use Prim.Native.Nat.{ℕ, zero, suc, ◌+◌, ◌-◌, ◌*◌, ◌≤◌}
 use mathlib.Core.Path.{◌≡◌, refl, sym, ap, ap₂, subst, subst₂, ◌∙◌}
 use mathlib.Core.List.Memᴰ
-use mathlib.Core.List.{List, [], ◌∷◌, ◌++◌, map, append_assoc, append_nil}
+use mathlib.Core.List.{List, [], ◌∷◌, ◌++◌, map, append_assoc, append-nil}
 use native.Mathlib.Omega.{arith}
-use lib.ListN.{length, length-append, length-drop, length_map, drop, drop_of_length-le}
+use lib.ListN.{length, length-append, length-drop, length-map, drop, drop_of_length-le}
 use borrow.Author.Tests.{le-leb, leb-true}
 use Rattle.answers.specs.declared.ByteQuestion.TheVariants.{TextAtomLimit, TextClauseLimit}
 use Rattle.text_form.specs.Digits.{digits, others, commas}
@@ -219,12 +219,12 @@ pub read_form : (ts : List ℕ) (P : Program) (room : ℕ) → InForm ts P → 8
 unfolding read_text program_at rest_at ask then render encode
 read_form ts P room f big =
     let g = f.within in
-    let m = length_map P.clauses sorted_clause in
+    let m = length-map P.clauses sorted_clause in
     let A = line_text atoms_key (digits P.atoms) in
     let B = line_text clauses_key (digits (length P.clauses)) in
     let (e1, a1, d1) = count_of ts atoms_key 1024 TextAtomLimit (B ++ clauses_text P.clauses) P.atoms 0 (sym f.text) g.few_atoms (omega arith) in
     let (e2, a2, d2) = count_of ts clauses_key 2048 TextClauseLimit (clauses_text P.clauses) (length P.clauses) e1 d1 (omega (arith, g.few_clauses)) (omega arith) in
-    let (e3, a3, d3) = clauses_of_lem ts [] P.atoms 2 e2 P.clauses (d2 ∙ sym (append_nil (clauses_text P.clauses))) g.few_atoms g.ordered (omega (arith, g.few_words)) in
+    let (e3, a3, d3) = clauses_of_lem ts [] P.atoms 2 e2 P.clauses (d2 ∙ sym (append-nil (clauses_text P.clauses))) g.few_atoms g.ordered (omega (arith, g.few_words)) in
     let k : length ts - e3 ≡ 0 = sym (length-drop e3 ts) ∙ ap length d3 in
     (e3, rw (le-leb (length ts) 65536 f.short, le-leb 8192 room big, a1, a2, a3, le-leb (length ts) e3 (omega arith)))
 
@@ -249,11 +249,11 @@ read_inv ts room P e h =
     let k = clauses_inv ts n m 2 b2 b3 cs (omega arith) a3 in
     let q : program n cs ≡ P = cc in
     let f : drop b3 ts ≡ [] = drop_of_length-le ts (leb-true (length ts) b3 s3) in
-    let c : length k.lists ≡ m = sym (length_map k.lists sorted_clause) ∙ ap length k.kept ∙ k.count in
+    let c : length k.lists ≡ m = sym (length-map k.lists sorted_clause) ∙ ap length k.kept ∙ k.count in
     let g : Within (program n cs) = record { few_atoms = l1; few_clauses = rw k.count l2; few_words = omega (arith, k.fits); ordered = k.ordered } in
     let A = line_text atoms_key (digits n) in
     let B = line_text clauses_key (digits m) in
-    let z : render (program n k.lists) ≡ ts = rw c (sym (t1 ∙ ap (λ x. A ++ x) (t2 ∙ ap (λ x. B ++ x) (k.text ∙ ap (λ x. clauses_text k.lists ++ x) f ∙ append_nil (clauses_text k.lists))))) in
+    let z : render (program n k.lists) ≡ ts = rw c (sym (t1 ∙ ap (λ x. A ++ x) (t2 ∙ ap (λ x. B ++ x) (k.text ∙ ap (λ x. clauses_text k.lists ++ x) f ∙ append-nil (clauses_text k.lists))))) in
     record {
       lists = program n k.lists;
       form = record { text = z; short = leb-true (length ts) 65536 s1; within = subst (λ ds. Within (program n ds)) (sym k.kept) g };

@@ -4,7 +4,7 @@ use mathlib.Core.Path.{◌≡◌, refl, sym, ap, ap₂, ◌∙◌}
 use mathlib.Core.List.Memᴰ
 use mathlib.Core.List.{List, [], ◌∷◌, ◌++◌, map, append_assoc}
 use native.Mathlib.Omega.{arith}
-use lib.ListN.{length, length_map}
+use lib.ListN.{length, length-map}
 use Rattle.semantics.specs.Lists.{◌∈◌}
 use Rattle.semantics.specs.Programs.{Clause, Program, program}
 use Rattle.table.specs.Encoding.{OrderedClause}
@@ -59,8 +59,8 @@ module _ (n : ℕ) (few : n ≤ 1024) where
 pub lists_unique : (ts : List ℕ) (P Q : Program) → InForm ts P → InForm ts Q → P ≡ Q
 unfolding render
 lists_unique ts P Q f g =
-    let m = length_map P.clauses sorted_clause in
-    let k = length_map Q.clauses sorted_clause in
+    let m = length-map P.clauses sorted_clause in
+    let k = length-map Q.clauses sorted_clause in
     let (a, i) = number_unique atoms_key P.atoms Q.atoms _ _ (omega (arith, f.within.few_atoms)) (omega (arith, g.within.few_atoms)) (f.text ∙ sym g.text) in
     let (b, j) = number_unique clauses_key (length P.clauses) (length Q.clauses) _ _ (omega (arith, f.within.few_clauses)) (omega (arith, g.within.few_clauses)) i in
     let c = clauses_unique P.atoms f.within.few_atoms P.clauses Q.clauses b f.within.ordered (rw a g.within.ordered) j in

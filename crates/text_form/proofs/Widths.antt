@@ -2,7 +2,7 @@
 use Prim.Native.Nat.{ℕ, zero, suc, ◌+◌, ◌-◌, ◌*◌, ◌/◌, ◌%◌, ◌^◌, ◌≤◌, ◌<◌}
 use mathlib.Core.Path.{◌≡◌, refl, sym, ap, subst, ◌∙◌}
 use mathlib.Core.Logic.{by_cases}
-use mathlib.Core.List.{List, [], ◌∷◌, ◌++◌, append_assoc, append_nil}
+use mathlib.Core.List.{List, [], ◌∷◌, ◌++◌, append_assoc, append-nil}
 use mathlib.Core.Bool.{Bool, true, false, ◌&&◌}
 use native.Mathlib.Omega.{arith}
 use native.Mathlib.Nat.{div-div-eq-div-mul, pow-suc, mul_comm}
@@ -162,7 +162,7 @@ digits_numeral v l = numeral_up v v (omega arith) l
 
 grown : (v : ℕ) (bs : List ℕ) → 0 < v → AllDigits bs → value_from v bs ≤ 65536 → digits v ++ bs ≡ digits (value_from v bs)
 unfolding value_from
-grown v [] p h l = append_nil (digits v)
+grown v [] p h l = append-nil (digits v)
 grown v (b ∷ bs) p h l =
     let u = v * 10 + (b - 48) in
     let e : 48 + (b - 48) ≡ b = omega (arith, h.0) in

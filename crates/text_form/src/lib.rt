@@ -1,17 +1,18 @@
 // The text form of a program: the types of its reader and writer. The definitions are in specs/, the theorems in proofs/.
+#![tactic(auto)]
 ghost use Rattle.std.specs.Prelude.{◌≡◌};
 
 use answers::Refusal;
 
 // Where a line's value stands: from its first byte up to the line feed.
-#[derive(Drop)]
+#[derive(Clone, Copy)]
 pub enum Span {
     Value(usize, usize),
     Missing,
 }
 
 // What a byte of a value is: a digit, with the number so far, the comma after a number, or neither.
-#[derive(Drop)]
+#[derive(Clone, Copy)]
 pub enum Next {
     Digit(u16),
     Comma,
@@ -19,14 +20,14 @@ pub enum Next {
 }
 
 // What stands at a place of a value: a number, with the place past it and its comma, or nothing in form.
-#[derive(Drop)]
+#[derive(Clone, Copy)]
 pub enum Item {
     Number(u16, usize),
     Nothing,
 }
 
 // What the numbers of a value are: so many that ascend, some not above the one before, or not in form.
-#[derive(Drop)]
+#[derive(Clone, Copy)]
 pub enum Order {
     Ascends(usize),
     Unordered,
@@ -34,14 +35,14 @@ pub enum Order {
 }
 
 // What a value's numbers come to: so many, or a bound of them all; or the value is not in form.
-#[derive(Drop)]
+#[derive(Clone, Copy)]
 pub enum Form {
     Numbers(usize),
     Malformed,
 }
 
 // A place in the text.
-#[derive(Drop)]
+#[derive(Clone, Copy)]
 pub struct Cursor {
     pub at: usize,
 }
@@ -55,7 +56,7 @@ impl Cursor {
 }
 
 // What is read from a cursor: a number or how many words, with the next cursor; or the first question answered no.
-#[derive(Drop)]
+#[derive(Clone, Copy)]
 pub enum Line {
     Got(usize, Cursor),
     Stop(Refusal),

@@ -1,7 +1,7 @@
 -- The answers for a clause and for clauses, by what its lines give.
 use Prim.Native.Nat.{ℕ, suc, ◌+◌, ◌-◌, ◌≤◌, ◌<◌}
 use mathlib.Core.Path.{◌≡◌, refl, sym, ap, ◌∙◌}
-use mathlib.Core.List.{List, [], ◌∷◌, ◌++◌, append_assoc, append_nil}
+use mathlib.Core.List.{List, [], ◌∷◌, ◌++◌, append_assoc, append-nil}
 use native.Mathlib.Omega.{arith}
 use native.Mathlib.Numerals.{add-one, add-two, add-three}
 use lib.ListN.{length, length-append, set}
@@ -76,7 +76,7 @@ join_one cs c (stop r) = refl
 
 words_one : (cs : List Clause) (c : Clause) → clauses_words (cs ++ c ∷ []) ≡ clauses_words cs ++ clause_words c
 unfolding clauses_words
-words_one [] c = append_nil (clause_words c)
+words_one [] c = append-nil (clause_words c)
 words_one (d ∷ cs) c = rw (words_one cs c) (sym (append_assoc (clause_words d) (clauses_words cs) (clause_words c)))
 
 pub record Going (ts : List ℕ) (n m at₀ k used at : ℕ) (w₀ w : List ℕ) : Type 0 where
@@ -127,5 +127,5 @@ pub going_end : (ts : List ℕ) (n m at₀ k used at : ℕ) (w₀ w : List ℕ) 
 unfolding clauses_at
 going_end ts n m at₀ k used at w₀ w l g =
     let z : m - k ≡ 0 = omega arith in
-    let d : clauses_at ts n m 2 at₀ ≡ done g.cs at = g.whole ∙ rw z (ap (λ x. done x at) (append_nil g.cs)) in
+    let d : clauses_at ts n m 2 at₀ ≡ done g.cs at = g.whole ∙ rw z (ap (λ x. done x at) (append-nil g.cs)) in
     stores_done clauses_words (clauses_at ts n m 2 at₀) g.cs (used - 2) at 2 w₀ w d (omega (arith, g.count)) g.stored
