@@ -59,6 +59,7 @@ mask_ext (a ∷ s) X Y h = ap₂ (λ x y. x * 2 + bit y) (mask_ext s X Y (λ b m
 
 pub mask_inj : (s : List ℕ) (X Y : Atoms) → mask_of s X ≡ mask_of s Y → (a : ℕ) → a ∈ s → X a ≡ Y a
 unfolding mask_of
+mask_inj [] X Y e a x'' = elim x'' [ ]
 mask_inj (b ∷ s) X Y e a (Memᴰ.head q) =
     let i : bit (X b) ≡ bit (Y b) = omega (arith, bit_bound (X b), bit_bound (Y b)) in rw q (bit_same (X b) (Y b) i)
 mask_inj (b ∷ s) X Y e a (Memᴰ.tail m) =

@@ -43,6 +43,7 @@ guard_deleted = refl
 
 pub guards_of : (x : ℕ) (hs : List ℕ) (c : Clause) → c ∈ guards x hs → (h : ℕ) × (y : ℕ) × (h ∈ hs) × (x ≤ y) × (c ≡ guard_of h y)
 unfolding guards
+guards_of x [] c x3 = elim x3 [ ]
 guards_of x (h ∷ hs) c (Memᴰ.head e) = (h, x, Memᴰ.head refl, omega arith, e)
 guards_of x (h ∷ hs) c (Memᴰ.tail m) = let w = guards_of (suc x) hs c m in (w.0, w.1, Memᴰ.tail w.2, omega (arith, w.3), w.4)
 
@@ -62,6 +63,7 @@ not_two y h x m p q = ⊎_elim (λ e. omega arith) (λ r. q (Memᴰ.eq_of_single
 pub guard_found : (n x : ℕ) (hs : List ℕ) (h : ℕ) → n ≤ x → ((a : ℕ) → a ∈ hs → a < n) → h ∈ hs
     → (y : ℕ) × (x ≤ y) × (guard_of h y ∈ guards x hs) × ((c : Clause) → c ∈ guards x hs → y ∈ c.head → h ∈ c.head)
 unfolding guards
+guard_found n x [] h l o x5 = elim x5 [ ]
 guard_found n x (k ∷ hs) h l o (Memᴰ.head e) = (x, omega arith, Memᴰ.head (ap (λ z. guard_of z x) e), only)
   where
     only : (c : Clause) → c ∈ guard_of k x ∷ guards (suc x) hs → x ∈ c.head → h ∈ c.head
@@ -107,6 +109,7 @@ unfolding in_body
 in_body_lem cs a h = let w = (any_iff (λ (c : Clause). mem a (c.pos ++ c.neg)) cs).0 h in (w.0, w.1, (mem_iff a (w.0.pos ++ w.0.neg)).0 w.2)
 
 pub whole_at : (cs : List Clause) (c : Clause) → c ∈ cs → (i : ℕ) × (entry (whole cs) i ≡ record { kept = true; clause = c })
+whole_at [] c x' = elim x' [ ]
 whole_at (d ∷ cs) c (Memᴰ.head e) = (zero, ap (λ (x : Clause). record { kept = true; clause = x }) (sym e))
 whole_at (d ∷ cs) c (Memᴰ.tail m) = let w = whole_at cs c m in (suc w.0, w.1)
 

@@ -37,6 +37,7 @@ count_same f g (x ∷ l) h = rw (h x (Memᴰ.head refl), count_same f g l (λ a 
 
 count_less : (f g : ℕ → Bool) (b : ℕ) (l : List ℕ) → So (ascending l) → b ∈ l → f b ≡ true → g b ≡ false → ((a : ℕ) → (a ≡ b → ⊥) → f a ≡ g a) → count f l ≡ suc (count g l)
 unfolding ascending
+count_less f g b [] s x5 u v h = elim x5 [ ]
 count_less f g b (x ∷ l) s (Memᴰ.head e) u v h =
     let w = (and_iff _ _).0 s in
     let r = count_same f g l (λ a m. h a (λ d. let k = ltb-true x a ((all_iff (λ y. ltb x y) l).0 w.0 a m) in omega arith)) in

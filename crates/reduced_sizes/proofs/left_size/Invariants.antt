@@ -1,0 +1,23 @@
+-- The sizes of the clauses as left are added up. The invariant: the sum so far and the words to come are the whole.
+use Rattle.table.proofs.Encoding.{passed_limits}
+use Rattle.reduced_sizes.proofs.Words.{size_end, size_on}
+use Prim.Native.Nat.{◌≤◌, ◌-◌, ◌+◌}
+use mathlib.Core.Path.{◌≡◌, refl, sym}
+use native.Mathlib.Omega.{arith}
+use lib.ListN.{length}
+use Rattle.rewriting.specs.Marked.{left}
+use Rattle.table.specs.Encoding.{clauses_words}
+use Rattle.table.specs.Places.{start_from, start_of}
+use Rattle.table.specs.View.{entries_from}
+use Rattle.reduced_sizes.specs.Leaves.{reduced}
+use Rattle.reduced_sizes.proofs.Tables.{reduced_length, reduced_le, view_start}
+use Rattle.reduced_marks.proofs.Spans.{inside, start_next}
+use borrow.Author.Rules.{rules}
+use Rattle.reduced_sizes.proofs.left_size.Given as goal
+
+abbrev pub invariant-loop-k : goal.invariant-loop-k
+invariant-loop-k l = (l.k ≤ l.clauses)
+    × ((l.at ≡ start_of l.words l.k) × (l.size + length (clauses_words (left (entries_from l.words l.marks (l.clauses - l.k) l.at))) ≡ length (reduced l.words l.marks)))
+
+abbrev pub decreases-loop-k : goal.decreases-loop-k
+decreases-loop-k l = l.clauses - l.k

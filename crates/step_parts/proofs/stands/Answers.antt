@@ -1,0 +1,14 @@
+-- `step_parts::stands` meets its contract: an atom stands once in a part that ascends.
+use native.Mathlib.Omega.{arith}
+use Rattle.step_parts.proofs.Laws.{stands_not, stands_there}
+use borrow.Author.Rules.{rules}
+use Rattle.step_parts.proofs.stands.Goals as goal
+
+pub returns-then-part-at : goal.returns-then-part-at
+returns-then-part-at c = stands_not _ _ _ _ c.requires.1.0 c.requires.1.1 (λ h e. omega arith)
+
+pub returns-then-part-at-2 : goal.returns-then-part-at-2
+returns-then-part-at-2 c = stands_not _ _ _ _ c.requires.1.0 c.requires.1.1 (λ h e. c.if-part-at-2.true e)
+
+pub returns : goal.returns
+returns c = stands_there _ _ _ _ c.requires.1.0 c.requires.1.1 c.requires.0 (omega arith) c.if-part-at-2.false

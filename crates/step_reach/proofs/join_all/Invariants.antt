@@ -1,0 +1,15 @@
+-- `step_reach::join_all` meets its contract. The invariant: the kept atoms passed have joined.
+use native.Mathlib.Omega.{arith}
+use mathlib.Core.Path.{◌≡◌, refl, ◌∙◌}
+use Prim.Native.Nat.{◌≤◌, ◌-◌}
+use lib.ListN.{length}
+use Rattle.step_reach.specs.Counts.{Joined}
+use Rattle.step_reach.proofs.Queue.{Among, joined_none, joined_past, joined_on, joined_end}
+use borrow.Author.Rules.{rules}
+use Rattle.step_reach.proofs.join_all.Given as goal
+
+abbrev pub invariant-loop-i : goal.invariant-loop-i
+invariant-loop-i l = (l.i-end ≡ length l.part) × ((l.i ≤ length l.part) × ((length l.queue ≡ length l.initial.queue) × Joined (Among l.part l.marks l.i) l.initial.bytes l.initial.queue l.top l.bytes l.queue l.end))
+
+abbrev pub decreases-loop-i : goal.decreases-loop-i
+decreases-loop-i l = l.i-end - l.i

@@ -1,0 +1,9 @@
+-- `table_clauses::head_of` meets its contract.
+use Prim.Native.Nat.{◌-◌}
+use mathlib.Core.Path.{refl}
+use borrow.Author.Rules.{rules}
+use Rattle.table_clauses.proofs.Parts.{part_at}
+use Rattle.table_clauses.proofs.head_of.Goals as goal
+
+pub returns : goal.returns
+returns c = part_at _ _ _ _ _ refl c.wide.ensures.0

@@ -1,0 +1,9 @@
+-- `table_clauses::neg_of` meets its contract.
+use Prim.Native.Nat.{◌+◌, ◌-◌}
+use mathlib.Core.Path.{ap₂}
+use borrow.Author.Rules.{rules}
+use Rattle.table_clauses.proofs.Parts.{part_at}
+use Rattle.table_clauses.proofs.neg_of.Goals as goal
+
+pub returns : goal.returns
+returns c = part_at _ _ _ _ _ (ap₂ (λ h p. c.args.at + 3 + h + p) c.wide.ensures.0 c.wide-2.ensures.0) c.wide-3.ensures.0
