@@ -1,0 +1,19 @@
+-- `step_conditions::count_heads` meets its contract. The invariant: the heads of the clauses before t are counted.
+use Prim.Native.Nat.{◌≤◌, ◌-◌}
+use mathlib.Core.Path.{◌≡◌, refl, sym, ◌∙◌}
+use native.Mathlib.Omega.{arith}
+use lib.ListN.{length, get_or}
+use borrow.Author.Tests.{not-true, not-false}
+use Rattle.rewriting.specs.Marked.{left}
+use Rattle.table.specs.View.{view}
+use Rattle.table.proofs.Encoding.{passed_limits}
+use Rattle.table.proofs.View.{length_view}
+use Rattle.step_conditions.proofs.Heads.{Counting, counting_start, counting_past, counting_on, counting_room, counting_end}
+use borrow.Author.Rules.{rules}
+use Rattle.step_conditions.proofs.count_heads.Given as goal
+
+abbrev pub invariant-loop-t : goal.invariant-loop-t
+invariant-loop-t l = (l.t-end ≡ get_or l.words 1 0) × ((l.t ≤ l.t-end) × ((length l.heads ≡ length l.initial.heads) × Counting (view l.words l.marks) (get_or l.words 0 0) l.heads l.t))
+
+abbrev pub decreases-loop-t : goal.decreases-loop-t
+decreases-loop-t l = l.t-end - l.t

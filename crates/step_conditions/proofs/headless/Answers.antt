@@ -1,0 +1,14 @@
+-- `step_conditions::headless` meets its contract.
+use mathlib.Core.Path.{sym, ◌∙◌}
+use borrow.Author.Tests.{not-true, not-false}
+use Rattle.rewriting.specs.Marked.{left}
+use Rattle.step_conditions.proofs.Heads.{no_head_is}
+use Rattle.step_conditions.proofs.Tests.{and_lost, and_on}
+use borrow.Author.Rules.{rules}
+use Rattle.step_conditions.proofs.headless.Goals as goal
+
+pub returns-then-not-has : goal.returns-then-not-has
+returns-then-not-has c = and_lost _ _ (sym c.has.ensures ∙ c.if-not-has.true)
+
+pub returns : goal.returns
+returns c = and_on _ _ _ (sym c.has.ensures ∙ c.if-not-has.false) (c.no_head.ensures ∙ no_head_is _ _ _ (c.requires.1.1.is c.args.atom))

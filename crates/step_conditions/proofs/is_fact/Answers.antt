@@ -1,0 +1,13 @@
+-- `step_conditions::is_fact` meets its contract.
+use mathlib.Core.Path.{sym, ◌∙◌}
+use borrow.Author.Tests.{not-true, not-false}
+use Rattle.rewriting.specs.Marked.{left}
+use Rattle.step_conditions.proofs.Tests.{and_lost, and_on}
+use borrow.Author.Rules.{rules}
+use Rattle.step_conditions.proofs.is_fact.Goals as goal
+
+pub returns-then-not-empty : goal.returns-then-not-empty
+returns-then-not-empty c = and_lost _ _ (sym c.empty.ensures ∙ c.if-not-empty.true)
+
+pub returns : goal.returns
+returns c = and_on _ _ _ (sym c.empty.ensures ∙ c.if-not-empty.false) c.empty-2.ensures

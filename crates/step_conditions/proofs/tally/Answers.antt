@@ -1,0 +1,27 @@
+-- `step_conditions::tally` meets its contract. The invariant: what is left of the part, counted now, gives what the whole gave at first.
+use Prim.Native.Nat.{◌≤◌, ◌-◌}
+use mathlib.Core.Path.{◌≡◌, refl}
+use native.Mathlib.Omega.{arith}
+use lib.ListN.{length}
+use Rattle.rewriting.specs.Marked.{left}
+use Rattle.step_conditions.proofs.Heads.{Tallying, tally_start, tally_past, tally_room, tally_on, tally_end}
+use borrow.Author.Rules.{rules}
+use Rattle.step_conditions.proofs.tally.Goals as goal
+
+pub loop-i-init : goal.loop-i-init
+loop-i-init c = (refl, (search rules, tally_start _ _ _))
+
+pub loop-i-preserved-then-marks-i-ne1 : goal.loop-i-preserved-then-marks-i-ne1
+loop-i-preserved-then-marks-i-ne1 c = (refl, (search rules, tally_past _ _ _ _ _ c.loop-i-test.true c.requires.0 c.requires.1.0 c.loop-i.invariant.1.1 c.if-marks-i-ne1.true))
+
+pub bump-requires : goal.bump-requires
+bump-requires c = tally_room _ _ _ _ _ c.loop-i-test.true c.requires.0 c.requires.1.0 c.loop-i.invariant.1.1 c.if-marks-i-ne1.false c.requires.1.1
+
+pub loop-i-preserved : goal.loop-i-preserved
+loop-i-preserved c = (refl, (search rules, tally_on _ _ _ _ _ c.loop-i-test.true c.requires.0 c.requires.1.0 c.loop-i.invariant.1.1 c.if-marks-i-ne1.false _ c.bump.ensures))
+
+pub shape_of-heads : goal.shape_of-heads
+shape_of-heads c = c.loop-i.invariant.1.1.same
+
+pub returns : goal.returns
+returns c = tally_end _ _ _ _ c.loop-i.i (omega arith) c.loop-i.invariant.1.1
