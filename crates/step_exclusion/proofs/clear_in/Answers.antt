@@ -1,0 +1,10 @@
+-- `step_exclusion::clear_in` meets its contract.
+use Rattle.step_exclusion.proofs.Marks.{clear_span}
+use borrow.Author.Rules.{rules}
+use Rattle.step_exclusion.proofs.clear_in.Goals as goal
+
+pub clear_part-requires : goal.clear_part-requires
+clear_part-requires c = (c.span-s.ensures.order, (c.span-s.ensures.fits, c.requires.0.marks))
+
+pub returns : goal.returns
+returns c = clear_span _ _ _ _ _ _ _ c.span-s.ensures c.clear_part.ensures

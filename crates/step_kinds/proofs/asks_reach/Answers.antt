@@ -1,0 +1,13 @@
+-- `step_kinds::asks_reach` meets its contract, kind by kind.
+use mathlib.Core.Path.{◌≡◌, refl}
+use mathlib.Core.Bool.{false}
+use Rattle.rewriting.specs.Kinds.{kind_of}
+use Rattle.rewriting.specs.Uses.{asks_reach}
+use Rattle.step_kinds.proofs.Numbers.{by_number}
+use Rattle.step_kinds.proofs.asks_reach.Goals as goal
+
+pub returns-in-7 : goal.returns-in-7
+returns-in-7 c = rw c.in-7.is
+
+pub returns-in_default : goal.returns-in_default
+returns-in_default c = by_number (λ k. false ≡ asks_reach (kind_of k)) c.args.kind c.requires.0 c.requires.1 (λ _. refl) (λ _. refl) (λ _. refl) (λ _. refl) (λ _. refl) (λ _. refl) (λ e. absurd (c.in_default.in_default-own.rest.1 e)) (λ _. refl)
