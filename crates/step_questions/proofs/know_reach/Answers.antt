@@ -1,0 +1,12 @@
+-- `step_questions::know_reach` meets its contract.
+use mathlib.Core.Path.{refl, sym, ◌∙◌}
+use borrow.Author.Tests.{not-true}
+use Rattle.step_questions.proofs.Known.{none_asked}
+use borrow.Author.Rules.{rules}
+use Rattle.step_questions.proofs.know_reach.Goals as goal
+
+pub returns-then-known : goal.returns-then-known
+returns-then-known c = (λ _. c.requires.1.1.1 c.if-known.true, λ _. refl)
+
+pub returns-then-not-asks_reach : goal.returns-then-not-asks_reach
+returns-then-not-asks_reach c = none_asked _ (sym c.asks_reach.ensures ∙ c.if-not-asks_reach.true)
