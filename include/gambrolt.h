@@ -55,7 +55,7 @@ extern "C" {
 
 /* ---- Version --------------------------------------------------------------------------------------------------------- */
 
-#define GAMBROLT_VERSION "8.0.0"
+#define GAMBROLT_VERSION "7.0.0"
 
 static inline const char *gambrolt_version(void)
 {

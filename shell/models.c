@@ -26,8 +26,8 @@ static const char *const deciding[COMMENT + 1] = {
 const char *decides_beside(const struct order *o, const struct statement *s)
 {
     if (s->kind == RULE)
-        return role_of(o, s) != CARRIED ? NULL : rule_of(s).weights ? "rule with a weight body" : "rule of a theory atom";
-    return s->kind == THEORY && s->numbers[0] < 4 ? NULL : deciding[s->kind]; /* below 4 are terms */
+        return s->role != CARRIED ? NULL : rule_of(o, s).weights ? "rule with a weight body" : "rule of a theory atom";
+    return s->kind == THEORY && numbers_of(o, s)[0] < 4 ? NULL : deciding[s->kind]; /* below 4 are terms */
 }
 
 /* ---- The table of what is left ---- */
@@ -41,7 +41,7 @@ static void count_mentions(const struct order *o, uint16_t mentions[GAMBROLT_MAX
 }
 
 /* Adds a clause of the table. It is taken, as what is left is within the limits that the table is within. */
-static void add_left(struct gambrolt_program *left, const uint16_t *clause, const uint32_t *atom)
+static void add_left(struct program *left, const uint16_t *clause, const uint32_t *atom)
 {
     uint32_t head[GAMBROLT_MAX_ATOMS];
     int32_t body[2 * GAMBROLT_MAX_ATOMS];
@@ -52,15 +52,15 @@ static void add_left(struct gambrolt_program *left, const uint16_t *clause, cons
         int32_t number = (int32_t)atom[clause[3 + heads + i]]; /* those of choices are in heads only */
         body[i] = i < positive ? number : -number;
     }
-    gambrolt_program_rule(left, head, heads, body, literals);
+    program_rule(left, head, heads, body, literals);
 }
 
 /* The clauses that are left. A fact that no other mentions takes no room: its atom is in every model (see table.c). */
-static void find_clauses(const struct order *o, struct gambrolt_program *left)
+static void find_clauses(const struct order *o, struct program *left)
 {
     uint16_t mentions[GAMBROLT_MAX_ATOMS] = {0};
     count_mentions(o, mentions);
-    gambrolt_program_start(left);
+    program_start(left);
     for (size_t i = 2; i < o->reduced_words; i = clause_end(o->reduced, i)) {
         const uint16_t *c = o->reduced + i;
         if (!is_spent(o, c) && (c[0] != 1 || c[1] + c[2] > 0 || mentions[c[3]] > 1))
@@ -69,7 +69,7 @@ static void find_clauses(const struct order *o, struct gambrolt_program *left)
 }
 
 /* Says by how much the atoms are too many. A lone fact is one that no other clause mentions. */
-static int refuse_atoms(struct order *o, const struct gambrolt_program *left, int reduced)
+static int refuse_atoms(struct order *o, const struct program *left, int reduced)
 {
     char choices[60] = "";
     size_t chosen = 0;
@@ -85,12 +85,12 @@ static int refuse_atoms(struct order *o, const struct gambrolt_program *left, in
 /* ---- The models by name ---- */
 
 /* What a condition, a count and as many literals, asks of a model. Returns 0 where no model meets it. */
-static int find_condition(const struct order *o, const struct gambrolt_program *left, const int32_t *count, struct shown *shown)
+static int find_condition(const struct order *o, const struct program *left, const int32_t *count, struct shown *shown)
 {
     for (int32_t i = 1; i <= *count; i++) {
         uint32_t number = (uint32_t)abs(count[i]);
         const struct atom *a = atom_of(o, number);
-        int positive = count[i] > 0, given = a && a->given, bit = gambrolt_program_number(left, number);
+        int positive = count[i] > 0, given = a && a->given, bit = program_number(left, number);
         if (bit < 0 && positive != given) /* in no clause of the table: in every model where it is given, else in none */
             return 0;
         if (bit >= 0)
@@ -100,15 +100,15 @@ static int find_condition(const struct order *o, const struct gambrolt_program *
 }
 
 /* The names that some model may show, in the order of their statements; an atom of a text, which is a(12), as 12. */
-static struct buffer find_shown(struct order *o, const struct gambrolt_program *left)
+static struct buffer find_shown(const struct order *o, const struct program *left)
 {
     struct buffer all = {0};
-    struct statement s = {0};
-    while (next_statement(o, &s)) {
-        struct shown one = {.name = s.name};
-        if (o->shift && s.kind == OUTPUT)
-            one.name = (struct span){s.name.at + 2, s.name.len - 3};
-        if (s.kind == OUTPUT && s.name.len > 0 && find_condition(o, left, s.numbers + 1, &one))
+    const struct statement *s;
+    for (size_t k = 0; (s = statement_at(o, k)); k++) {
+        struct shown one = {.name = s->name};
+        if (o->shift && s->kind == OUTPUT)
+            one.name = (struct span){s->name.at + 2, s->name.len - 3};
+        if (s->kind == OUTPUT && s->name.len > 0 && find_condition(o, left, numbers_of(o, s) + 1, &one))
             put(&all, &one, sizeof one);
     }
     return all;
@@ -132,9 +132,9 @@ static void put_model(struct buffer *b, const struct buffer *shown, unsigned mod
 int put_models(struct order *o, int reduced)
 {
     uint16_t table[GAMBROLT_MAX_WORDS], model[GAMBROLT_MAX_MODELS];
-    struct gambrolt_program left;
+    struct program left;
     find_clauses(o, &left);
-    uint64_t answer = gambrolt_models(table, gambrolt_program_table(&left, table), model, GAMBROLT_MAX_MODELS);
+    uint64_t answer = gambrolt_models(table, program_table(&left, table), model, GAMBROLT_MAX_MODELS);
     if (gambrolt_refusal(answer) == GAMBROLT_FEW_ATOMS)
         return refuse_atoms(o, &left, reduced);
     if (refused(o, "list of stable models", answer))

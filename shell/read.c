@@ -10,12 +10,7 @@
 
 #define AS_WRITTEN "give aspif as gringo writes it"
 #define IN_FORM "write atoms below atoms=, joined by commas, without blanks or leading zeros"
-#define FIRST_LINE 2 /* that has statements */
-#define SHOWN 20     /* bytes of what was not expected */
-#ifndef WINDOW
-#define WINDOW 65536 /* bytes of an input that is only checked which are kept at least */
-#endif
-#define STEPS "programs in several steps are not reduced; ground the program as a whole"
+#define STEPS "programs in several steps are not reduced; ground the order as a whole"
 
 /* The numbers of a statement, by the letters of its form. */
 static const struct token {
@@ -71,42 +66,7 @@ struct reader {
     const char *at, *end; /* a zero byte stands at the end */
     size_t line;          /* from 1 */
     const char *where;    /* what is being read */
-    const struct source *source; /* what is behind the end, or NULL where nothing is */
-    int failed;                  /* a call of the source has */
-    int keep;                    /* whether the numbers that are read are kept */
 };
-
-/*
- * Gets what is behind the end, where there is more, and hands on what stands before r->at; the rest moves to the front.
- * The buffer is filled whole, and grows where the rest takes half of it, so that what is read again after this is read
- * a few times at most. Returns whether anything came; where nothing did, nothing is handed on.
- */
-static int refill(struct reader *r)
-{
-    const struct source *from = r->source;
-    struct buffer *b = &r->order->bytes;
-    size_t rest = (size_t)(r->end - r->at);
-    char next;
-    int64_t len = from && !r->failed ? from->more(from->context, &next, 1) : 0;
-    if (len > 0 && from->copy(from->context, b->at, (size_t)(r->at - b->at)))
-        len = -1;
-    r->failed |= len < 0;
-    if (len <= 0)
-        return 0;
-    memmove(b->at, r->at, rest);
-    b->len = rest;
-    reserve(b, rest < WINDOW ? WINDOW : rest);
-    put(b, &next, 1);
-    while (len > 0 && b->len + 1 < b->room) {
-        len = from->more(from->context, b->at + b->len, b->room - 1 - b->len);
-        b->len += len > 0 ? (size_t)len : 0;
-    }
-    r->failed |= len < 0;
-    b->at[b->len] = 0;
-    r->at = b->at;
-    r->end = b->at + b->len;
-    return 1;
-}
 
 static int refuse_at(struct reader *r, const char *where, const char *why)
 {
@@ -116,28 +76,20 @@ static int refuse_at(struct reader *r, const char *where, const char *why)
 /* Refuses what stands at the reader's place, where `what` was expected. */
 static int unexpected(struct reader *r, const char *what)
 {
-    if (r->end - r->at < SHOWN)
-        refill(r);
-    size_t len = 0;
-    while (len < SHOWN && r->at[len] && !strchr(" \t\n\r", r->at[len]))
-        len++;
-    int end = r->at == r->end, carriage = *r->at == '\r', zero = len < SHOWN && r->at + len < r->end && !r->at[len];
+    int end = r->at == r->end, carriage = *r->at == '\r', len = (int)strcspn(r->at, " \t\n\r");
     const char *advice = end ? "was the grounder stopped?" : carriage ? "remove them with `tr -d '\\r'`" : AS_WRITTEN;
-    char item[SHOWN + 4];
-    snprintf(item, sizeof item, "`%.*s`", (int)len, r->at);
+    char item[24] = "a zero byte";
+    if (len)
+        snprintf(item, sizeof item, "`%.*s`", len < 20 ? len : 20, r->at);
     return refuse(r->order, "line %zu: %s: %s where %s was expected; %s", r->line, r->where,
-                  end ? "the input ends" : carriage ? "carriage return" : *r->at == '\n' ? "the line ends"
-                  : zero ? "a zero byte" : item, what, advice);
+                  end ? "the input ends" : carriage ? "carriage return" : *r->at == '\n' ? "the line ends" : item, what,
+                  advice);
 }
 
 static void skip_blanks(struct reader *r)
 {
-    do {
-        const char *c = r->at;
-        while (*c == ' ' || *c == '\t')
-            c++;
-        r->at = c;
-    } while (r->at == r->end && refill(r));
+    while (*r->at == ' ' || *r->at == '\t')
+        r->at++;
 }
 
 static int is_digit(char c)
@@ -148,115 +100,58 @@ static int is_digit(char c)
 static int read_number(struct reader *r, char letter, int64_t *number)
 {
     const struct token *t = &tokens[(unsigned char)letter];
-    const char *c, *first;
-    int64_t value;
     skip_blanks(r);
-    do {
-        c = first = r->at + (*r->at == '-');
-        for (value = 0; is_digit(*c) && value <= INT32_MAX; c++)
-            value = 10 * value + (*c - '0');
-    } while (c == r->end && refill(r));
-    int negative = first > r->at, ends = *c == ' ' || *c == '\n' || *c == '\t' || *c == '\r' || c == r->end;
-    int zero = value == 0 && (negative || letter == 'l'); /* -0 is no number, and 0 no literal */
-    *number = negative ? -value : value;
-    if (c == first || !ends || zero || *number < t->lowest || *number > t->highest)
+    const char *c = r->at + (*r->at == '-');
+    int digits = is_digit(*c);
+    for (*number = 0; is_digit(*c) && *number <= INT32_MAX; c++)
+        *number = 10 * *number + (*c - '0');
+    if (*r->at == '-')
+        *number = -*number;
+    int ends = *c == ' ' || *c == '\n' || *c == '\t' || *c == '\r' || (*c == 0 && c == r->end);
+    if (!digits || !ends || *number < t->lowest || *number > t->highest || (letter == 'l' && *number == 0))
         return unexpected(r, t->what);
     r->at = c;
     return 0;
 }
 
-/* Passes bytes in which lines may end, as many as there are of `len`. Returns how many are still to come, or -1. */
-static int64_t pass_bytes(struct reader *r, size_t len, size_t *lines)
-{
-    size_t there = (size_t)(r->end - r->at), count = len < there ? len : there;
-    const char *stop = memchr(r->at, 0, count), *end = stop ? stop : r->at + count;
-    for (const char *c = r->at; (c = memchr(c, '\n', (size_t)(end - c))); c++)
-        ++*lines;
-    r->at = end;
-    return stop ? -1 : (int64_t)(len - count);
-}
-
 /* An output statement's name, or a theory's symbol: a space, and as many bytes as were counted. */
 static int read_name(struct reader *r, size_t len, struct span *name, const char *after)
 {
-    size_t lines = 0;
-    int64_t rest = (int64_t)len;
     if (*r->at != ' ')
         return unexpected(r, "one space before the name");
     r->at++;
-    *name = (struct span){r->at, len};
-    do
-        rest = pass_bytes(r, (size_t)rest, &lines);
-    while (r->at == r->end && refill(r) && rest > 0);
-    if (rest > 0)
+    if (len > (size_t)(r->end - r->at))
         return refuse_at(r, r->where, "the input ends inside the name; was the grounder stopped?");
-    r->line += lines;
-    if (rest < 0)
+    if (memchr(r->at, 0, len))
         return refuse_at(r, r->where, "a zero byte in the name; " AS_WRITTEN);
-    if (r->at < r->end && (*r->at == 0 || !strchr(after, *r->at)))
+    *name = (struct span){r->at, len};
+    for (; len > 0; len--)
+        r->line += *r->at++ == '\n';
+    if (r->at < r->end && !strspn(r->at, after))
         return unexpected(r, "a space after the name (its length is counted in bytes)");
     return 0;
 }
 
-/* A comment's text, up to the end of the line. */
-static int read_comment(struct reader *r, struct span *text)
-{
-    *text = (struct span){r->at, 0};
-    do {
-        const char *stop = memchr(r->at, '\n', (size_t)(r->end - r->at));
-        size_t len = (size_t)((stop ? stop : r->end) - r->at);
-        if (memchr(r->at, 0, len))
-            return refuse_at(r, r->where, "a zero byte in it; " AS_WRITTEN);
-        text->len += len;
-        r->at += len;
-    } while (r->at == r->end && refill(r));
-    return 0;
-}
-
-/* Reads a number, and keeps it where numbers are. */
-static int read_kept(struct reader *r, char letter, int64_t *number)
-{
-    struct buffer *b = &r->order->numbers;
-    if (read_number(r, letter, number))
-        return -1;
-    if (r->keep && b->room - b->len <= sizeof(int32_t))
-        reserve(b, sizeof(int32_t));
-    if (r->keep) {
-        memcpy(b->at + b->len, &(int32_t){(int32_t)*number}, sizeof(int32_t));
-        b->len += sizeof(int32_t);
-    }
-    return 0;
-}
-
-/* Reads a count, and as often what the letters stand for. */
-static int read_counted(struct reader *r, const char *letters)
-{
-    int64_t count, number;
-    if (read_kept(r, '#', &count))
-        return -1;
-    for (; count > 0; count--)
-        for (const char *letter = letters; *letter; letter++)
-            if (read_kept(r, *letter, &number))
-                return -1;
-    return 0;
-}
-
-/* Reads what the letters of a form stand for. */
+/* Reads what the letters of a form stand for, and keeps the numbers. */
 static int read_form(struct reader *r, const char *form, struct statement *s)
 {
     for (; form && *form; form++) {
         const char *part = *form <= 'Z' ? counted[(unsigned char)*form] : NULL;
-        int64_t number = 0;
-        if (part ? read_counted(r, part) : read_kept(r, *form, &number))
+        int64_t number;
+        if (read_number(r, part ? '#' : *form, &number))
             return -1;
         if (*form == 'n' && read_name(r, (size_t)number, &s->name, " \t"))
             return -1;
         if (*form == 's' && read_name(r, (size_t)number, &s->name, " \t\n\r"))
             return -1;
+        put(&r->order->numbers, &(int32_t){(int32_t)number}, sizeof(int32_t));
         if (*form == 'b')
             return read_form(r, bodies[number], s);
         if (*form == 't')
             return theories[number] ? read_form(r, theories[number], s) : refuse_at(r, r->where, "there is no type 3");
+        for (; part && number > 0; number--)
+            if (read_form(r, part, s))
+                return -1;
     }
     return 0;
 }
@@ -275,13 +170,10 @@ static int read_end(struct reader *r, int last)
 }
 
 /* What the input is, where it is no aspif. */
-static const char *other_form(const struct reader *r)
+static const char *other_form(const char *at)
 {
-    const char *at = r->at;
-    if (at == r->end)
-        return "the input is empty; did the grounder fail?";
     if (at[0] == 0)
-        return "a zero byte; " AS_WRITTEN;
+        return "the input is empty; did the grounder fail?";
     if (strncmp(at, "atoms=", 6) == 0)
         return "this is the text form; read it with --text or --from-text";
     if (is_digit(at[0]))
@@ -293,8 +185,8 @@ static const char *other_form(const struct reader *r)
 
 static int read_header(struct reader *r, int *several)
 {
-    if (strncmp(r->at, "asp 1 0 0", 9) != 0)
-        return refuse_at(r, r->where, other_form(r));
+    if (r->at == r->end || strncmp(r->at, "asp 1 0 0", 9) != 0)
+        return refuse_at(r, r->where, other_form(r->at));
     r->at += 9;
     *several = strncmp(r->at, " incremental", 12) == 0;
     if (*several) {
@@ -305,89 +197,50 @@ static int read_header(struct reader *r, int *several)
     return *r->at == '\n' ? read_end(r, 0) : unexpected(r, "the end of the line");
 }
 
-/* Reads one statement. Where it and the next begin is known only of an input that is kept. */
-static int read_statement(struct reader *r, struct statement *s)
+/* Reads one statement, and adds it to the order. */
+static int read_statement(struct reader *r, struct order *o, enum kind *kind)
 {
+    struct statement s = {.line = r->line, .first = o->numbers.len / sizeof(int32_t), .number = o->rules};
     int64_t number;
     r->where = "statement";
-    r->order->numbers.len = 0;
     skip_blanks(r);
-    *s = (struct statement){.line = r->line, .bytes = {r->at, 0}, .number = s->number + (s->kind == RULE)};
+    s.bytes.at = r->at;
     if (read_number(r, 'k', &number))
         return -1;
-    s->kind = (enum kind)number;
-    r->where = statements[s->kind].name;
-    if (read_form(r, statements[s->kind].form, s) || (s->kind == COMMENT && read_comment(r, &s->name)))
+    *kind = s.kind = (enum kind)number;
+    r->where = statements[s.kind].name;
+    if (read_form(r, statements[s.kind].form, &s))
         return -1;
-    if (!r->source)
-        s->bytes.len = (size_t)(r->at - s->bytes.at);
-    s->numbers = (const int32_t *)(const void *)r->order->numbers.at;
-    return read_end(r, s->kind == STEP_END);
-}
-
-int next_statement(struct order *o, struct statement *s)
-{
-    struct reader r = {o, s->next ? s->next : o->bytes.at + o->begin, o->bytes.at + o->bytes.len,
-                       s->next ? s->next_line : FIRST_LINE, NULL, NULL, 0, 1};
-    if (read_statement(&r, s) || s->kind == STEP_END)
-        return 0;
-    s->next = r.at;
-    s->next_line = r.line;
-    if (o->shift)
-        s->line = 3 * s->number + 3; /* where the clause's head= stands in the text */
-    return 1;
-}
-
-/* Passes blanks and empty lines up to the end of the input. Returns whether something else is there. */
-static int goes_on(struct reader *r)
-{
-    for (skip_blanks(r); *r->at == '\n'; skip_blanks(r)) {
-        r->at++;
-        r->line++;
+    if (s.kind == COMMENT) {
+        const char *stop = memchr(r->at, '\n', (size_t)(r->end - r->at));
+        s.name = (struct span){r->at, (size_t)((stop ? stop : r->end) - r->at)};
+        r->at += s.name.len;
     }
-    return r->at < r->end;
-}
-
-static int read_all_steps(struct reader *r)
-{
-    struct order *o = r->order;
-    struct statement s = {0};
-    int several = 0;
-    if ((size_t)(r->end - r->at) < WINDOW)
-        refill(r);
-    if (read_header(r, &several))
-        return -1;
-    o->begin = (size_t)(r->at - o->bytes.at);
-    do {
-        do {
-            if (read_statement(r, &s))
-                return -1;
-            o->count += s.kind != STEP_END;
-            o->rules += s.kind == RULE;
-        } while (s.kind != STEP_END);
-        if (!goes_on(r))
-            return 0;
-        if (*r->at == 0)
-            return refuse_at(r, "after the end of the program", "a zero byte; " AS_WRITTEN);
-    } while (several);
-    return refuse_at(r, "statement after the end of the program", STEPS);
+    s.bytes.len = (size_t)(r->at - s.bytes.at);
+    o->rules += s.kind == RULE;
+    if (s.kind != STEP_END)
+        put(&o->statements, &s, sizeof s);
+    return read_end(r, s.kind == STEP_END);
 }
 
 int read_aspif(struct order *o)
 {
-    return read_all_steps(&(struct reader){o, o->bytes.at, o->bytes.at + o->bytes.len, 1, "header", NULL, 0, 0});
-}
-
-int check_aspif(struct order *o, const struct source *source)
-{
-    struct buffer *b = &o->bytes;
-    put(b, "", 0);
-    struct reader r = {o, b->at, b->at + b->len, 1, "header", source, 0, 0};
-    int answer = read_all_steps(&r);
-    if (!r.failed)
-        return answer ? -1 : source->copy(source->context, b->at, b->len) ? -1 : 0;
-    o->fault[0] = 0;
-    return -1;
+    struct reader r = {o, o->bytes.at, o->bytes.at + o->bytes.len, 1, "header"};
+    enum kind kind;
+    int several = 0;
+    if (read_header(&r, &several))
+        return -1;
+    do {
+        do
+            if (read_statement(&r, o, &kind))
+                return -1;
+        while (kind != STEP_END);
+        for (; r.at < r.end && memchr(" \t\n", *r.at, 3); r.at++)
+            r.line += *r.at == '\n';
+        if (r.at < r.end && !several)
+            return refuse_at(&r, "statement after the end of the program", STEPS);
+    } while (r.at < r.end);
+    return 0;
 }
 
 /* ---- Text ---- */
@@ -456,5 +309,9 @@ int read_text(struct order *o)
         putf(&o->bytes, "4 %d a(%u) 1 %u\n", snprintf(NULL, 0, "a(%u)", a), a, a + 1);
     putf(&o->bytes, "0\n");
     free(text.at);
-    return read_aspif(o);
+    int refused = read_aspif(o);
+    struct statement *s;
+    for (size_t k = 0; (s = statement_at(o, k)); k++)
+        s->line = 3 * s->number + 3; /* where the clause's head= stands in the text */
+    return refused;
 }

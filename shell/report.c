@@ -1,5 +1,5 @@
 /* report.c - what there is to say about a reduction: each step as a sentence, and figures. */
-#include "json.h"
+#include "shell.h"
 
 #include <string.h>
 
@@ -27,9 +27,6 @@ static const char *const sentences[KINDS] = {
     [GAMBROLT_SUBSUMED] = "deleted, since @p, @s",
     [GAMBROLT_EXCLUDED] = "`@a` can't be@f@w"};
 
-/* Of an excluded atom that stands for leaving a choice: facts alone lead to the constraint. @k is the choice. */
-static const char no_choice[] = "rules out every stable model; @k, is no choice from here on";
-
 /* ---- Sentences: the steps are made again, and each is read on the marks that those before it left ---- */
 
 enum part { HEAD, POSITIVE, NEGATIVE, END };
@@ -52,62 +49,29 @@ static size_t find(const struct order *o, size_t clause, enum part part, int ato
     return 0;
 }
 
-/* The atoms that the search for the reach has found, and where they stand in positive bodies, by the place before it. */
-struct search {
-    uint16_t found[GAMBROLT_MAX_ATOMS], last[GAMBROLT_MAX_ATOMS];
-    uint16_t before[GAMBROLT_MAX_WORDS], clause[GAMBROLT_MAX_WORDS];
-    uint16_t missing[GAMBROLT_MAX_CLAUSES]; /* how many atoms of its positive body are not found */
-    size_t count;
-};
-
-/* Finds the heads of a clause. */
-static void find_heads(struct order *o, struct search *s, size_t clause)
-{
-    for (size_t i = part_start(o, clause, HEAD); i < part_start(o, clause, POSITIVE); i++)
-        if (o->marks[i] && !o->reach[o->table[i]]) {
-            o->reach[o->table[i]] = 1;
-            s->found[s->count++] = o->table[i];
-        }
-}
-
-/* Notes where the atoms of a clause's positive body stand. */
-static void note_places(struct order *o, struct search *s, size_t clause)
-{
-    for (size_t i = part_start(o, clause, POSITIVE); i < part_start(o, clause, NEGATIVE); i++)
-        if (o->marks[i]) {
-            s->before[i] = s->last[o->table[i]];
-            s->last[o->table[i]] = (uint16_t)i;
-            s->clause[i] = (uint16_t)clause;
-            s->missing[clause]++;
-        }
-}
-
 static void find_reach(struct order *o)
 {
-    struct search s = {0};
     memset(o->reach, 0, sizeof o->reach);
-    for (size_t c = 0; c < o->table[1]; c++)
-        if (o->marks[o->start[c]]) {
-            note_places(o, &s, c);
-            if (s.missing[c] == 0)
-                find_heads(o, &s, c);
-        }
-    for (size_t next = 0; next < s.count; next++)
-        for (size_t i = s.last[s.found[next]]; i; i = s.before[i])
-            if (--s.missing[s.clause[i]] == 0)
-                find_heads(o, &s, s.clause[i]);
+    for (int more = 1; more;) {
+        more = 0;
+        for (size_t c = 0; c < o->table[1]; c++)
+            if (o->marks[o->start[c]] && !find(o, c, POSITIVE, OUTSIDE))
+                for (size_t i = part_start(o, c, HEAD); i < part_start(o, c, POSITIVE); i++)
+                    if (o->marks[i] && !o->reach[o->table[i]])
+                        o->reach[o->table[i]] = (uint8_t)(more = 1);
+    }
 }
 
 static void put_atom(struct order *o, const char *before, int atom, const char *after)
 {
-    put_literal(&o->sentences, o, before, o->program.atom[atom], after);
+    put_literal(&o->explanation, o, before, o->program.atom[atom], after);
 }
 
 static void put_numbered(struct order *o, size_t clause)
 {
-    putf(&o->sentences, "clause %zu, `", o->of[clause].rule);
-    put_clause(&o->sentences, o, clause, SHOWN);
-    putf(&o->sentences, "`");
+    putf(&o->explanation, "clause %zu, `", statement_at(o, o->of[clause])->number);
+    put_clause(&o->explanation, o, clause, SHOWN);
+    putf(&o->explanation, "`");
 }
 
 /* How many atoms are left from one place to another, but for one. */
@@ -125,7 +89,7 @@ static void put_atoms(struct order *o, size_t from, size_t end, int but, const c
     size_t count = count_atoms(o, from, end, but), put = 0;
     for (size_t i = from; i < end; i++)
         if (o->marks[i] && o->table[i] != but) {
-            putf(&o->sentences, "%s`%s", put == 0 ? "" : put + 1 == count ? " and " : ", ", before);
+            putf(&o->explanation, "%s`%s", put == 0 ? "" : put + 1 == count ? " and " : ", ", before);
             put_atom(o, "", o->table[i], "`");
             put++;
         }
@@ -153,7 +117,7 @@ static void put_circle(struct order *o, int atom)
             if (seen[i] == seen[links + 1])
                 return;
     }
-    putf(&o->sentences, " and so on");
+    putf(&o->explanation, " and so on");
 }
 
 /* The atoms of a constraint beside the one that can't be, which follow from it. */
@@ -162,16 +126,16 @@ static void put_following(struct order *o, size_t target, int atom)
     size_t from = part_start(o, target, POSITIVE), end = part_start(o, target, NEGATIVE);
     size_t others = count_atoms(o, from, end, atom);
     if (others) {
-        putf(&o->sentences, ", since ");
+        putf(&o->explanation, ", since ");
         put_atoms(o, from, end, atom, "");
-        putf(&o->sentences, others == 1 ? " follows from it" : " follow from it");
+        putf(&o->explanation, others == 1 ? " follows from it" : " follow from it");
     }
 }
 
 /* Whether a step at the clause changes the order: a guard is none of its rules, and a choice without its atom no choice. */
 static int is_told(const struct order *o, size_t clause)
 {
-    return o->of[clause].rule != NO_RULE && (!is_choice(o, clause) || has_chosen(o, clause));
+    return o->of[clause] != NO_RULE && (!is_choice(o, clause) || has_chosen(o, clause));
 }
 
 /* The numbers of the rules that have the atom in a part, and not in their positive body but where that is the part. */
@@ -180,19 +144,19 @@ static void put_rules(struct order *o, const char *what, enum part part, int ato
     size_t number[NAMED], count = 0, last = NO_RULE;
     for (size_t c = 0; c < o->table[1]; c++) {
         int there = o->marks[o->start[c]] && is_told(o, c) && find(o, c, part, atom);
-        if (!there || (part != POSITIVE && find(o, c, POSITIVE, atom)) || o->of[c].rule == last)
+        if (!there || (part != POSITIVE && find(o, c, POSITIVE, atom)) || o->of[c] == last)
             continue;
-        last = o->of[c].rule; /* of several clauses of one rule the first is named */
+        last = o->of[c]; /* of several clauses of one rule the first is named */
         if (count < NAMED)
-            number[count] = last;
+            number[count] = statement_at(o, last)->number;
         count++;
     }
     if (count)
-        putf(&o->sentences, "; %s clause%s", what, count > 1 ? "s" : "");
+        putf(&o->explanation, "; %s clause%s", what, count > 1 ? "s" : "");
     for (size_t i = 0; i < count && i < NAMED; i++)
-        putf(&o->sentences, "%s %zu", i ? "," : "", number[i]);
+        putf(&o->explanation, "%s %zu", i ? "," : "", number[i]);
     if (count > NAMED)
-        putf(&o->sentences, " and %zu more", count - NAMED);
+        putf(&o->explanation, " and %zu more", count - NAMED);
 }
 
 /* Which clauses are deleted, which lose the atom from their heads, and which its negation. */
@@ -209,26 +173,17 @@ static size_t size_of(const struct order *o, size_t clause)
     return count_atoms(o, part_start(o, clause, HEAD), part_start(o, clause, END), NO_ATOM);
 }
 
-/* The choice that an atom stands for leaving. */
-static void put_choice_of(struct order *o, int atom)
-{
-    size_t c = 0;
-    while (c + 1 < o->table[1] && !find(o, c, HEAD, atom))
-        c++;
-    put_numbered(o, c);
-}
-
 static void put_sentence(struct order *o, const char *c, size_t target, size_t partner, int atom)
 {
     put_numbered(o, target);
-    putf(&o->sentences, ": ");
+    putf(&o->explanation, ": ");
     for (; *c; c++) {
         if (*c != '@')
-            put(&o->sentences, c, 1);
+            put(&o->explanation, c, 1);
         else if (*++c == 'a')
             put_atom(o, "", atom, "");
         else if (*c == 'n')
-            putf(&o->sentences, "%zu", o->of[partner].rule);
+            putf(&o->explanation, "%zu", statement_at(o, o->of[partner])->number);
         else if (*c == 'p')
             put_numbered(o, partner);
         else if (*c == 'h')
@@ -239,12 +194,10 @@ static void put_sentence(struct order *o, const char *c, size_t target, size_t p
             put_following(o, target, atom);
         else if (*c == 'w')
             put_with_it(o, atom);
-        else if (*c == 'k')
-            put_choice_of(o, atom);
         else
-            putf(&o->sentences, size_of(o, target) == size_of(o, partner) ? "says the same" : "already covers it");
+            putf(&o->explanation, size_of(o, target) == size_of(o, partner) ? "says the same" : "already covers it");
     }
-    putf(&o->sentences, "\n");
+    putf(&o->explanation, "\n");
 }
 
 /* Deletes the kept clauses with the atom in their positive body, and drops it from the others. */
@@ -278,27 +231,17 @@ static void make(struct order *o, const uint16_t *step)
     o->marks[gone] = 0;
 }
 
-/* What is said of a step. */
-static const char *sentence_of(const struct order *o, const uint16_t *step)
-{
-    if (step[0] == GAMBROLT_EXCLUDED && o->program.atom[step[3]] >= CHOSEN)
-        return no_choice;
-    return sentences[step[0] == GAMBROLT_BLOCKED && size_of(o, step[2]) == 0 ? 0 : step[0]];
-}
-
-void find_sentences(struct order *o)
+void explain(struct order *o)
 {
     int known = 0; /* whether the reach is that of the marks */
-    o->sentences.len = 0;
     memset(o->marks, 1, sizeof o->marks);
-    for (size_t place = 0; place < o->steps; place++) {
-        const uint16_t *step = o->list + 4 * place;
+    for (const uint16_t *step = o->list; step < o->list + 4 * o->steps; step += 4) {
         unsigned kind = step[0];
+        int empty = kind == GAMBROLT_BLOCKED && size_of(o, step[2]) == 0;
         if (kind == GAMBROLT_LOOP && !known)
             find_reach(o);
         if (is_told(o, step[1]))
-            put_sentence(o, sentence_of(o, step), step[1], step[2], step[3]);
-        o->sentence_end[place] = o->sentences.len;
+            put_sentence(o, sentences[empty ? 0 : kind], step[1], step[2], step[3]);
         make(o, step);
         /* a clause that needs an atom outside the reach adds nothing to it, nor does a literal that holds */
         known = kind == GAMBROLT_LOOP || (known && (kind == GAMBROLT_SUCCESS || kind == GAMBROLT_NO_HEAD ||
@@ -312,6 +255,7 @@ void find_sentences(struct order *o)
 static void measure(const struct order *o, const uint16_t *table, size_t words, size_t size[3])
 {
     char met[GAMBROLT_MAX_ATOMS] = {0};
+    const struct statement *s;
     for (size_t i = 2; i < words; i = clause_end(table, i)) {
         int none = (table[i] == 2 && o->program.atom[table[i + 4]] >= GUARD) || is_spent(o, table + i);
         size[0] += !none;
@@ -321,22 +265,11 @@ static void measure(const struct order *o, const uint16_t *table, size_t words, 
             met[table[k]] = 1;
         }
     }
-    size[0] += o->led_round;
-    size[2] += o->led_round;
-}
-
-/* What is said on standard error, of which each line is a string, without the program's name. */
-static void put_notes(struct buffer *b, const struct order *o)
-{
-    const char *line = o->notes.at, *end = line + o->notes.len;
-    putf(b, "\"notes\": [");
-    for (const char *stop; line < end; line = stop + 1) {
-        stop = memchr(line, '\n', (size_t)(end - line));
-        line += strlen("gambrolt: ");
-        put_string(b, line, (size_t)(stop - line));
-        putf(b, stop + 1 < end ? ", " : "");
-    }
-    putf(b, "]");
+    for (size_t k = 0; (s = statement_at(o, k)); k++)
+        if (s->kind == RULE && s->role == LED_ROUND) {
+            size[0]++;
+            size[2]++;
+        }
 }
 
 static void put_json(struct buffer *b, struct order *o, size_t size[2][3], const int *cyclic, const unsigned *steps)
@@ -351,10 +284,8 @@ static void put_json(struct buffer *b, struct order *o, size_t size[2][3], const
     putf(b, " \"steps\": {\"all\": %zu", o->steps);
     for (unsigned k = 1; k < KINDS; k++)
         putf(b, ", \"%s\": %u", gambrolt_kind_name(k), steps[k]);
-    putf(b, "},\n \"seconds\": {\"reading\": %.6f, \"reducing\": %.6f, \"checking\": %.6f},\n ", o->seconds[0], o->seconds[1],
-         o->seconds[2]);
-    put_notes(b, o);
-    putf(b, ",\n \"list\": [");
+    putf(b, "},\n \"seconds\": {\"reading\": %.6f, \"reducing\": %.6f, \"checking\": %.6f},\n \"list\": [", o->seconds[0],
+         o->seconds[1], o->seconds[2]);
     put_objects(b, o);
     putf(b, "]}\n");
 }
@@ -387,29 +318,4 @@ void put_statistics(struct order *o, int json)
         putf(b, "  %u %-13s%8u\n", k, gambrolt_kind_name(k), steps[k]);
     for (int i = 0; i < 3; i++)
         putf(b, "%-16s %8.3f s\n", times[i], o->seconds[i]);
-}
-
-static void put_unreduced_json(struct buffer *b, const struct order *o, const size_t *size, size_t known)
-{
-    putf(b, "{\"reduced\": false,\n \"reason\": ");
-    put_string(b, o->beyond, strlen(o->beyond));
-    putf(b, ",\n \"bytes\": %zu, \"statements\": %zu, \"rules\": %zu,\n ", size[0], size[1], size[2]);
-    if (known > 3)
-        putf(b, "\"table\": {\"atoms\": %zu, \"clauses\": %zu, \"words\": %zu},\n ", size[3], size[4], size[5]);
-    put_notes(b, o);
-    putf(b, "}\n");
-}
-
-void put_unreduced(struct order *o, int json)
-{
-    static const char *const what[] = {"bytes", "statements", "rules", "atoms", "clauses", "words"};
-    const size_t size[] = {o->length, o->count, o->rules, o->size[0], o->size[1], o->size[2]};
-    size_t known = o->size[2] ? 6 : 3; /* those of a table only where it is over the limits */
-    if (json) {
-        put_unreduced_json(&o->statistics, o, size, known);
-        return;
-    }
-    putf(&o->statistics, "%-16s %8s\n", "reduced", "no");
-    for (size_t i = 0; i < known; i++)
-        putf(&o->statistics, "%-16s %8zu\n", what[i], size[i]);
 }

@@ -1,12 +1,14 @@
 /*
- * steps.c - the list of steps: written a line a step, as document 01's program prints it, read back in that form or, by
- * objects.c, as JSON, and checked by the library.
+ * steps.c - the list of steps as a certificate: written a line a step, as document 01's program prints it, or as JSON with
+ * an object a line; and read back in either form, to have the library check it.
  */
-#include "steps.h"
+#include "shell.h"
 
 #include <stdio.h>
 #include <stdlib.h>
 #include <string.h>
+
+/* ---- Writing ---- */
 
 void put_steps(struct buffer *b, const struct order *o)
 {
@@ -15,147 +17,105 @@ void put_steps(struct buffer *b, const struct order *o)
         putf(b, "step=%u,%u,%u,%u\n", step[0], step[1], step[2], step[3]);
 }
 
-/* ---- What both forms share ---- */
-
-int refuse_line(struct order *o, size_t line, const char *why)
+/* A text as a string of JSON. */
+static void put_string(struct buffer *b, const char *text, size_t len)
 {
-    return refuse_list(o, "list, line %zu: %s; " STEPS_AS_WRITTEN, line, why);
-}
-
-int is_sha256(const char *c)
-{
-    return strspn(c, "0123456789abcdef") == 64;
-}
-
-int is_version(const char *c, size_t len)
-{
-    return len > 0 && len < sizeof((struct head *)0)->library &&
-           strspn(c, "0123456789.abcdefghijklmnopqrstuvwxyz+~-") >= len;
-}
-
-enum output find_form(const char *name, size_t len)
-{
-    int form = 0;
-    while (form < OUTPUTS && !(strlen(output_names[form]) == len && memcmp(output_names[form], name, len) == 0))
-        form++;
-    return (enum output)form;
-}
-
-int refuse_version(struct order *o, size_t line, uint64_t version)
-{
-    return refuse_list(o, "list, line %zu: it is a certificate of form %llu; form 1 is known", line,
-                       (unsigned long long)version);
-}
-
-int keep_number(struct order *o, size_t line, size_t at, uint64_t number)
-{
-    if (number > UINT16_MAX)
-        return refuse_line(o, line, "a number is over 65535");
-    o->list[at] = (uint16_t)number;
-    return 0;
-}
-
-/* ---- Reading the text form ---- */
-
-/* Takes a text, if it stands there. */
-static int take(const char **c, const char *text)
-{
-    size_t len = strlen(text);
-    int there = strncmp(*c, text, len) == 0;
-    *c += there ? len : 0;
-    return there;
-}
-
-/* Takes a number of at most 15 digits, without zeros in front. */
-static int take_number(const char **c, uint64_t *number)
-{
-    size_t digits = strspn(*c, "0123456789");
-    if (digits == 0 || digits > 15 || (digits > 1 && **c == '0'))
-        return 0;
-    *number = strtoull(*c, NULL, 10);
-    *c += digits;
-    return 1;
-}
-
-/* Takes a size and a digest. */
-static int take_digest(const char **c, struct digest *d)
-{
-    if (!take_number(c, &d->bytes) || !take(c, ",") || !is_sha256(*c))
-        return 0;
-    memcpy(d->sha256, *c, 64);
-    *c += 64;
-    return 1;
-}
-
-/* Reads the four lines of a head, if they are there. */
-static int read_head(struct order *o, const char **c)
-{
-    struct head *h = &o->head;
-    uint64_t version;
-    size_t len;
-    o->first_line = 1;
-    if (!take(c, "certificate="))
-        return 0;
-    if (!take_number(c, &version) || !take(c, "\n"))
-        return refuse_line(o, 1, "not the form of the certificate, a number");
-    if (version != 1)
-        return refuse_version(o, 1, version);
-    if (!take(c, "library=") || !is_version(*c, len = strcspn(*c, "\n")))
-        return refuse_line(o, 2, "not library= and a version");
-    memcpy(h->library, *c, len);
-    *c += len;
-    if (!take(c, "\n") || !take(c, "input=") || !take_digest(c, &h->input) || !take(c, "\n"))
-        return refuse_line(o, 3, "not input=, a size and a sha256");
-    h->form = OUTPUTS;
-    if (take(c, "output=")) {
-        h->form = find_form(*c, len = strcspn(*c, ",\n"));
-        *c += len;
+    put(b, "\"", 1);
+    for (size_t i = 0; i < len; i++) {
+        if (text[i] == '"' || text[i] == '\\')
+            put(b, "\\", 1);
+        if ((unsigned char)text[i] < 32)
+            putf(b, "\\u%04x", (unsigned)text[i]);
+        else
+            put(b, text + i, 1);
     }
-    if (h->form == OUTPUTS || !take(c, ",") || !take_digest(c, &h->output) || !take(c, "\n"))
-        return refuse_line(o, 4, "not output=, aspif, text, lp, models or unreduced, a size and a sha256");
-    h->there = 1;
-    h->input_line = 3;
-    h->output_line = 4;
-    o->first_line = 5;
-    return 0;
+    put(b, "\"", 1);
 }
 
-/* Reads one step. */
-static int read_step(struct order *o, const char **c, size_t line)
+/* The rule that a clause comes from, by its number from 0 and its line; null for a guard. */
+static void put_origin(struct buffer *b, const struct order *o, const char *prefix, size_t clause)
 {
-    uint64_t number[4];
-    int there = 1;
-    for (int i = 0; i < 4; i++)
-        there = there && take(c, i ? "," : "step=") && take_number(c, &number[i]);
-    if (!there || !take(c, "\n"))
-        return refuse_line(o, line, "not a step of four numbers");
-    for (size_t i = 0; i < 4; i++)
-        if (keep_number(o, line, 4 * o->steps + i, number[i]))
-            return -1;
-    return 0;
+    const struct statement *s = o->of[clause] == NO_RULE ? NULL : statement_at(o, o->of[clause]);
+    if (s)
+        putf(b, ", \"%srule\": %zu, \"%sline\": %zu", prefix, s->number, prefix, s->line);
+    else
+        putf(b, ", \"%srule\": null", prefix);
 }
 
-static int read_text_list(struct order *o)
+void put_objects(struct buffer *b, const struct order *o)
+{
+    for (const uint16_t *step = o->list; step < o->list + 4 * o->steps; step += 4) {
+        int no_atom = step[0] == GAMBROLT_BLOCKED || step[0] == GAMBROLT_SUBSUMED;
+        putf(b, "%s\n {\"step\": [%u, %u, %u, %u], \"kind\": \"%s\"", step == o->list ? "" : ",", step[0], step[1], step[2],
+             step[3], gambrolt_kind_name(step[0]));
+        put_origin(b, o, "", step[1]);
+        if (no_atom || step[0] == GAMBROLT_SUCCESS)
+            put_origin(b, o, "partner_", step[2]);
+        if (!no_atom) {
+            uint32_t atom = o->program.atom[step[3]];
+            struct buffer name = {0};
+            put_literal(&name, o, "", atom, "");
+            putf(b, ", \"atom\": %u, \"name\": ", atom - o->shift);
+            put_string(b, name.at, name.len);
+            free(name.at);
+        }
+        putf(b, "}");
+    }
+}
+
+void put_steps_json(struct buffer *b, const struct order *o)
+{
+    putf(b, "{\"steps\": %zu, \"list\": [", o->steps);
+    put_objects(b, o);
+    putf(b, "]}\n");
+}
+
+/* ---- Reading back ---- */
+
+static int refuse_line(struct order *o, size_t line, const char *why)
+{
+    return refuse(o, "list, line %zu: %s; give it as --steps=FILE wrote it", line, why);
+}
+
+/* Reads numbers of at most five digits, joined by commas with or without a blank. Returns where they end, or NULL. */
+static const char *read_numbers(const char *c, unsigned long *number, int count)
+{
+    for (int i = 0; c && i < count; i++) {
+        size_t digits = strspn(c, "0123456789");
+        number[i] = strtoul(c, NULL, 10);
+        c = digits == 0 || digits > 5 ? NULL : c + digits;
+        if (c && i + 1 < count)
+            c = *c == ',' ? c + 1 + (c[1] == ' ') : NULL;
+    }
+    return c;
+}
+
+/* Reads the list into o->list and o->steps. */
+static int read_steps(struct order *o)
 {
     const char *c = o->given.at, *end = c + o->given.len;
-    uint64_t count;
-    if (read_head(o, &c))
-        return -1;
-    if (!take(&c, "steps=") || !take_number(&c, &count) || !take(&c, "\n") || count > MOST_STEPS)
-        return refuse_line(o, o->first_line, "not the number of steps, at most 8190");
-    o->first_line++;
-    for (o->steps = 0; o->steps < count; o->steps++)
-        if (read_step(o, &c, o->first_line + o->steps))
-            return -1;
-    return c == end ? 0 : refuse_line(o, o->first_line + o->steps, "more than the number of steps");
+    int json = *c == '{';
+    const char *first = json ? "{\"steps\": " : "steps=", *each = json ? " {\"step\": [" : "step=";
+    unsigned long count, number[4];
+    size_t line = 1;
+    c = strncmp(c, first, strlen(first)) == 0 ? read_numbers(c + strlen(first), &count, 1) : NULL;
+    if (!c || (json ? strncmp(c, ", \"list\": [", 11) != 0 : *c != '\n') || count > GAMBROLT_MAX_LIST / 4)
+        return refuse_line(o, 1, "not the number of steps, at most 8190");
+    for (o->steps = 0; o->steps < count; o->steps++) {
+        c += strcspn(c, "\n");
+        c += *c == '\n';
+        line++;
+        c = strncmp(c, each, strlen(each)) == 0 ? read_numbers(c + strlen(each), number, 4) : NULL;
+        if (!c || *c != (json ? ']' : '\n'))
+            return refuse_line(o, line, "not a step of four numbers");
+        for (int i = 0; i < 4; i++)
+            if ((o->list[4 * o->steps + (size_t)i] = (uint16_t)number[i]) != number[i])
+                return refuse_line(o, line, "a number is over 65535");
+    }
+    c += strcspn(c, "\n");
+    c += *c == '\n';
+    return c == end ? 0 : refuse_line(o, line + 1, "more than the number of steps");
 }
-
-int read_list(struct order *o)
-{
-    return o->given.at[strspn(o->given.at, " \t\n\r")] == '{' ? read_objects(o) : read_text_list(o);
-}
-
-/* ---- Checking ---- */
 
 size_t usable_steps(const struct order *o)
 {
@@ -165,16 +125,16 @@ size_t usable_steps(const struct order *o)
     return step;
 }
 
-int refuse_step(struct order *o, size_t place, const char *why)
+static int refuse_step(struct order *o, size_t place, const char *why)
 {
     const uint16_t *step = o->list + 4 * place;
-    size_t line = o->told.len ? object_line(o, place) : o->first_line + place;
-    return refuse_list(o, "list, line %zu: step %zu, %u,%u,%u,%u: %s%s", line, place, step[0], step[1], step[2], step[3], why,
-                       other_version(o));
+    return refuse(o, "list, line %zu: step %zu, %u,%u,%u,%u: %s", place + 2, place, step[0], step[1], step[2], step[3], why);
 }
 
 int check_steps(struct order *o)
 {
+    if (read_steps(o))
+        return -1;
     uint64_t answer = gambrolt_check(o->table, o->words, o->marks, o->words, o->list, 4 * o->steps);
     unsigned number = gambrolt_refusal(answer);
     size_t place = gambrolt_value(answer), usable = usable_steps(o);
@@ -186,5 +146,6 @@ int check_steps(struct order *o)
     if (usable < o->steps)
         return refuse_step(o, usable, "no atom may be excluded here: a rule, an external or a theory beside the table may "
                            "derive or set it");
+    putf(&o->output, "yes: the list's %zu steps keep the stable models\n", o->steps);
     return 0;
 }

@@ -6,9 +6,7 @@
 #include <stdlib.h>
 #include <string.h>
 
-#define NO_ATOM 0 /* a number that no atom of aspif has */
-
-void reserve(struct buffer *b, size_t len)
+void put(struct buffer *b, const void *bytes, size_t len)
 {
     size_t room = b->room ? b->room : 64;
     while (room - b->len <= len)
@@ -20,11 +18,6 @@ void reserve(struct buffer *b, size_t len)
         fputs("gambrolt: out of memory\n", stderr);
         exit(2);
     }
-}
-
-void put(struct buffer *b, const void *bytes, size_t len)
-{
-    reserve(b, len);
     if (len)
         memcpy(b->at + b->len, bytes, len);
     b->len += len;
@@ -101,28 +94,27 @@ static int has_place(const struct order *o, size_t clause)
 }
 
 /* How many clauses of the table a rule has. */
-static size_t clauses_of(const struct statement *s, enum role role)
+static size_t clauses_of(const struct order *o, const struct statement *s)
 {
-    return role == CLAUSE ? 1 : role == CHOICE ? rule_of(s).heads : 0;
+    return s->role == CLAUSE ? 1 : s->role == CHOICE ? rule_of(o, s).heads : 0;
 }
 
 void put_aspif(struct order *o)
 {
-    struct statement s = {0};
+    const struct statement *s;
     uint32_t head[GAMBROLT_MAX_ATOMS];
-    size_t c = 0;
     putf(&o->output, "asp 1 0 0\n");
-    while (next_statement(o, &s)) {
-        enum role role = role_of(o, &s);
-        if (role == LED_ROUND)
-            putf(&o->output, "1 0 1 %d 0 0\n", rule_of(&s).head[0]);
-        else if (role < LED_ROUND) {
-            put(&o->output, s.bytes.at, s.bytes.len);
+    for (size_t k = 0; (s = statement_at(o, k)); k++) {
+        if (s->kind == RULE && s->role == LED_ROUND)
+            putf(&o->output, "1 0 1 %d 0 0\n", rule_of(o, s).head[0]);
+        else if (s->kind != RULE || s->role == CARRIED) {
+            put(&o->output, s->bytes.at, s->bytes.len);
             put(&o->output, "\n", 1);
         }
-        for (size_t end = c + clauses_of(&s, role); c < end; c++)
+        for (size_t c = s->clause; s->kind == RULE && c < s->clause + clauses_of(o, s); c++)
             if (has_place(o, c))
-                put_parts(&o->output, is_choice(o, c), head, heads_of(o, c, 1, head), o->reduced + o->left[c], o->program.atom);
+                put_parts(&o->output, s->role == CHOICE, head, heads_of(o, c, 1, head), o->reduced + o->left[c],
+                          o->program.atom);
     }
     putf(&o->output, "0\n");
 }
@@ -134,9 +126,8 @@ void put_literal(struct buffer *b, const struct order *o, const char *before, in
     uint32_t number = (uint32_t)(literal < 0 ? -literal : literal);
     const struct atom *a = atom_of(o, number);
     putf(b, "%s%s", before, literal < 0 ? "not " : "");
-    struct span name = a && !a->parted ? name_of(o, a) : (struct span){0};
-    if (name.len) {
-        put(b, name.at, name.len);
+    if (a && a->name.at) {
+        put(b, a->name.at, a->name.len);
     } else {
         for (int xs = 0; xs == 0 || o->taken >> xs & 1; xs++)
             put(b, "x", 1);
@@ -222,7 +213,7 @@ static void put_statement(struct buffer *b, const struct order *o, const struct 
 {
     static const char *const modifier[] = {"level", "sign", "factor", "init", "true", "false"};
     static const char *const value[] = {"free", "true", "false", "release"};
-    const int32_t *n = s->numbers;
+    const int32_t *n = numbers_of(o, s);
     switch (s->kind) {
     case MINIMIZE:
         put_minimize(b, o, n, term);
@@ -260,67 +251,44 @@ static void put_statement(struct buffer *b, const struct order *o, const struct 
     }
 }
 
-/* Keeps an atom of a minimize or project statement, unless a rule is sure to derive it: one that the reducer left. */
-static void put_kept_atom(struct order *o, uint32_t number, int sure)
-{
-    struct atom *a = atom_of(o, number);
-    if (a->given || a->external || (a->derived && sure))
-        return;
-    put_literal(&o->output, o, "#external ", number, ".\n");
-    a->external = 1;
-}
-
 /*
  * gringo drops what it finds no rule for, and statements about it with it. So that they stay, the atoms of minimize and
- * project statements are made externals that are false. Where a program is projected on no atom, it is on one more.
+ * project statements are made externals that are false, unless a rule is sure to derive them: one that the reducer left.
  */
 static void put_kept(struct order *o, int sure)
 {
-    struct statement s = {0};
-    size_t projected = 0, projections = 0;
-    while (next_statement(o, &s)) {
-        const int32_t *n = s.numbers;
-        int32_t count = s.kind == MINIMIZE ? n[1] : s.kind == PROJECT ? n[0] : 0;
-        for (int32_t i = 0; i < count; i++)
-            put_kept_atom(o, (uint32_t)abs(s.kind == MINIMIZE ? n[2 + 2 * i] : n[1 + i]), sure);
-        projections += s.kind == PROJECT;
-        projected += s.kind == PROJECT ? (size_t)count : 0;
-    }
-    if (projections && !projected) {
-        put_literal(&o->output, o, "#external ", NO_ATOM, ".\n");
-        put_literal(&o->output, o, "#project ", NO_ATOM, ".\n");
-    }
-}
-
-/* The rules that are left. */
-static void put_lp_rules(struct order *o)
-{
-    struct statement s = {0};
-    size_t c = 0;
-    while (next_statement(o, &s)) {
-        enum role role = role_of(o, &s);
-        if (role == CARRIED || role == LED_ROUND) {
-            struct rule r = rule_of(&s);
-            put_carried(&o->output, o, &r);
+    const struct statement *s;
+    for (size_t k = 0; (s = statement_at(o, k)); k++) {
+        const int32_t *n = numbers_of(o, s);
+        int32_t count = s->kind == MINIMIZE ? n[1] : s->kind == PROJECT ? n[0] : 0;
+        for (int32_t i = 0; i < count; i++) {
+            struct atom *a = atom_of(o, (uint32_t)abs(s->kind == MINIMIZE ? n[2 + 2 * i] : n[1 + i]));
+            if (a->given || a->external || (a->derived && sure))
+                continue;
+            put_literal(&o->output, o, "#external ", a->number, ".\n");
+            a->external = 1;
         }
-        for (size_t end = c + clauses_of(&s, role); c < end; c++)
-            if (has_place(o, c)) {
-                put_clause(&o->output, o, c, SIZE_MAX);
-                putf(&o->output, "\n");
-            }
     }
 }
 
 void put_lp(struct order *o, int reduced)
 {
-    struct statement s = {0};
+    const struct statement *s;
     int term = 0;
-    part_signs(o, 1);
-    put_lp_rules(o);
+    for (size_t k = 0; (s = statement_at(o, k)); k++) {
+        if (s->kind == RULE && s->role < CLAUSE) {
+            struct rule r = rule_of(o, s);
+            put_carried(&o->output, o, &r);
+        }
+        for (size_t c = s->clause; s->kind == RULE && c < s->clause + clauses_of(o, s); c++)
+            if (has_place(o, c)) {
+                put_clause(&o->output, o, c, SIZE_MAX);
+                putf(&o->output, "\n");
+            }
+    }
     putf(&o->output, "#show.\n");
     put_kept(o, reduced && !o->carried);
-    while (next_statement(o, &s))
-        if (s.kind != RULE && !(s.kind == OUTPUT && s.name.len == 0)) /* gringo has no empty term */
-            put_statement(&o->output, o, &s, &term);
-    part_signs(o, 0);
+    for (size_t k = 0; (s = statement_at(o, k)); k++)
+        if (s->kind != RULE && !(s->kind == OUTPUT && s->name.len == 0)) /* gringo has no empty term */
+            put_statement(&o->output, o, s, &term);
 }

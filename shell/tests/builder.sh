@@ -1,2 +1,2 @@
-# builder.sh - gambrolt_program.h as another C program uses it.
+# builder.sh - program.h as another C program uses it.
 expect "the builder's table" build/sanitized/builder

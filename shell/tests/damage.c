@@ -8,82 +8,12 @@
 
 static size_t runs, refusals;
 
-/* ---- An input that is checked while it is copied ---- */
-
-struct copying {
-    const char *at, *end;
-    struct buffer copied;
-    int fail_at; /* the call that fails, or 0 */
-};
-
-static int64_t more(void *context, char *room, size_t len)
-{
-    struct copying *c = context;
-    size_t rest = (size_t)(c->end - c->at), count = rest < 3 ? rest : 3;
-    if (c->fail_at && --c->fail_at == 0)
-        return -1;
-    count = count < len ? count : len;
-    memcpy(room, c->at, count);
-    c->at += count;
-    return (int64_t)count;
-}
-
-static int copy(void *context, const char *bytes, size_t len)
-{
-    struct copying *c = context;
-    put(&c->copied, bytes, len);
-    return c->fail_at && --c->fail_at == 0 ? -1 : 0;
-}
-
-/* Whether the input is taken or refused in the same words as when it is kept, and what is taken copied whole. */
-static int same_copied(const char *bytes, size_t len)
-{
-    static struct order kept, checked;
-    struct copying c = {.at = bytes, .end = bytes + len};
-    struct source source = {more, copy, &c};
-    give(&kept.bytes, bytes, len);
-    int answer = read_aspif(&kept), other = check_aspif(&checked, &source);
-    int header = strncmp(kept.fault, "line 1: header", 14) == 0; /* what it looks like is found in the window alone */
-    int same = answer == other && (strcmp(kept.fault, checked.fault) == 0 || header);
-    put(&c.copied, "", 0);
-    same &= (answer ? c.copied.len < len || len == 0 : c.copied.len == len) && memcmp(c.copied.at, bytes, c.copied.len) == 0;
-    free(c.copied.at);
-    reset(&kept);
-    reset(&checked);
-    return same;
-}
-
-/* Whether a call that fails ends the copying without a fault, wherever it fails. */
-static int fails_silently(const char *bytes, size_t len)
-{
-    static struct order o;
-    int silent = 1;
-    for (int call = 1; call < 40; call++) {
-        struct copying c = {.at = bytes, .end = bytes + len, .fail_at = call};
-        struct source source = {more, copy, &c};
-        int answer = check_aspif(&o, &source);
-        silent &= c.fail_at > 0 || (answer == -1 && o.fault[0] == 0);
-        free(c.copied.at);
-        reset(&o);
-    }
-    if (!silent)
-        fprintf(stderr, "damage.c: a fault, or none, where a call failed\n");
-    return silent;
-}
-
-/* ---- Damage ---- */
-
 static void try(const char *bytes, size_t len)
 {
     static struct order order;
     int refused = try_every(&order, bytes, len);
     if (refused < 0) {
         fprintf(stderr, "damage.c: output of %zu bytes, fault `%s` for:\n", order.output.len, order.fault);
-        fwrite(bytes, 1, len, stderr);
-        exit(1);
-    }
-    if (!same_copied(bytes, len)) {
-        fprintf(stderr, "damage.c: otherwise where it is copied:\n");
         fwrite(bytes, 1, len, stderr);
         exit(1);
     }
@@ -127,8 +57,6 @@ static void damage(const struct buffer *whole)
                                          "2147483647", "4294967295", "\xff", "1 0 1 1 0 0\n", "0\n"};
     size_t stride = 1 + whole->len / 110; /* of a long file not every place */
     try(whole->at, whole->len);
-    if (!fails_silently(whole->at, whole->len))
-        exit(1);
     try_carriage_returns(whole);
     try_replaced(whole, 0, 0, "\0", 1);
     for (size_t at = 0; at < whole->len; at += stride) {

@@ -6,14 +6,8 @@ printf 'asp 1 0 0 incremental\n1 1 1 1 0 0\n5 2 0\n0\n1 0 1 3 1 1 2 1 1 2 1\n0\n
 printf 'a;b.\nc:-a,b,not d.\nd:-d,not c.\n{e;f}:-not g.\ng:-2<=#sum{1:e;1:f}.\n:-not c.\n' >"$tmp/rules.txt"
 printf 'f(1,"x);y\\\\"");b.\n-c(a):-f(1,"x);y\\\\""),b,not _d.\n#delayed(1).\n#p_c(#b(a),#p):-f.\n' >"$tmp/quoted.txt"
 printf 'steps=2\nstep=1,2,0,3\nstep=4,1,0,3\n' >"$tmp/list.txt"
-# lists of the sound order that they are tried on, with their heads
-# shellcheck disable=SC2059
-printf "$(sed -n 's/^ *"\(asp 1 0 0.*\)";$/\1/p' shell/tests/every.h)" >"$tmp/sound.aspif"
-build/gambrolt "--steps=$tmp/head.txt" --dry-run "$tmp/sound.aspif"
-build/gambrolt "--steps=$tmp/head.json" --dry-run "$tmp/sound.aspif"
-expect "lists of a sound order" [ -s "$tmp/head.json" ]
-printf '{"list": [{"kind": "tautolog\\u0079", "rule": 2, "line": 4, "partner_rule": null,\n "atom": 4, "name": "x_4", "step": [1, 2.0, 0e7, 30e-1]}], "steps": 1}\n' >"$tmp/list.json"
+printf '{"steps": 1, "list": [\n {"step": [1, 2, 0, 3], "kind": "tautology", "rule": 2}]}\n' >"$tmp/list.json"
 expect "damaged input" sh -c '"$@" >"$0"' "$tmp/out" build/sanitized/damage "$tmp/shown.aspif" "$tmp/never.aspif" "$tmp/kinds.aspif" \
     "$tmp/pack-cost.aspif" "$tmp/mixed.aspif" "$tmp/externals.aspif" "$tmp/theory.aspif" "$tmp/steps.aspif" "$tmp/rules.txt" "$tmp/quoted.txt" \
-    "$tmp/list.txt" "$tmp/list.json" "$tmp/head.txt" "$tmp/head.json" examples/document-01.txt examples/easy.txt
+    "$tmp/list.txt" "$tmp/list.json" examples/document-01.txt examples/easy.txt
 cat "$tmp/out"

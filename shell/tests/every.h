@@ -11,7 +11,6 @@ static const struct options every[] = {
     {.explain = 1, .stats = 1, .list = 1},
     {.to_lp = 1, .stats = 1, .json = 1, .list = 1, .list_json = 1},
     {.no_reduce = 1, .pass_through = 1},
-    {.stats = 1, .json = 1},
     {.text = 1, .steps = 1},
     {.models = 1},
     {.text = 1, .models = 1}};
@@ -19,14 +18,13 @@ static const struct options every[] = {
 /* A sound order, to be read with names from anything, and checked with any list. */
 static const char sound[] =
     "asp 1 0 0\n1 0 2 1 2 0 0\n1 0 1 3 0 3 1 2 -4\n1 0 1 4 0 2 4 -3\n1 1 2 5 6 0 1 -7\n1 0 1 7 1 2 2 5 1 6 1\n1 0 0 0 1 -3\n4 1 b 1 2\n0\n";
-static const struct options named = {.to_lp = 1, .explain = 1, .names = 1};
-static const struct options given[] = {{.check = 1}, {.check = 1, .result = 1}, {.apply = 1, .list = 1, .list_json = 1, .explain = 1}};
+static const struct options named = {.to_lp = 1, .explain = 1, .names = 1}, checked = {.check = 1};
 
 /* Makes the order all zeros again. */
 static void reset(struct order *o)
 {
-    struct buffer *const all[] = {&o->bytes, &o->ground, &o->output, &o->explanation, &o->notes, &o->names, &o->numbers, &o->given,
-                                  &o->statistics, &o->certificate, &o->atoms, &o->chains, &o->result, &o->told, &o->sentences};
+    struct buffer *const all[] = {&o->bytes, &o->ground, &o->output, &o->explanation, &o->notes, &o->statements, &o->numbers, &o->given,
+                                  &o->statistics, &o->certificate, &o->atoms, &o->slots};
     for (size_t i = 0; i < sizeof all / sizeof *all; i++)
         free(all[i]->at);
     memset(o, 0, sizeof *o);
@@ -48,26 +46,6 @@ static int is_told(const char *fault)
     return strncmp(fault, "line ", 5) == 0 || strstr(fault, " atoms besides lone facts are left after the reduction") != NULL;
 }
 
-static int is_refused(const char *fault)
-{
-    return strncmp(fault, "list, line ", 11) == 0 || strncmp(fault, "result, line ", 13) == 0;
-}
-
-/* Whether something else happens to these bytes as a list, and as a list and its result, than that they are taken or refused. */
-static int try_given(struct order *o, const char *bytes, size_t len)
-{
-    for (size_t i = 0; i < sizeof given / sizeof *given; i++) {
-        give(&o->bytes, sound, sizeof sound - 1);
-        give(&o->given, bytes, len);
-        if (given[i].result)
-            give(&o->result, bytes, len);
-        if (run(o, &given[i]) ? o->output.len > 0 || !o->list_refused || !is_refused(o->fault) : o->output.len == 0)
-            return -1;
-        reset(o);
-    }
-    return 0;
-}
-
 /* The number of forms that are refused, or -1 where something else happens. The order `o`, all zeros, is used for all. */
 static int try_every(struct order *o, const char *bytes, size_t len)
 {
@@ -82,8 +60,13 @@ static int try_every(struct order *o, const char *bytes, size_t len)
     }
     give(&o->bytes, sound, sizeof sound - 1);
     give(&o->ground, bytes, len);
-    if (run(o, &named) && strncmp(o->fault, "names, line ", 12) != 0)
+    if (run(o, &named))
         return -1;
     reset(o);
-    return try_given(o, bytes, len) ? -1 : refused;
+    give(&o->bytes, sound, sizeof sound - 1);
+    give(&o->given, bytes, len);
+    if (run(o, &checked) ? o->output.len > 0 || strncmp(o->fault, "list, line ", 11) != 0 : o->output.len == 0)
+        return -1;
+    reset(o);
+    return refused;
 }

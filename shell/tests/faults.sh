@@ -84,7 +84,7 @@ gringo "$tmp/order.lp" | build/gambrolt --to-lp "--names=$tmp/text" >"$tmp/out" 
 expect "names beside anonymous variables: no note" [ ! -s "$tmp/err" ]
 expect "names beside anonymous variables" sh -c 'grep -qF "fits(2,7)." "$0" && grep -q "^any :- not x_[0-9]*\.$" "$0"' "$tmp/out"
 
-# 6: reading takes time in proportion to what is read, up to full size: four times as many words take less than six times as long (the best
+# 6: reading takes time in proportion to what is read, up to full size: four times as many words take less than four times as long (the best
 # of ten runs each, in microseconds)
 order() {
     awk -v most="$1" 'BEGIN {
@@ -108,4 +108,4 @@ reading() {
     done | awk '{ read = $1 * 1e6 } NR == 1 || read < best { best = read } END { print NR, best }'
 }
 echo "$(reading 2045) $(reading 8180)" >"$tmp/times"
-expect "four times as much is read in less than six times as long: $(cat "$tmp/times")" awk '{ exit !($1 == 10 && $3 == 10 && $4 < 6 * $2) }' "$tmp/times"
+expect "four times as much is read in less than four times as long: $(cat "$tmp/times")" awk '{ exit !($1 == 10 && $3 == 10 && $4 < 4 * $2) }' "$tmp/times"

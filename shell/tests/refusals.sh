@@ -41,13 +41,11 @@ refused "a header alone" "" "line 1: header"
 printf 'asp 2 0 0\n0\n' >"$tmp/in"
 refused "another version" "" "line 1: header"
 printf 'asp 1 0 0 incremental\n0\n' >"$tmp/in"
-refused "several steps" --strict "line 1: header: programs in several steps are not reduced" "without --strict"
+refused "several steps" "" "line 1: header: programs in several steps are not reduced" "--pass-through"
 printf 'asp 1 0 0 incrementals\n0\n' >"$tmp/in"
 refused "an unknown tag" "" "line 1: header: "
 printf 'asp 1 0 0 incremental\n0\n1 0 1 1x 0 0\n0\n' >"$tmp/in"
-for options in "" --pass-through --strict; do
-    refused "a fault in the second step" "$options" "line 3: rule: \`1x\` where an atom"
-done
+refused "a fault in the second step" --pass-through "line 3: rule: \`1x\` where an atom"
 printf 'asp 1 0 0 incremental\n0\n1 0 1 1 0 0\n' >"$tmp/in"
 refused "a second step without end" --pass-through "line 4: statement: the input ends"
 printf 'asp 1 0 0\r\n1 0 1 1 0 0\r\n0\r\n' >"$tmp/in"
@@ -74,24 +72,6 @@ bad "a huge number" '1 0 1 99999999999999999999999 0 0\n0\n' "line 2: rule: \`99
 bad "a huge count" '1 0 4294967295 1 0 0\n0\n' "line 2: rule: "
 bad "a count too large" '1 0 4294967296 1 0 0\n0\n' "line 2: rule: \`4294967296\` where a count"
 bad "a zero byte" '1 0 1 1 \0000 0\n0\n' "line 2: rule: a zero byte where the body's type"
-bad "a zero byte behind a number" '1 0 1 1\0000 0 0\n0\n' "line 2: rule: a zero byte where an atom"
-bad "a zero byte between statements" '1 0 1 1 0 0\n\00010 x\n0\n' "line 3: statement: a zero byte where its kind"
-bad "a zero byte in a name" '4 4 a\n\000b 0\n0\n' "line 3: output statement: a zero byte in the name"
-bad "a zero byte behind a name" '4 1 a\000 0\n0\n' "line 2: output statement: a zero byte where a space"
-bad "a zero byte in a symbol" '9 1 0 2 a\000\n0\n' "line 2: theory statement: a zero byte in the name"
-bad "a zero byte in a comment" '10 a\000b\n0\n' "line 2: comment: a zero byte in it"
-bad "a zero byte at the end of a line" '1 0 1 1 0 0\000\n0\n' "line 2: rule: a zero byte where"
-bad "a zero byte in the last line" '1 0 1 1 0 0\n0\000' "line 3: statement: a zero byte where"
-bad "a zero byte behind the end" '0\n\n\000\n' "line 4: after the end of the program: a zero byte"
-printf '\000asp 1 0 0\n0\n' >"$tmp/in"
-refused "a zero byte in front" "" "line 1: header: a zero byte"
-printf 'asp 1 0 0\000\n0\n' >"$tmp/in"
-refused "a zero byte in the header" "" "line 1: header: a zero byte"
-for given in '-0' '1 -0 1 1 0 0' '1 0 -0 0 0' '1 0 1 1 -0 0' '1 0 1 1 0 -0' '1 0 1 -0 0 0' '1 0 1 1 0 1 -0' '1 0 1 1 1 -0 1 2 1' '1 0 1 1 1 1 1 2 -0' \
-    '2 -0 1 1 1' '2 0 1 1 -0' '3 -0' '4 -0  0' '4 1 a -0' '5 1 -0' '6 -0' '7 0 1 -0 1 0' '7 0 1 1 -0 0' '7 -0 1 1 1 0' '8 -0 1 0' '8 0 -0 0' \
-    '9 0 0 -0' '9 -0 0 1' '9 5 -0 0 0' '2 0 1 1 -00'; do
-    bad "-0 in $given" "$given\n0\n" "line 2: " "\`-0" " expected"
-done
 bad "a head of type 2" '1 2 1 1 0 0\n0\n' "line 2: rule: \`2\` where the head's type"
 bad "a body of type 2" '1 0 1 1 2 0\n0\n' "line 2: rule: \`2\` where the body's type"
 bad "a negative weight" '1 0 1 1 1 1 2 2 1 3 -1\n0\n' "line 2: rule: \`-1\` where a weight (0 to 2147483647)"
@@ -99,6 +79,7 @@ bad "a weight body without a bound" '1 0 1 1 1\n0\n' "line 2: rule: the line end
 bad "a weight body without weights" '1 0 1 1 1 1 1 2\n0\n' "line 2: rule: the line ends where a weight"
 bad "an external without a value" '5 1\n0\n' "line 2: external statement: the line ends where a value"
 bad "an external of no value" '5 1 4\n0\n' "line 2: external statement: \`4\` where a value (0 to 3)"
+bad "an external that a rule derives" '5 2 0\n1 1 1 1 0 0\n1 0 1 2 0 1 1\n0\n' "line 4: rule: it derives the external atom 2" "--pass-through"
 bad "a theory statement of no type" '9 7 1 5\n0\n' "line 2: theory statement: \`7\` where a theory statement's type"
 bad "a theory statement of type 3" '9 3 1 5\n0\n' "line 2: theory statement: there is no type 3"
 bad "a symbol too long" '9 1 0 9 abc\n0\n' "line 2: theory statement: the input ends inside the name"
@@ -115,56 +96,12 @@ bad "a project statement" '3 1 -1\n0\n' "line 2: project statement: \`-1\` where
 bad "an assume statement" '6 1\n0\n' "line 2: assume statement: the line ends where a literal"
 bad "a heuristic statement" '7 6 1 1 1 0\n0\n' "line 2: heuristic statement: \`6\` where a modifier"
 bad "an edge statement" '8 1 x 0\n0\n' "line 2: edge statement: \`x\` where a node"
-bad "bytes that no terminal should see" '1 0 1 \033[31m 0 0\n0\n' "line 2: rule: \`\\x1b[31m\`"
-bad "a control character of two bytes" '1 0 1 \302\233m 0 0\n0\n' "line 2: rule: \`\\xc2\\x9bm\`"
-bad "bytes that are no UTF-8" '1 0 1 a\233\377\300\200\355\240\200\364\220\200\200 0 0\n0\n' \
-    "line 2: rule: \`a\\x9b\\xff\\xc0\\x80\\xed\\xa0\\x80\\xf4\\x90\\x80\\x80\`"
-bad "letters of several bytes" '1 0 1 ü€𝄞 0 0\n0\n' "line 2: rule: \`ü€𝄞\`"
+bad "bytes that no terminal should see" '1 0 1 \033[31m 0 0\n0\n' "line 2: rule: \`?[31m\`"
 
-# handed WHAT FRAGMENT..: the program in $tmp/in goes on as it came, with one line that has every fragment; with -q with none.
-# Where something is promised of it, it is refused.
-handed() {
-    what=$1
-    shift
-    for program in build/gambrolt build/sanitized/gambrolt; do
-        for options in "" --pass-through --no-reduce --explain; do
-            # shellcheck disable=SC2086
-            $program $options <"$tmp/in" >"$tmp/out" 2>"$tmp/err"
-            status=$?
-            expect "$what, $options: status 0, not $status" [ "$status" -eq 0 ]
-            expect "$what, $options: as it came" same "$tmp/in" "$tmp/out"
-            expect "$what, $options: one line" [ "$(wc -l <"$tmp/err")" -eq 1 ]
-            for fragment in "gambrolt: " "; the program is handed on unreduced" "$@"; do
-                expect "$what, $options: \`$fragment\` in: $(cat "$tmp/err")" grep -qF -- "$fragment" "$tmp/err"
-            done
-        done
-        $program -q <"$tmp/in" >"$tmp/out" 2>"$tmp/err"
-        expect "$what, -q: as it came" same "$tmp/in" "$tmp/out"
-        expect "$what, -q: no line" [ ! -s "$tmp/err" ]
-    done
-    promised "$what" "$@"
-}
-
-# promised WHAT FRAGMENT..: what promises something of the program in $tmp/in refuses it.
-promised() {
-    program_is=$1
-    shift
-    rm -f "$tmp/list"
-    printf 'steps=1\nstep=6,0,0,1\n' >"$tmp/given"
-    for promise in --strict "--strict --quiet" "--steps=$tmp/list" "--steps $tmp/list" "--check=$tmp/given" "--apply=$tmp/given" --models --to-lp --to-text; do
-        refused "$program_is, $promise" "$promise" "$@"
-        expect "$program_is, $promise: no list" [ ! -e "$tmp/list" ]
-    done
-    refused "$program_is, --strict" --strict "; without --strict it is handed on unreduced"
-    refused "$program_is, --steps" "--steps=$tmp/list" "; --pass-through hands it on unreduced"
-}
-
-# over the limits: the line of the first rule too many; the last that may be is taken
+# over the limits: the line of the first rule too many, and --pass-through; the last that may be is taken
 atoms() { awk -v n="$1" 'BEGIN { print "asp 1 0 0"; for (i = 1; i <= n; i++) print "1 0 1 " i " 0 1 " i; print "0" }'; }
 choices() { awk -v n="$1" 'BEGIN { print "asp 1 0 0"; for (i = 1; i <= n; i++) print "1 1 1 " i " 0 1 -" (i > 1 ? i - 1 : n); print "0" }'; }
-guards() { # as many carried rules, whose heads are the body of a constraint
-    awk -v n="$1" 'BEGIN { printf "asp 1 0 0\n1 0 0 0 %d", n; for (i = 1; i <= n; i++) printf " %d", i; print ""; for (i = 1; i <= n; i++) print "1 0 1 " i " 1 1 1 " n + 1 " 1"; print "0" }'
-}
+guards() { awk -v n="$1" 'BEGIN { print "asp 1 0 0"; for (i = 1; i <= n; i++) print "1 0 1 " i " 1 1 1 " n + 1 " 1"; print "0" }'; }
 clauses() { awk -v n="$1" 'BEGIN { print "asp 1 0 0"; for (i = 1; i <= n; i++) print "1 0 0 0 " (i % 2 ? "0" : "1 " i / 2 % 9 + 1); print "0" }'; }
 words() { # 20 clauses of 3 + 400 words, one of 3 + n, and the two words in front: 8065 + n
     awk -v n="$1" 'BEGIN {
@@ -180,57 +117,38 @@ words() { # 20 clauses of 3 + 400 words, one of 3 + n, and the two words in fron
 }
 # name, as many as may be, how many one more is, the line of the first too many, the limit, what it is of
 for limit in atoms:1024:1025:1026:1024:atoms clauses:2048:2049:2050:2048:clauses words:127:8193:22:8192:words \
-    choices:512:1026:513:1024:atoms guards:512:1026:515:1024:atoms; do
-    IFS=: read -r name most count line number of <<END
+    choices:512:1026:513:1024:atoms guards:512:1026:514:1024:atoms; do
+    IFS=: read -r name most count line number what <<END
 $limit
 END
     "$name" $((most + 1)) >"$tmp/in"
-    handed "too many $name" "line $line: rule: " "$count $of, $((count - number)) over the limit of $number"
+    refused "too many $name" "" "gambrolt: line $line: rule: " "$count $what, $((count - number)) over the limit of $number" "--pass-through"
+    build/gambrolt --pass-through <"$tmp/in" >"$tmp/out" 2>"$tmp/err"
+    expect "too many $name: --pass-through" [ $? -eq 0 ]
+    expect "too many $name: the program as it came" same "$tmp/in" "$tmp/out"
+    expect "too many $name: it says so" grep -q "line $line: rule: .*handed on unreduced" "$tmp/err"
     "$name" "$most" >"$tmp/in"
     build/gambrolt --no-reduce <"$tmp/in" >"$tmp/out" 2>"$tmp/err"
     expect "as many $name as may be" same "$tmp/in" "$tmp/out"
 done
-# what is derived or set outside the table takes no room where no body of the table has it
-awk 'BEGIN { print "asp 1 0 0"; for (i = 1; i <= 3000; i++) print "1 0 1 " i " 1 1 1 5000 1"; for (i = 3001; i <= 4000; i++) print "5 " i " 0\n9 5 " i + 1000 " 0 0"
-    print "1 0 1 1 0 0\n1 0 1 2 0 2 4001 -3001\n1 0 1 6000 0 0\n1 0 1 2 0 2 -3001 4001\n0" }' >"$tmp/in"
-grep -v '^1 0 1 2 0 2 -3001' "$tmp/in" >"$tmp/want"
-for program in build/gambrolt build/sanitized/gambrolt; do
-    $program --stats <"$tmp/in" >"$tmp/out" 2>"$tmp/err"
-    expect "4,000 heads and externals that no body has: status 0" [ $? -eq 0 ]
-    expect "4,000 heads and externals that no body has" same "$tmp/want" "$tmp/out"
-    expect "4,000 heads and externals that no body has: their table" grep -q '^clauses  *4  *3$' "$tmp/err"
-done
 { atoms 1100; clauses 3000; } | sed '/^0/d; 2,$s/^asp.*/10 and/' >"$tmp/in"
 echo 0 >>"$tmp/in"
-handed "over two limits" "1100 atoms, 76 over the limit of 1024; 4100 clauses, 2052 over the limit of 2048; 16002 words, 7810 over"
-bytes=$(wc -c <"$tmp/in")
-cat >"$tmp/want" <<END
-{"reduced": false,
- "reason": "line 1026: rule: too much from here on: 1100 atoms, 76 over the limit of 1024; 4100 clauses, 2052 over the limit of 2048; 16002 words, 7810 over the limit of 8192",
- "bytes": $bytes, "statements": 4101, "rules": 4100,
- "table": {"atoms": 1100, "clauses": 4100, "words": 16002},
-END
-build/gambrolt --stats=json <"$tmp/in" 2>&1 >"$tmp/out" | head -4 >"$tmp/got"
-expect "over two limits: statistics" same "$tmp/want" "$tmp/got"
-printf 'reduced no\nbytes %s\nstatements 4101\nrules 4100\natoms 1100\nclauses 4100\nwords 16002\n' "$bytes" >"$tmp/want"
-build/gambrolt -q --stats --dry-run <"$tmp/in" 2>&1 | tr -s ' ' >"$tmp/got"
-expect "over two limits: figures" same "$tmp/want" "$tmp/got"
-for given in '1 0 2 1 2 0 1 7\n5 1 0' '1 0 1 1 0 1 -2\n5 1 2\n9 1 0 1 x' '5 1 0\n1 1 1 2 0 0\n1 0 1 1 0 1 2'; do
+refused "over two limits" "" "1100 atoms, 76 over the limit of 1024; 4100 clauses, 2052 over the limit of 2048; 16002 words, 7810 over"
+for given in '1 0 2 1 2 0 1 7\n5 1 0' '1 0 1 1 0 1 -2\n5 1 2\n9 1 0 1 x'; do
     # shellcheck disable=SC2059
     printf "asp 1 0 0\n$given\n0\n" >"$tmp/in"
-    handed "an external that a rule derives" ": rule: it derives the external atom 1"
     build/gambrolt --pass-through --stats=json "--steps=$tmp/list" <"$tmp/in" >"$tmp/out" 2>"$tmp/err"
-    expect "--pass-through with a list: as it came" same "$tmp/in" "$tmp/out"
-    expect "--pass-through with a list: the reason" grep -qx ' "reason": "line [24]: rule: it derives the external atom 1, .*",' "$tmp/err"
-    expect "--pass-through with a list: sizes" grep -qx ' "bytes": [0-9]*, "statements": [23], "rules": [12],' "$tmp/err"
-    expect "--pass-through with a list: no steps" grep -qx steps=0 "$tmp/list"
-    rm "$tmp/list"
+    expect "--pass-through, what can't be reduced: as it came" same "$tmp/in" "$tmp/out"
+    expect "--pass-through, what can't be reduced: a note" grep -q "external atom 1.*handed on unreduced" "$tmp/err"
+    expect "--pass-through, what can't be reduced: JSON" grep -qx '{"reduced": false}' "$tmp/err"
+    expect "--pass-through, what can't be reduced: no steps" [ "$(cat "$tmp/list")" = steps=0 ]
 done
 printf 'asp 1 0 0 incremental\n1 1 1 1 0 0\n4 1 a 1 1\n0\n1 0 1 2 0 1 1\n5 3 0\n0\n' >"$tmp/in"
-handed "several steps" "line 1: header: "
-build/gambrolt <"$tmp/in" >"$tmp/out" 2>"$tmp/err"
+build/gambrolt --pass-through <"$tmp/in" >"$tmp/out" 2>"$tmp/err"
+expect "--pass-through, several steps: as it came" same "$tmp/in" "$tmp/out"
+expect "--pass-through, several steps: a note" grep -q "line 1: header: .*handed on unreduced" "$tmp/err"
 models "$tmp/out" >"$tmp/models"
-expect "several steps: the solver takes them" [ "$(grep -c model "$tmp/models")" -eq 6 ]
+expect "--pass-through, several steps: the solver takes them" [ "$(grep -c model "$tmp/models")" -eq 6 ]
 printf '1 1 1 1 0 0\n' >"$tmp/in"
 refused "no aspif with --pass-through" --pass-through "line 1: header"
 
@@ -260,8 +178,4 @@ text "a last line that is not in form" 'atoms=3\nclauses=2\nhead=1,0\npos=\nneg=
 text "two numbers of atoms" 'atoms=1,1\nclauses=0\n' "line 1: text: " "refused=25,0"
 text "a line too many" 'atoms=0\nclauses=0\n\n' "line 3: text: " "refused=27,18"
 text "a line too many behind repeats" 'atoms=2\nclauses=1\nhead=1,0\npos=1,1\nneg=\n\n' "line 6: text: " "refused=27,40"
-text "a zero byte in a number" 'atoms=2\0000\nclauses=0\n' "line 1: text: " "refused=25,0"
-text "a zero byte in a list" 'atoms=2\nclauses=1\nhead=1\npos=0,\000\nneg=\n' "line 4: text: " "refused=25,"
-text "a zero byte behind the last line" 'atoms=0\nclauses=0\n\000' "line 3: text: " "refused=27,18"
-text "a zero byte in front" '\000atoms=0\nclauses=0\n' "line 1: text: " "refused=24,0"
 text "CRLF" 'atoms=2\r\nclauses=0\r\n' "line 1: text: " "refused=25,0"

@@ -5,9 +5,8 @@ set -u
 tmp=$(mktemp -d)
 trap 'rm -rf "$tmp"' EXIT
 . shell/tests/lib.sh
-unset MAKEFLAGS MFLAGS # a make that a test calls is no part of the one that calls the tests
 
-for part in builder refusals usage files stream selfcheck forms ordinary lp times memory faults certificate json examples random models excluded foreign damaged dist languages page; do
+for part in builder refusals usage selfcheck forms ordinary faults certificate examples random models excluded damaged dist page; do
     . "shell/tests/$part.sh"
 done
 

@@ -24,17 +24,12 @@ pub fn all(samples: usize) -> u64 {
     thread::scope(|scope| [(); 2].map(|()| scope.spawn(&work)).map(|worker| worker.join().unwrap()).iter().sum())
 }
 
-/// Small tables of a shape step by step; larger ones at some of their steps. Where atoms are excluded, tables are larger sooner: what
-/// every atom derives takes the literal implementation seconds a step.
+/// Small tables of a shape step by step; larger ones at some of their steps.
 fn reduced(shape: &Shape, samples: usize, tally: &mut Tally) {
     let (start, full) = (Instant::now(), shape.full);
     for size in [1, 2, 12, 40, 100] {
         let table = shape.table(size);
-        if size <= 40 || !excludes(&reducer_list(shape.name, &table).2) {
-            tally.reduce(&table, &vec![0; table.len()], &vec![0; 4 * table.len()]);
-        } else {
-            sampled(shape.name, &table, samples, tally);
-        }
+        tally.reduce(&table, &vec![0; table.len()], &vec![0; 4 * table.len()]);
         tally.cycle(&table);
     }
     for size in [full / 8, full / 3, full] {
@@ -48,28 +43,18 @@ fn reduced(shape: &Shape, samples: usize, tally: &mut Tally) {
     }
 }
 
-/// What the library's reducer gives for a table: its answer, the marks and the list.
-fn reducer_list(name: &str, table: &[u16]) -> (u64, Vec<u8>, Vec<u16>) {
-    let (answer, left, mut list) = library::reduce(table, &vec![7; table.len()], &vec![0; 32760]);
-    assert!(answer < 8190, "{name}: refused, {answer:x}");
-    list.truncate(4 * answer as usize);
-    (answer, left, list)
-}
-
-/// Whether a step of the list is of kind 9.
-fn excludes(list: &[u16]) -> bool {
-    list.chunks(4).any(|step| step[0] == 9)
-}
-
 /// The library takes its own list and no step more; at each sample the list's next step is the smallest that applies and is not
 /// passed over.
 fn sampled(name: &str, table: &[u16], samples: usize, tally: &mut Tally) -> usize {
     let fresh = vec![7; table.len()];
-    let (answer, left, list) = reducer_list(name, table);
+    let (answer, left, list) = library::reduce(table, &fresh, &vec![0; 32760]);
     let steps = answer as usize;
-    assert_eq!(library::check(table, &fresh, &list), (answer, left.clone()), "{name}: the reducer's list is not taken");
+    assert!(steps < 8190, "{name}: refused, {answer:x}");
+    let list = &list[..4 * steps];
+    assert_eq!(library::check(table, &fresh, list), (answer, left.clone()), "{name}: the reducer's list is not taken");
     let read = Table::read(table).unwrap();
-    let samples = if excludes(&list) { samples / 4 } else { samples };
+    // what every atom derives takes the literal implementation seconds
+    let samples = if list.chunks(4).any(|step| step[0] == 9) { samples / 3 } else { samples };
     let places: BTreeSet<usize> = (0..=samples).map(|sample| steps * sample / samples).collect();
     for step in places {
         let (_, marks) = library::check(table, &fresh, &list[..4 * step]);

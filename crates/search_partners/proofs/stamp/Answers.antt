@@ -1,0 +1,13 @@
+-- `stamp`: the part's words and marks as slices.
+use mathlib.Core.Path.{sym, ap, ◌∙◌}
+use Rattle.step_parts.proofs.Laws.{part_is, part_marked}
+use Rattle.search_partners.specs.Stamps.{stamped}
+use Rattle.search_partners.proofs.Fits.{part_below}
+use borrow.Author.Rules.{rules}
+use Rattle.search_partners.proofs.stamp.Goals as goal
+
+pub stamp_part-requires : goal.stamp_part-requires
+stamp_part-requires c = (part_marked _ _ _ c.requires.0 _ c.requires.1.0 _ _ c.span-s.ensures, (c.requires.1.1.0, (c.requires.1.1.1, part_below _ c.requires.0.placed.passed _ c.requires.1.0 _ _ c.span-s.ensures)))
+
+pub returns : goal.returns
+returns c = c.stamp_part.ensures ∙ ap (stamped c.args.stamps.now c.args.offset) (sym (part_is _ _ _ c.requires.0 _ c.requires.1.0 _ _ c.span-s.ensures))
