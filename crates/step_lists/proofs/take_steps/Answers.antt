@@ -29,7 +29,7 @@ pub returns-in-Not : goal.returns-in-Not
 returns-in-Not c = stepping_no _ _ _ _ _ _ _ _ _ _ _ _ c.loop-k-test.true c.loop-k.invariant.1.1.1 _ c.step_at.ensures _ c.take_step.ensures _ c.in-Not.is
 
 pub overflow_step-k : goal.overflow_step-k
-overflow_step-k c = record { fits = omega (arith, c.well-formed.1.1.1.1.1.0, c.loop-k-test.true) }
+overflow_step-k c = record { fits = omega (arith, c.well_formed.1.1.1.1.1.0, c.loop-k-test.true) }
 
 pub loop-k-preserved : goal.loop-k-preserved
 loop-k-preserved c = (search rules, (c.take_step.auto.heads ∙ c.loop-k.invariant.1.0, (c.take_step.auto.reached ∙ c.loop-k.invariant.1.1.0, stepping_on _ _ _ _ _ _ _ _ _ _ _ _ c.loop-k-test.true c.loop-k.invariant.1.1.1 _ c.step_at.ensures _ c.take_step.ensures _ c.in-Made.is)))
