@@ -1,0 +1,37 @@
+-- `first_by_partner`: targets passed have no step; in the walk, the partners passed make none, and the flags stay.
+use Prim.Native.Nat.{ℕ, ◌-◌, ◌<◌, ◌+◌, ◌*◌}
+use mathlib.Core.Path.{◌≡◌, refl, sym, ap, ◌∙◌}
+use mathlib.Core.Bool.{false}
+use mathlib.Core.Logic.{◌≢◌, ⊎_elim}
+use native.Mathlib.Omega.{arith}
+use lib.ListN.{length, get_or, set, length-set}
+use borrow.Author.Count.{below_more}
+use Rattle.rewriting.specs.Marked.{entry}
+use Rattle.rewriting.specs.Reducer.{eligible}
+use Rattle.rewriting.specs.Search.{step_with}
+use Rattle.rewriting.specs.Kinds.{kind_of}
+use Rattle.table.specs.View.{view}
+use Rattle.table.proofs.Encoding.{passed_limits}
+use Rattle.search_targets.specs.declared.Found.TheVariants.{One, Nothing}
+use Rattle.search_partners.specs.Stamps.{Stamps}
+use Rattle.search_keys.specs.State.{Swept}
+use Rattle.search_targets.specs.Searches.{Partners}
+use Rattle.search_flags.specs.Flags.{flag_at, Inside}
+use Rattle.search_flags.proofs.Flags.{inside_past, inside_clear, inside_set}
+use Rattle.search_targets.proofs.Walks.{partners_none, partners_hit, targets_end, targets_hit, stopped_there, stopped_end}
+use Rattle.search_gaps.proofs.Sweeps.{swept_none, swept_clear, swept_all, swept_before, swept_later, calm_from}
+use Rattle.search_gaps.proofs.Gaps.{swept_then}
+use borrow.Author.Rules.{rules}
+use Rattle.search_targets.proofs.first_by_partner.Given as goal
+
+abbrev pub invariant-loop-p : goal.invariant-loop-p
+invariant-loop-p l = (l.found ≡ Nothing) × (Partners l.words l.marks l.kind l.t l.e × (Stamps (entry (view l.words l.marks) l.t).clause l.stamps × ((length l.stamps ≡ 3072) × ((l.flags ≡ l.initial.flags) × ((q : ℕ) → q < l.p → eligible (get_or l.words 0 0) (view l.words l.marks) (step_with (view l.words l.marks) (kind_of l.kind) l.t q) ≡ false)))))
+
+abbrev pub decreases-loop-p : goal.decreases-loop-p
+decreases-loop-p l = l.e - l.p
+
+abbrev pub invariant-search : goal.invariant-search
+invariant-search l = (l.found ≡ Nothing) × ((l.base ≡ l.kind * 2048) × (Swept l.words l.marks l.initial.flags l.flags l.kind × Inside l.flags l.kind l.t l.end))
+
+abbrev pub decreases-search : goal.decreases-search
+decreases-search l = l.end - l.t
