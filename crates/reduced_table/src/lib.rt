@@ -1,5 +1,6 @@
 // The reduced table: questions 9, 10 and 18, then the words that the marks leave.
 #![tactic(auto)]
+
 ghost use Rattle.std.specs.Prelude.{◌≡◌};
 ghost use Rattle.table.specs.Questions.{Passed};
 ghost use Rattle.answers.specs.Answers.{written_if};
