@@ -155,7 +155,7 @@ module _ (n top : ℕ) (room : n ≤ top) (c : Clause) where
     where
       two : (y : ℕ) → y ∈ a ∷ x ∷ [] → y < top
       two y (Memᴰ.head r) = omega (arith, r, room, b)
-      two y (tail (tail x10)) = elim x10 [ ]
+      two y (Memᴰ.tail (Memᴰ.tail x10)) = elim x10 [ ]
       two y (Memᴰ.tail (Memᴰ.head r)) = omega (arith, r, u)
   left_top (fresh_left x e l u p q) = (head_below_iff top c).1 (λ y m. omega (arith, u, Memᴰ.eq_of_singleton (subst (λ k. y ∈ k) e m)))
 

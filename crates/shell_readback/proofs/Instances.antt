@@ -51,7 +51,7 @@ disjunction_choice n top x k l u b = (and_iff (head_below top c) (not (head_belo
 
     two : (a : ℕ) → a ∈ k.atom ∷ x ∷ [] → a < top
     two a (Memᴰ.head e) = omega (arith, e, b, l, u)
-    two a (tail (tail x9)) = elim x9 [ ]
+    two a (Memᴰ.tail (Memᴰ.tail x9)) = elim x9 [ ]
     two a (Memᴰ.tail (Memᴰ.head e)) = omega (arith, e, u)
 
 disjunctions_read : (n top x : ℕ) (ks : List Choice) → n ≤ x → x + length ks ≤ top → ((k : Choice) → k ∈ ks → k.atom < n) → choices_in n top (map disjunction (numbered x ks)) ≡ ks

@@ -55,7 +55,7 @@ module _ (n top : ℕ) (room : n ≤ top) where
     where
       two : (a : ℕ) → a ∈ i.choice.atom ∷ i.fresh ∷ [] → a < top
       two a (Memᴰ.head q) = omega (arith, q, room, o.atom)
-      two a (tail (tail x10)) = elim x10 [ ]
+      two a (Memᴰ.tail (Memᴰ.tail x10)) = elim x10 [ ]
       two a (Memᴰ.tail (Memᴰ.head q)) = omega (arith, q, u)
   form_fact c (guard h x e b l) k = subst (λ d. So (fact d)) (sym e) refl
 

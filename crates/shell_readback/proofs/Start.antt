@@ -31,7 +31,7 @@ HeadAt cs i = (entry (whole cs) i).clause.head
 
 of_two : (n a x y : ℕ) → a < n → n ≤ y → y ∈ a ∷ x ∷ [] → y ≡ x
 of_two n a x y l k (Memᴰ.head e) = absurd (omega arith)
-of_two n a x y l k (tail (tail x9)) = elim x9 [ ]
+of_two n a x y l k (Memᴰ.tail (Memᴰ.tail x9)) = elim x9 [ ]
 of_two n a x y l k (Memᴰ.tail (Memᴰ.head e)) = e
 
 place_guards : (n x : ℕ) (hs : List ℕ) → ((a : ℕ) → a ∈ hs → a < n) → (i y : ℕ) → n ≤ y → y ∈ HeadAt (guards x hs) i → y ≡ x + i
@@ -82,7 +82,7 @@ module _ (n : ℕ) (cs : List Clause) (ks : List Choice) (hs : List ℕ) (o : Ov
     where
       two : (a x y t : ℕ) → x < t → y < t → a ∈ x ∷ y ∷ [] → a < t
       two a x y t p q (Memᴰ.head e) = omega (arith, e)
-      two a x y t p q (tail (tail x9)) = elim x9 [ ]
+      two a x y t p q (Memᴰ.tail (Memᴰ.tail x9)) = elim x9 [ ]
       two a x y t p q (Memᴰ.tail (Memᴰ.head e)) = omega (arith, e)
 
   table_form : (c : Clause) → c ∈ table n cs ks hs → ClauseForm n top c
