@@ -23,11 +23,11 @@ use Rattle.models_masks.specs.Masks.{mask_of, inside}
 digit : (b : Bool) → bit b < 2
 digit b = omega (arith, bit_bound b)
 
-bit_and : (a b : Bool) → min (bit a) (bit b) ≡ bit (a && b)
-bit_and true true = refl
-bit_and true false = refl
-bit_and false true = refl
-bit_and false false = refl
+bit_of_and : (a b : Bool) → min (bit a) (bit b) ≡ bit (a && b)
+bit_of_and true true = refl
+bit_of_and true false = refl
+bit_of_and false true = refl
+bit_of_and false false = refl
 
 pub bit_odd : (x : ℕ) → bit (eqb (x % 2) 1) ≡ x % 2
 bit_odd x = go (x % 2) (mod-lt x (omega arith))
@@ -50,7 +50,7 @@ unfolding mask_of
 and_masks [] X Y = refl
 and_masks (a ∷ s) X Y =
     and_digits (mask_of s X) (mask_of s Y) (digit (X a)) (digit (Y a))
-    ∙ ap₂ (λ x y. x * 2 + y) (and_masks s X Y) (bit_and (X a) (Y a))
+    ∙ ap₂ (λ x y. x * 2 + y) (and_masks s X Y) (bit_of_and (X a) (Y a))
 
 pub mask_ext : (s : List ℕ) (X Y : Atoms) → ((a : ℕ) → a ∈ s → X a ≡ Y a) → mask_of s X ≡ mask_of s Y
 unfolding mask_of

@@ -1,5 +1,6 @@
 // A set of at most 16 atoms as a mask, and clauses as two masks: whether a set satisfies the clauses, and whether no subset does.
 #![tactic(auto)]
+
 ghost use Rattle.std.specs.Prelude.{◌≡◌, ◌&&◌, ◌≤◌, length};
 ghost use Rattle.semantics.specs.Lists.{bit};
 ghost use Rattle.semantics.specs.Programs.{among};

@@ -1,7 +1,6 @@
 -- `models_masks::keep_failed` meets its contract.
 use native.Mathlib.Omega.{arith}
 use Rattle.models_masks.proofs.Failing.{kept_none, kept_one}
-use borrow.Author.Rules.{rules}
 use Rattle.models_masks.proofs.keep_failed.Goals as goal
 
 pub returns-then-bodies-t : goal.returns-then-bodies-t

@@ -1,13 +1,8 @@
 -- `models_masks::mask_of` meets its contract.
-use Prim.Native.Nat.{◌-◌, ◌≤◌}
-use mathlib.Core.Path.{◌≡◌, sym, ◌∙◌}
-use native.Mathlib.Nat.{le_refl}
-use native.Mathlib.Omega.{arith}
+use Prim.Native.Nat.{◌≤◌}
+use mathlib.Core.Path.{◌≡◌}
 use lib.ListN.{length, drop}
-use borrow.Author.Rules.{rules}
-use Rattle.semantics.proofs.Tests.{bit_bound}
 use Rattle.semantics.specs.Programs.{among}
-use Rattle.models_masks.proofs.Subsets.{mask_whole, mask_end, mask_more, mask_small}
 use Rattle.models_masks.specs.Masks.{mask_of}
 use Rattle.models_masks.proofs.mask_of.Given as goal
 

@@ -1,6 +1,5 @@
 -- `models_masks::modelled` meets its contract.
 use Rattle.models_masks.proofs.Failing.{failed_all}
-use borrow.Author.Rules.{rules}
 use Rattle.models_masks.proofs.modelled.Goals as goal
 
 pub returns : goal.returns

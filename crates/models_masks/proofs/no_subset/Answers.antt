@@ -1,16 +1,14 @@
 -- `models_masks::no_subset` meets its contract.
-use Prim.Native.Nat.{◌-◌, ◌≤◌}
-use mathlib.Core.Path.{◌≡◌, refl, sym, ◌∙◌}
+use Prim.Native.Nat.{◌-◌}
+use mathlib.Core.Path.{refl, sym, ◌∙◌}
 use native.Mathlib.Omega.{arith}
 use lib.Arith.{lt_of_le-ne}
-use lib.Bits.{bit_and, and_self, and_le_l}
-use lib.ListN.{length}
+use lib.Bits.{and_self, and_le_l}
 use borrow.Author.Rules.{rules}
-use borrow.Author.Tests.{not-true}
-use Rattle.models_masks.proofs.Subsets.{none_found, FailFrom, fail_start, fail_next, found, next_less}
+use Rattle.models_masks.proofs.Subsets.{none_found, fail_start, fail_next, found, next_less}
 use Rattle.models_masks.proofs.Bits.{and_again}
-use Rattle.models_masks.proofs.Failing.{Among, among_none, among_fails, among_more, failed_none, failed_some}
-use Rattle.models_masks.specs.Masks.{modelled, minimal}
+use Rattle.models_masks.proofs.Failing.{among_none, among_fails, among_more, failed_none, failed_some}
+use Rattle.models_masks.specs.Masks.{minimal}
 use Rattle.models_masks.proofs.no_subset.Goals as goal
 
 pub loop-x-init : goal.loop-x-init

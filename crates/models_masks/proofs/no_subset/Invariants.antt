@@ -1,16 +1,11 @@
 -- `models_masks::no_subset` meets its contract.
-use Prim.Native.Nat.{◌-◌, ◌≤◌}
-use mathlib.Core.Path.{◌≡◌, refl, sym, ◌∙◌}
-use native.Mathlib.Omega.{arith}
-use lib.Arith.{lt_of_le-ne}
-use lib.Bits.{bit_and, and_self, and_le_l}
+use Prim.Native.Nat.{◌≤◌}
+use mathlib.Core.Path.{◌≡◌}
+use lib.Bits.{bit_and}
 use lib.ListN.{length}
-use borrow.Author.Rules.{rules}
-use borrow.Author.Tests.{not-true}
-use Rattle.models_masks.proofs.Subsets.{none_found, FailFrom, fail_start, fail_next, found, next_less}
-use Rattle.models_masks.proofs.Bits.{and_again}
-use Rattle.models_masks.proofs.Failing.{Among, among_none, among_fails, among_more, failed_none, failed_some}
-use Rattle.models_masks.specs.Masks.{modelled, minimal}
+use Rattle.models_masks.proofs.Subsets.{FailFrom}
+use Rattle.models_masks.proofs.Failing.{Among}
+use Rattle.models_masks.specs.Masks.{modelled}
 use Rattle.models_masks.proofs.no_subset.Given as goal
 
 abbrev pub invariant-loop-x : goal.invariant-loop-x

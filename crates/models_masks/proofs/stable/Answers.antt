@@ -1,5 +1,4 @@
 -- `models_masks::stable` meets its contract.
-use borrow.Author.Rules.{rules}
 use Rattle.models_masks.proofs.stable.Goals as goal
 
 pub returns-then-modelled : goal.returns-then-modelled

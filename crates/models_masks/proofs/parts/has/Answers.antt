@@ -1,11 +1,8 @@
 -- `models_masks::parts::has` meets its contract.
-use Prim.Native.Nat.{◌-◌, ◌≤◌}
-use mathlib.Core.Path.{◌≡◌, refl, sym, ◌∙◌}
-use lib.ListN.{length, drop}
+use mathlib.Core.Path.{refl, sym, ◌∙◌}
 use lib.Dec.{eqb}
 use borrow.Author.Tests.{eq-eqb, ne_eqb}
 use borrow.Author.Rules.{rules}
-use Rattle.semantics.specs.Lists.{mem}
 use Rattle.models_masks.proofs.Search.{any_on, any_hit, any_end}
 use Rattle.models_masks.proofs.parts.has.Goals as goal
 

@@ -1,12 +1,8 @@
 -- `models_masks::parts::has` meets its contract.
 use Prim.Native.Nat.{◌-◌, ◌≤◌}
-use mathlib.Core.Path.{◌≡◌, refl, sym, ◌∙◌}
+use mathlib.Core.Path.{◌≡◌}
 use lib.ListN.{length, drop}
-use lib.Dec.{eqb}
-use borrow.Author.Tests.{eq-eqb, ne_eqb}
-use borrow.Author.Rules.{rules}
 use Rattle.semantics.specs.Lists.{mem}
-use Rattle.models_masks.proofs.Search.{any_on, any_hit, any_end}
 use Rattle.models_masks.proofs.parts.has.Given as goal
 
 abbrev pub invariant-loop-i : goal.invariant-loop-i

@@ -1,10 +1,7 @@
 -- `models_masks::parts::inside` meets its contract.
-use Prim.Native.Nat.{◌-◌, ◌≤◌}
-use mathlib.Core.Path.{◌≡◌, refl, sym, ◌∙◌}
-use lib.ListN.{length, drop}
-use borrow.Author.Tests.{not-true, not-false}
+use mathlib.Core.Path.{refl, sym, ◌∙◌}
 use borrow.Author.Rules.{rules}
-use Rattle.semantics.specs.Lists.{all, mem}
+use Rattle.semantics.specs.Lists.{mem}
 use Rattle.models_masks.proofs.Search.{all_on, all_lost, all_end}
 use Rattle.models_masks.proofs.parts.inside.Goals as goal
 

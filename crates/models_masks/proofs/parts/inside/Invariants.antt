@@ -1,11 +1,8 @@
 -- `models_masks::parts::inside` meets its contract.
 use Prim.Native.Nat.{◌-◌, ◌≤◌}
-use mathlib.Core.Path.{◌≡◌, refl, sym, ◌∙◌}
+use mathlib.Core.Path.{◌≡◌}
 use lib.ListN.{length, drop}
-use borrow.Author.Tests.{not-true, not-false}
-use borrow.Author.Rules.{rules}
 use Rattle.semantics.specs.Lists.{all, mem}
-use Rattle.models_masks.proofs.Search.{all_on, all_lost, all_end}
 use Rattle.models_masks.proofs.parts.inside.Given as goal
 
 abbrev pub invariant-loop-i : goal.invariant-loop-i

@@ -1,9 +1,7 @@
 -- `models_masks::parts::meets` meets its contract.
-use Prim.Native.Nat.{◌-◌, ◌≤◌}
-use mathlib.Core.Path.{◌≡◌, refl, sym, ◌∙◌}
-use lib.ListN.{length, drop}
+use mathlib.Core.Path.{refl, sym, ◌∙◌}
 use borrow.Author.Rules.{rules}
-use Rattle.semantics.specs.Lists.{any, mem}
+use Rattle.semantics.specs.Lists.{mem}
 use Rattle.models_masks.proofs.Search.{any_on, any_hit, any_end}
 use Rattle.models_masks.proofs.parts.meets.Goals as goal
 

@@ -1,10 +1,8 @@
 -- `models_masks::parts::meets` meets its contract.
 use Prim.Native.Nat.{◌-◌, ◌≤◌}
-use mathlib.Core.Path.{◌≡◌, refl, sym, ◌∙◌}
+use mathlib.Core.Path.{◌≡◌}
 use lib.ListN.{length, drop}
-use borrow.Author.Rules.{rules}
 use Rattle.semantics.specs.Lists.{any, mem}
-use Rattle.models_masks.proofs.Search.{any_on, any_hit, any_end}
 use Rattle.models_masks.proofs.parts.meets.Given as goal
 
 abbrev pub invariant-loop-i : goal.invariant-loop-i
