@@ -1,5 +1,6 @@
 // The test of a set: is it a stable model of the table's program?
 #![tactic(auto)]
+
 ghost use Rattle.std.specs.Prelude.{◌≡◌};
 ghost use Rattle.models_test.specs.Answer.{set_of, test_of};
 

@@ -1,0 +1,7 @@
+-- `models_test::kept::is_stable` meets its contract.
+use mathlib.Core.Path.{◌∙◌}
+use Rattle.models_test.proofs.Minimal.{test_masks}
+use Rattle.models_test.proofs.kept.is_stable.Goals as goal
+
+pub returns : goal.returns
+returns c = c.stable.ensures ∙ test_masks _ _ _ _ _ c.requires c.fill-n.ensures _ c.mask_of-m.ensures
