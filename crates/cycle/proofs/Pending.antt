@@ -3,7 +3,7 @@ use Prim.Native.Nat.{ℕ, zero, suc, ◌+◌, ◌-◌, ◌<◌}
 use mathlib.Core.Path.{◌≡◌, refl, sym, subst, ◌∙◌}
 use mathlib.Core.Logic.{⊎_elim, by_cases}
 use mathlib.Core.List.Memᴰ
-use mathlib.Core.List.{List, ◌∷◌}
+use mathlib.Core.List.{List, ◌∷◌, []}
 use native.Mathlib.Omega.{arith}
 use native.Mathlib.Decide.{dec_lt}
 use lib.ListN.{length, get_or}
@@ -46,6 +46,7 @@ numbered_in_lem ws c h = from_number ws (get_or ws 1 0) 2 c h
 -- ---- atoms of heads by their places
 
 place_of : (l : List ℕ) (a : ℕ) → a ∈ l → (i : ℕ) × (i < length l) × (get_or l i 0 ≡ a)
+place_of [] a x' = elim x' [ ]
 place_of (x ∷ l) a (Memᴰ.head e) = (0, omega arith, sym e)
 place_of (x ∷ l) a (Memᴰ.tail m) = let (i, h, e) = place_of l a m in (suc i, omega arith, e)
 

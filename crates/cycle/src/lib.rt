@@ -1,5 +1,6 @@
 // The cycle answer: does some atom lead back to itself?
 #![tactic(auto)]
+
 ghost use Rattle.std.specs.Prelude.{◌≡◌};
 ghost use Rattle.cycle.specs.Answer.{cycle_of};
 
