@@ -5,7 +5,7 @@ use mathlib.Core.Logic.{◌≢◌, by_cases}
 use mathlib.Core.Bool.{Bool, true, false, cond, So}
 use mathlib.Core.List.Memᴰ
 use mathlib.Core.List.{List, [], ◌∷◌}
-use Prim.Native.Nat.{ℕ, zero, suc, ◌+◌, ◌-◌, ◌*◌, ◌^◌, ◌≤◌, ◌<◌}
+use Prim.Native.Nat.{ℕ, zero, suc, ◌+◌, ◌*◌, ◌^◌, ◌≤◌, ◌<◌}
 use native.Mathlib.Omega.{arith}
 use native.Mathlib.Nat.{pow-suc, mul_assoc, mul-one, one-mul, add-zero, add-suc, min-eq_left}
 use native.Mathlib.Numerals.{add-one}
@@ -81,12 +81,16 @@ within_next : {a b : ℕ} (x y p q : ℕ) → a ≡ x * 2 + p → b ≡ y * 2 + 
 within_next x y p q e f l h s = ap₂ bit_and e f ∙ and_digits x y (omega arith) h ∙ ap₂ (λ u v. u * 2 + v) s (min-eq_left l) ∙ sym e
 
 up_of : (l : List ℕ) (z : ℕ) → z ∈ up l → (w : ℕ) × (w ∈ l) × (d : ℕ) × (d < 2) × (z ≡ w * 2 + d)
+up_of [] z m = elim m [ ]
 up_of (x ∷ []) z (Memᴰ.head e) = (x, Memᴰ.head refl, 0, omega arith, omega arith)
 up_of (x ∷ []) z (Memᴰ.tail (Memᴰ.head e)) = (x, Memᴰ.head refl, 1, omega arith, e)
+up_of (x ∷ []) z (Memᴰ.tail (Memᴰ.tail m)) = elim m [ ]
 up_of (x ∷ y ∷ l) z (Memᴰ.head e) = (x, Memᴰ.head refl, 0, omega arith, omega arith)
 up_of (x ∷ y ∷ l) z (Memᴰ.tail m) = let (w, k, d, h, e) = up_of (y ∷ l) z m in (w, Memᴰ.tail k, d, h, e)
 
 over_of : (l : List ℕ) (z : ℕ) → z ∈ over l → (w : ℕ) × (w ∈ l) × (z ≡ w * 2 + 1)
+over_of [] z m = elim m [ ]
+over_of (x ∷ []) z m = elim m [ ]
 over_of (x ∷ y ∷ l) z (Memᴰ.head e) = (x, Memᴰ.head refl, e)
 over_of (x ∷ y ∷ l) z (Memᴰ.tail m) = let (w, k, e) = over_of (y ∷ l) z m in (w, Memᴰ.tail k, e)
 
