@@ -1,5 +1,6 @@
 // The call that lists all stable models of a program of at most 16 atoms.
 #![tactic(auto)]
+
 ghost use Rattle.std.specs.Prelude.{◌≡◌, length};
 ghost use Rattle.models_list.specs.Answer.{models_answer, models_out};
 
