@@ -1,5 +1,6 @@
 // The writer of the text form: questions 1 to 8, then 28. Its parts write numbers and lines at a place of a byte slice.
 #![tactic(auto)]
+
 ghost use Rattle.std.specs.Prelude.{◌≡◌, ◌∷◌, ◌+◌, ◌%◌, ◌^◌, ◌≤◌, ◌<◌, length, drop, get_or};
 ghost use Rattle.table.specs.Questions.{Passed};
 ghost use Rattle.table.specs.Places.{next_at};
