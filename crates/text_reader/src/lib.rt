@@ -1,5 +1,6 @@
 // The reader of the text form, line by line: questions 22, 23 and 27, with 2 and 3.
 #![tactic(auto)]
+
 ghost use Rattle.std.specs.Prelude.{◌≡◌, ◌+◌, ◌≤◌, length, set};
 ghost use Rattle.table.specs.Encoding.{clause_words, clauses_words, encode};
 ghost use Rattle.text_form.specs.Reader.{count_at, clause_at, clauses_at, rest_at, program_at, read_answer, table_after};
