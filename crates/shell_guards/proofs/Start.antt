@@ -92,13 +92,13 @@ unfolding clauses_below
 below_none n [] h = refl
 below_none n (d ∷ ds) h = rw (so_false (head_below n d) (h d (Memᴰ.head refl)), below_none n ds (λ c m. h c (Memᴰ.tail m)))
 
-pub append-nil : (cs : List Clause) → cs ++ [] ≡ cs
-append-nil [] = refl
-append-nil (c ∷ cs) = rw (append-nil cs)
+pub append_nil : (cs : List Clause) → cs ++ [] ≡ cs
+append_nil [] = refl
+append_nil (c ∷ cs) = rw (append_nil cs)
 
 -- clauses below n beside others
 pub below_append : (n : ℕ) (cs ds : List Clause) → ((c : Clause) → c ∈ cs → So (head_below n c)) → ((c : Clause) → c ∈ ds → ¬ So (head_below n c)) → clauses_below n (cs ++ ds) ≡ cs
-below_append n cs ds h k = below_all n cs ds h ∙ (ap (λ es. cs ++ es) (below_none n ds k) ∙ append-nil cs)
+below_append n cs ds h k = below_all n cs ds h ∙ (ap (λ es. cs ++ es) (below_none n ds k) ∙ append_nil cs)
 
 pub body_in : (cs : List Clause) (c : Clause) → c ∈ cs → (a : ℕ) → a ∈ c.pos ++ c.neg → So (in_body cs a)
 unfolding in_body

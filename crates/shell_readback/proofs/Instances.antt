@@ -23,7 +23,7 @@ use Rattle.shell_choices.proofs.Fresh.{numbered_low}
 use Rattle.shell_guards.specs.Guards.{HeadsIn, guards, guarded, head_below, clauses_below}
 use Rattle.shell_guards.specs.Contexts.{Rules, Clauses, WeightRule, Both, Outside}
 use Rattle.shell_guards.proofs.Guards.{head_below_iff}
-use Rattle.shell_guards.proofs.Start.{append-nil, below_append}
+use Rattle.shell_guards.proofs.Start.{append_nil, below_append}
 use Rattle.shell_guards.proofs.Contexts.{rules_heads, clauses_heads, clauses_in, both_heads, outside_heads}
 use Rattle.shell_readback.specs.Readback.{table, is_choice, choices_in, StableLeft, told}
 use Rattle.shell_readback.specs.Laid.{Laid, LaidAlone}
@@ -32,7 +32,7 @@ use Rattle.shell_readback.proofs.Lone.{lone_sound}
 
 bare_table : (n : ℕ) (cs : List Clause) (ks : List Choice) → table n cs ks [] ≡ translated n cs ks
 unfolding guards guarded
-bare_table n cs ks = append-nil (translated n cs ks)
+bare_table n cs ks = append_nil (translated n cs ks)
 
 -- Any list of steps without kind 9 on the translation of choices, read back, keeps the stable models of the clauses with the choices.
 pub choices_sound : (n : ℕ) (cs : List Clause) (ks : List Choice) → Over n cs ks → (m : ℕ) (l : List Step) → So (without_nine l) → (M : Atoms)

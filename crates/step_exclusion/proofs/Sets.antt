@@ -108,9 +108,9 @@ entry_map [] s = refl
 entry_map (e ∷ P) zero = refl
 entry_map (e ∷ P) (suc s) = entry_map P s
 
-length-map : (P : Marked) → length (map narrowed P) ≡ length P
-length-map [] = refl
-length-map (e ∷ P) = ap suc (length-map P)
+length_map : (P : Marked) → length (map narrowed P) ≡ length P
+length_map [] = refl
+length_map (e ∷ P) = ap suc (length_map P)
 
 entries_ext : (P Q : Marked) → length P ≡ length Q → ((s : ℕ) → entry P s ≡ entry Q s) → P ≡ Q
 entries_ext [] [] l h = refl
@@ -120,7 +120,7 @@ entries_ext (d ∷ P) (e ∷ Q) l h = rw (h zero, entries_ext P Q (omega arith) 
 
 pub narrow_end : (ws ms : List ℕ) (t : ℕ) (ks : List ℕ) → get_or ws 1 0 ≤ t → Narrowing ws ms t ks → Narrowed ws ms ks
 narrow_end ws ms t ks h n = record {
-  is = entries_ext (view ws ks) (map narrowed (view ws ms)) (length_view ws ks ∙ sym (length-map (view ws ms) ∙ length_view ws ms)) (λ s. by_cases (dec_lt s t)
+  is = entries_ext (view ws ks) (map narrowed (view ws ms)) (length_view ws ks ∙ sym (length_map (view ws ms) ∙ length_view ws ms)) (λ s. by_cases (dec_lt s t)
       (λ l. n.before s l ∙ sym (entry_map (view ws ms) s))
       (λ l. entry_past ws ks s (omega arith) ∙ sym (entry_map (view ws ms) s ∙ ap narrowed (entry_past ws ms s (omega arith)))));
 }
