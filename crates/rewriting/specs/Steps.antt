@@ -1,5 +1,5 @@
 -- The nine steps, after document 01, "Eight steps", and slips 1, 6 and 8 of document 02.
-use Rattle.std.specs.Prelude.{Bool, true, not, cond, ◌&&◌, List, [], ℕ, eqb, ltb, set}
+use Rattle.std.specs.Prelude.{Bool, true, not, cond, ◌&&◌, List, ℕ, eqb, ltb, set}
 use Rattle.semantics.specs.Lists.{any, null, single, mem, within, without}
 use Rattle.semantics.specs.Programs.{Clause}
 use Rattle.rewriting.specs.Marked.{Entry, Marked, entry, left, deleted}
