@@ -1,6 +1,7 @@
 // What a call answers: the questions of documents 01 and 02, the refusal that holds the first one answered no, the answer of every call, and the one
 // number that it is for a caller in C.
 #![tactic(auto)]
+
 ghost use Rattle.std.specs.Prelude.{◌≡◌, ◌≤◌, length, take};
 ghost use Rattle.std.proofs.lemmas.List.Edits.{sets};
 ghost use Rattle.answers.specs.Refusals.{call_number, word_number, step_number, entry_number, byte_number, refusal_number, refusal_place};

@@ -1,5 +1,4 @@
 -- An answer that is small is one number.
-use borrow.Author.Rules.{rules}
 use Rattle.answers.proofs.answer_code.Goals as goal
 
 pub refusal_code-requires : goal.refusal_code-requires

@@ -1,11 +1,8 @@
 -- `answers::copy_bytes` meets its contract. The loop's invariant: what is left to copy, stored from here on, gives the whole copy. Assumes nothing.
 use Prim.Native.Nat.{◌≤◌, ◌-◌}
-use mathlib.Core.Path.{◌≡◌, refl, sym, ◌∙◌}
-use native.Mathlib.Omega.{arith}
-use lib.ListN.{length, take, drop, length-set}
+use mathlib.Core.Path.{◌≡◌}
+use lib.ListN.{length, take, drop}
 use lib.Seq.{sets}
-use Rattle.answers.proofs.Slices.{copy_on, copy_end}
-use borrow.Author.Rules.{rules}
 use Rattle.answers.proofs.copy_bytes.Given as goal
 
 abbrev pub invariant-loop-i : goal.invariant-loop-i

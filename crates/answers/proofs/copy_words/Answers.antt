@@ -1,9 +1,8 @@
 -- `answers::copy_words` meets its contract. The loop's invariant: what is left to copy, stored from here on, gives the whole copy. Assumes nothing.
-use Prim.Native.Nat.{◌≤◌, ◌-◌}
+use Prim.Native.Nat.{◌-◌}
 use mathlib.Core.Path.{◌≡◌, refl, sym, ◌∙◌}
 use native.Mathlib.Omega.{arith}
-use lib.ListN.{length, take, drop, length-set}
-use lib.Seq.{sets}
+use lib.ListN.{length-set}
 use Rattle.answers.proofs.Slices.{copy_on, copy_end}
 use borrow.Author.Rules.{rules}
 use Rattle.answers.proofs.copy_words.Goals as goal

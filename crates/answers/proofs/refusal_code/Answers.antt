@@ -1,5 +1,4 @@
 -- Number times 2^48 plus place fits, since the number is at most 32 and the place at most 65,536.
-use borrow.Author.Rules.{rules}
 use native.Mathlib.Omega.{arith}
 use Rattle.answers.proofs.Numbers.{number_range}
 use Rattle.answers.proofs.refusal_code.Goals as goal
