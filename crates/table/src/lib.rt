@@ -1,5 +1,6 @@
 // The table of a ground program: its limits, and questions 1 to 8 as definitions.
 #![tactic(auto)]
+
 ghost use Rattle.std.specs.Prelude.{◌≡◌, ◌≤◌, ◌<◌, length};
 ghost use Rattle.table.specs.Places.{next_at};
 
