@@ -1,5 +1,6 @@
 // Questions 1 to 8 asked of a table.
 #![tactic(auto)]
+
 ghost use Rattle.std.specs.Prelude.{◌≡◌, ◌-◌, ◌≤◌, length};
 ghost use Rattle.table.specs.Questions.{part_from, parts_from, clause_from, table_of};
 

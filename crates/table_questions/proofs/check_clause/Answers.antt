@@ -2,7 +2,6 @@
 use borrow.Author.Tests.{le-leb, lt-leb}
 use Rattle.table.specs.Questions.{clause_from}
 use Rattle.answers.specs.Answers.{ask}
-use borrow.Author.Rules.{rules}
 use Rattle.table_questions.proofs.check_clause.Goals as goal
 
 pub returns-then-left-lt3 : goal.returns-then-left-lt3

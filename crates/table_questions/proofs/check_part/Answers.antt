@@ -1,8 +1,6 @@
 -- `table_questions::check_part` meets its contract. The invariant: questions 6 and 7 from here on are those of the whole part.
-use Prim.Native.Nat.{◌≤◌, ◌-◌}
-use mathlib.Core.Path.{◌≡◌, refl, sym, ◌∙◌}
+use mathlib.Core.Path.{refl, sym, ◌∙◌}
 use borrow.Author.Rules.{rules}
-use Rattle.table.specs.Questions.{part_from}
 use Rattle.table_questions.proofs.Asked.{atoms_on, atoms_below, atoms_above, atoms_end}
 use Rattle.table_questions.proofs.check_part.Goals as goal
 

@@ -1,9 +1,7 @@
 -- `table_questions::check_part` meets its contract. The invariant: questions 6 and 7 from here on are those of the whole part.
 use Prim.Native.Nat.{◌≤◌, ◌-◌}
-use mathlib.Core.Path.{◌≡◌, refl, sym, ◌∙◌}
-use borrow.Author.Rules.{rules}
+use mathlib.Core.Path.{◌≡◌}
 use Rattle.table.specs.Questions.{part_from}
-use Rattle.table_questions.proofs.Asked.{atoms_on, atoms_below, atoms_above, atoms_end}
 use Rattle.table_questions.proofs.check_part.Given as goal
 
 abbrev pub invariant-loop-i : goal.invariant-loop-i

@@ -1,6 +1,5 @@
 -- `table_questions::check_parts` meets its contract.
 use Rattle.table.specs.Questions.{parts_from, on_walk}
-use borrow.Author.Rules.{rules}
 use Rattle.table_questions.proofs.check_parts.Goals as goal
 
 pub returns-in_default : goal.returns-in_default
