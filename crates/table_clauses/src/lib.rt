@@ -1,5 +1,6 @@
 // The clauses of a table: their parts, and the next one.
 #![tactic(auto)]
+
 ghost use Rattle.std.specs.Prelude.{◌≡◌, ◌+◌, ◌≤◌, length};
 ghost use Rattle.table.specs.Places.{next_at};
 ghost use Rattle.table.specs.Programs.{clause_of};

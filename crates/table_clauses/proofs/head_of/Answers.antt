@@ -1,7 +1,5 @@
 -- `table_clauses::head_of` meets its contract.
-use Prim.Native.Nat.{◌-◌}
 use mathlib.Core.Path.{refl}
-use borrow.Author.Rules.{rules}
 use Rattle.table_clauses.proofs.Parts.{part_at}
 use Rattle.table_clauses.proofs.head_of.Goals as goal
 

@@ -1,7 +1,6 @@
 -- `table_clauses::neg_of` meets its contract.
-use Prim.Native.Nat.{◌+◌, ◌-◌}
+use Prim.Native.Nat.{◌+◌}
 use mathlib.Core.Path.{ap₂}
-use borrow.Author.Rules.{rules}
 use Rattle.table_clauses.proofs.Parts.{part_at}
 use Rattle.table_clauses.proofs.neg_of.Goals as goal
 
