@@ -1,5 +1,6 @@
 // The clauses of a table that passed: where they start, and tests on their parts, read through the marks.
 #![tactic(auto)]
+
 ghost use Rattle.std.specs.Prelude.{◌≡◌, ℕ, ◌+◌, ◌-◌, ◌≤◌, ◌<◌, length, get_or};
 ghost use Rattle.semantics.specs.Lists.{mem, within, null};
 ghost use Rattle.rewriting.specs.Marked.{entry};

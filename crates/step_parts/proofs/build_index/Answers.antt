@@ -1,11 +1,9 @@
 -- `step_parts::build_index` meets its contract. The invariant: the clauses before t are in the index, and clause t starts at `at`.
 use native.Mathlib.Omega.{arith}
-use mathlib.Core.Path.{◌≡◌, refl, ◌∙◌}
-use Prim.Native.Nat.{◌≤◌, ◌-◌}
-use lib.ListN.{length, get_or, length-set}
-use Rattle.table.specs.Places.{start_from, start_of}
+use mathlib.Core.Path.{refl, ◌∙◌}
+use lib.ListN.{length-set}
+use Rattle.table.specs.Places.{start_from}
 use Rattle.table.proofs.Encoding.{passed_limits}
-use Rattle.step_parts.specs.Parts.{Indexed}
 use Rattle.step_parts.proofs.Index.{index_none, index_end}
 use borrow.Author.Rules.{rules}
 use Rattle.step_parts.proofs.build_index.Goals as goal

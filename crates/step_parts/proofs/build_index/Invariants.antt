@@ -1,13 +1,9 @@
 -- `step_parts::build_index` meets its contract. The invariant: the clauses before t are in the index, and clause t starts at `at`.
-use native.Mathlib.Omega.{arith}
-use mathlib.Core.Path.{◌≡◌, refl, ◌∙◌}
+use mathlib.Core.Path.{◌≡◌}
 use Prim.Native.Nat.{◌≤◌, ◌-◌}
-use lib.ListN.{length, get_or, length-set}
-use Rattle.table.specs.Places.{start_from, start_of}
-use Rattle.table.proofs.Encoding.{passed_limits}
+use lib.ListN.{length, get_or}
+use Rattle.table.specs.Places.{start_of}
 use Rattle.step_parts.specs.Parts.{Indexed}
-use Rattle.step_parts.proofs.Index.{index_none, index_end}
-use borrow.Author.Rules.{rules}
 use Rattle.step_parts.proofs.build_index.Given as goal
 
 abbrev pub invariant-loop-t : goal.invariant-loop-t

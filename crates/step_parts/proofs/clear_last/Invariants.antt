@@ -1,10 +1,7 @@
 -- `step_parts::clear_last` meets its contract. The invariant: what was passed is 0.
-use native.Mathlib.Omega.{arith}
-use mathlib.Core.Path.{◌≡◌, refl}
+use mathlib.Core.Path.{◌≡◌}
 use Prim.Native.Nat.{ℕ, ◌≤◌, ◌<◌, ◌-◌}
-use lib.ListN.{length, get_or, length-set}
-use Rattle.step_parts.proofs.Index.{cleared_more}
-use borrow.Author.Rules.{rules}
+use lib.ListN.{length, get_or}
 use Rattle.step_parts.proofs.clear_last.Given as goal
 
 abbrev pub invariant-loop-i : goal.invariant-loop-i

@@ -2,7 +2,6 @@
 use mathlib.Core.Path.{sym, ap, ◌∙◌}
 use Rattle.semantics.specs.Lists.{null}
 use Rattle.step_parts.proofs.Laws.{part_is, part_marked}
-use borrow.Author.Rules.{rules}
 use Rattle.step_parts.proofs.empty.Goals as goal
 
 pub part_empty-requires : goal.part_empty-requires

@@ -1,9 +1,6 @@
 -- `step_parts::first_kept` meets its contract. The invariant: no word between is kept.
-use Prim.Native.Nat.{◌≤◌, ◌-◌}
-use mathlib.Core.Path.{◌≡◌, refl, sym, ◌∙◌}
+use mathlib.Core.Path.{refl, sym, ◌∙◌}
 use native.Mathlib.Omega.{arith}
-use lib.ListN.{length, drop}
-use Rattle.table.specs.Slices.{kept_of}
 use Rattle.step_parts.proofs.Laws.{kept_on, kept_here, kept_end}
 use borrow.Author.Rules.{rules}
 use Rattle.step_parts.proofs.first_kept.Goals as goal

@@ -1,11 +1,8 @@
 -- `step_parts::first_kept` meets its contract. The invariant: no word between is kept.
 use Prim.Native.Nat.{◌≤◌, ◌-◌}
-use mathlib.Core.Path.{◌≡◌, refl, sym, ◌∙◌}
-use native.Mathlib.Omega.{arith}
+use mathlib.Core.Path.{◌≡◌}
 use lib.ListN.{length, drop}
 use Rattle.table.specs.Slices.{kept_of}
-use Rattle.step_parts.proofs.Laws.{kept_on, kept_here, kept_end}
-use borrow.Author.Rules.{rules}
 use Rattle.step_parts.proofs.first_kept.Given as goal
 
 abbrev pub invariant-loop-i : goal.invariant-loop-i

@@ -5,7 +5,6 @@ use native.Mathlib.Omega.{arith}
 use lib.ListN.{length}
 use Rattle.table.specs.Places.{next_at}
 use Rattle.step_parts.proofs.Laws.{clause_fits}
-use borrow.Author.Rules.{rules}
 use Rattle.step_parts.proofs.first_word.Goals as goal
 
 pub returns : goal.returns

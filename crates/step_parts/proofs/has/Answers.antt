@@ -2,7 +2,6 @@
 use mathlib.Core.Path.{sym, ap, ◌∙◌}
 use Rattle.semantics.specs.Lists.{mem}
 use Rattle.step_parts.proofs.Laws.{part_is, part_ascends, part_marked}
-use borrow.Author.Rules.{rules}
 use Rattle.step_parts.proofs.has.Goals as goal
 
 pub part_has-requires : goal.part_has-requires

@@ -1,6 +1,5 @@
 -- `step_parts::inside` meets its contract.
 use Rattle.step_parts.proofs.Laws.{part_is, part_ascends, part_marked}
-use borrow.Author.Rules.{rules}
 use Rattle.step_parts.proofs.inside.Goals as goal
 
 pub part_within-requires : goal.part_within-requires

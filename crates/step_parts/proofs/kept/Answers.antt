@@ -1,6 +1,5 @@
 -- `step_parts::kept` meets its contract.
 use Rattle.step_parts.proofs.Laws.{kept_entry}
-use borrow.Author.Rules.{rules}
 use Rattle.step_parts.proofs.kept.Goals as goal
 
 pub returns : goal.returns

@@ -1,7 +1,6 @@
 -- `step_parts::last_at` meets its contract.
 use Prim.Native.Nat.{◌+◌}
 use mathlib.Core.Path.{ap}
-use borrow.Author.Rules.{rules}
 use Rattle.step_parts.proofs.last_at.Goals as goal
 
 pub returns-in-Head : goal.returns-in-Head

@@ -4,7 +4,6 @@ use mathlib.Core.Path.{sym, ap, subst, ◌∙◌}
 use lib.ListN.{length, get_or}
 use Rattle.step_parts.specs.Parts.{Latest}
 use Rattle.step_parts.proofs.Index.{last_range}
-use borrow.Author.Rules.{rules}
 use Rattle.step_parts.proofs.last_place.Goals as goal
 
 pub offset_bounds-index-last_at : goal.offset_bounds-index-last_at

@@ -5,7 +5,6 @@ use Prim.Native.Nat.{◌+◌}
 use lib.ListN.{get_or, set, length-set}
 use Rattle.step_parts.specs.Parts.{Indexed}
 use Rattle.step_parts.proofs.Index.{stands_small, last_range, index_on}
-use borrow.Author.Rules.{rules}
 use Rattle.step_parts.proofs.link.Goals as goal
 
 pub offset_bounds-words-i : goal.offset_bounds-words-i

@@ -1,8 +1,6 @@
 -- `step_parts::link_part` meets its contract. The invariant: the places passed are linked.
 use native.Mathlib.Omega.{arith}
 use mathlib.Core.Path.{◌≡◌, refl, sym, ap, subst, ◌∙◌}
-use Prim.Native.Nat.{◌≤◌, ◌-◌}
-use lib.ListN.{length}
 use Rattle.step_parts.specs.Parts.{span_of, Indexed}
 use Rattle.step_parts.proofs.Index.{index_fits, span_stands, span_order}
 use borrow.Author.Rules.{rules}

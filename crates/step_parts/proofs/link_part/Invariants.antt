@@ -1,11 +1,8 @@
 -- `step_parts::link_part` meets its contract. The invariant: the places passed are linked.
-use native.Mathlib.Omega.{arith}
-use mathlib.Core.Path.{◌≡◌, refl, sym, ap, subst, ◌∙◌}
+use mathlib.Core.Path.{◌≡◌}
 use Prim.Native.Nat.{◌≤◌, ◌-◌}
 use lib.ListN.{length}
 use Rattle.step_parts.specs.Parts.{span_of, Indexed}
-use Rattle.step_parts.proofs.Index.{index_fits, span_stands, span_order}
-use borrow.Author.Rules.{rules}
 use Rattle.step_parts.proofs.link_part.Given as goal
 
 abbrev pub invariant-loop-i : goal.invariant-loop-i

@@ -2,7 +2,6 @@
 use mathlib.Core.Path.{sym, ap, ◌∙◌}
 use Rattle.step_parts.specs.Parts.{single_of}
 use Rattle.step_parts.proofs.Laws.{part_is, part_marked}
-use borrow.Author.Rules.{rules}
 use Rattle.step_parts.proofs.only.Goals as goal
 
 pub part_single-requires : goal.part_single-requires

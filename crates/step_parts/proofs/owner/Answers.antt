@@ -1,7 +1,6 @@
 -- `step_parts::owner` meets its contract.
 use native.Mathlib.Omega.{arith}
 use Rattle.table.proofs.Encoding.{passed_limits}
-use borrow.Author.Rules.{rules}
 use Rattle.step_parts.proofs.owner.Goals as goal
 
 pub bounds-index-i : goal.bounds-index-i

@@ -1,5 +1,4 @@
 -- `step_parts::part_at` meets its contract.
-use borrow.Author.Rules.{rules}
 use Rattle.step_parts.proofs.part_at.Goals as goal
 
 pub returns-in-Head : goal.returns-in-Head

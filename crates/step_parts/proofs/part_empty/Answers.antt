@@ -1,6 +1,5 @@
 -- `step_parts::part_empty` meets its contract.
 use Rattle.step_parts.proofs.Laws.{empty_by}
-use borrow.Author.Rules.{rules}
 use Rattle.step_parts.proofs.part_empty.Goals as goal
 
 pub returns : goal.returns

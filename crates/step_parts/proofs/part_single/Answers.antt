@@ -1,6 +1,5 @@
 -- `step_parts::part_single` meets its contract.
 use Rattle.step_parts.proofs.Laws.{single_none, single_two, single_one}
-use borrow.Author.Rules.{rules}
 use Rattle.step_parts.proofs.part_single.Goals as goal
 
 pub returns-then-part-i : goal.returns-then-part-i

@@ -1,11 +1,7 @@
 -- `step_parts::part_within` meets its contract. The invariant: what is left of the first part is within the second exactly if the whole is, and the
 -- words of the second that were passed are below all that is left of the first.
-use Prim.Native.Nat.{ℕ, ◌≤◌, ◌<◌, ◌-◌}
-use mathlib.Core.Path.{◌≡◌, refl, sym, ◌∙◌}
+use mathlib.Core.Path.{refl, sym, ◌∙◌}
 use native.Mathlib.Omega.{arith}
-use lib.ListN.{length, get_or, drop}
-use borrow.Author.Tests.{not-true, not-false}
-use Rattle.semantics.specs.Lists.{within}
 use Rattle.table.specs.Slices.{kept_of}
 use Rattle.step_parts.proofs.Laws.{within_on, within_past, within_lost, within_end}
 use borrow.Author.Rules.{rules}

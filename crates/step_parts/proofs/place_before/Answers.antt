@@ -3,7 +3,6 @@ use native.Mathlib.Omega.{arith}
 use mathlib.Core.Path.{sym, subst}
 use Rattle.table.proofs.Encoding.{passed_limits}
 use Rattle.step_parts.specs.Parts.{Latest}
-use borrow.Author.Rules.{rules}
 use Rattle.step_parts.proofs.place_before.Goals as goal
 
 pub bounds-index-i : goal.bounds-index-i

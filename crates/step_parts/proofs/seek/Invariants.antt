@@ -1,10 +1,6 @@
 -- `step_parts::seek` meets its contract. The invariant: what lies before `low` is below the atom, and what lies from `high` on is not.
 use Prim.Native.Nat.{ℕ, ◌≤◌, ◌<◌, ◌-◌}
-use native.Mathlib.Omega.{arith}
 use lib.ListN.{length, get_or}
-use Rattle.semantics.specs.Lists.{within}
-use Rattle.step_parts.proofs.Laws.{seek_low, seek_high}
-use borrow.Author.Rules.{rules}
 use Rattle.step_parts.proofs.seek.Given as goal
 
 abbrev pub invariant-loop-low : goal.invariant-loop-low

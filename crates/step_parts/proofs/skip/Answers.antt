@@ -1,10 +1,7 @@
 -- `step_parts::skip` meets its contract. The invariant: every word passed is below the atom.
-use Prim.Native.Nat.{ℕ, ◌≤◌, ◌<◌, ◌-◌}
-use mathlib.Core.Path.{◌≡◌, refl}
+use mathlib.Core.Path.{refl}
 use native.Mathlib.Omega.{arith}
-use lib.ListN.{length, get_or}
 use borrow.Author.Count.{below_more}
-use Rattle.semantics.specs.Lists.{within}
 use Rattle.step_parts.proofs.Laws.{seek_high}
 use borrow.Author.Rules.{rules}
 use Rattle.step_parts.proofs.skip.Goals as goal

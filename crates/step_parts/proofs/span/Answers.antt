@@ -1,6 +1,5 @@
 -- `step_parts::span` meets its contract.
 use Rattle.step_parts.proofs.Laws.{spanned}
-use borrow.Author.Rules.{rules}
 use Rattle.step_parts.proofs.span.Goals as goal
 
 pub returns : goal.returns

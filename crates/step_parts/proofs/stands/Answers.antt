@@ -1,7 +1,6 @@
 -- `step_parts::stands` meets its contract: an atom stands once in a part that ascends.
 use native.Mathlib.Omega.{arith}
 use Rattle.step_parts.proofs.Laws.{stands_not, stands_there}
-use borrow.Author.Rules.{rules}
 use Rattle.step_parts.proofs.stands.Goals as goal
 
 pub returns-then-part-at : goal.returns-then-part-at
