@@ -3,6 +3,7 @@
 // is put on the queue, once; taken from it, it is counted off in every clause in whose positive body it stands, along the index. So each positive
 // literal is visited twice at most: to be counted, and to be counted off; and each head is walked once.
 #![tactic(auto)]
+
 ghost use Rattle.std.specs.Prelude.{◌≡◌, ℕ, ◌+◌, ◌-◌, ◌≤◌, ◌<◌, length, get_or, replicate};
 ghost use Rattle.std.proofs.Math.Bool.{So};
 ghost use Rattle.semantics.specs.Lists.{◌∈◌};

@@ -1,14 +1,9 @@
 -- `step_reach::begin` meets its contract. The invariant: the clauses before t are counted.
-use native.Mathlib.Omega.{arith}
-use mathlib.Core.Path.{◌≡◌, refl, subst, ◌∙◌}
+use mathlib.Core.Path.{◌≡◌}
 use Prim.Native.Nat.{◌≤◌, ◌-◌}
 use lib.ListN.{length, get_or}
 use Rattle.table.specs.View.{view}
-use Rattle.table.proofs.Encoding.{passed_limits}
 use Rattle.step_reach.specs.Counts.{QueueSpread, Rest}
-use Rattle.step_reach.proofs.Queue.{spread_none, spread_trans}
-use Rattle.step_reach.proofs.Counts.{rest_start, room_same}
-use borrow.Author.Rules.{rules}
 use Rattle.step_reach.proofs.begin.Given as goal
 
 abbrev pub invariant-loop-t : goal.invariant-loop-t

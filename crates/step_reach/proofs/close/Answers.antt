@@ -1,10 +1,8 @@
 -- `step_reach::close` meets its contract. The invariant: the first i atoms of the queue are taken.
 use native.Mathlib.Omega.{arith}
 use mathlib.Core.Path.{◌≡◌, refl, subst, ◌∙◌}
-use Prim.Native.Nat.{◌-◌}
-use lib.ListN.{length, get_or}
-use Rattle.table.specs.View.{view}
-use Rattle.step_reach.specs.Counts.{QueueSpread, Rest}
+use lib.ListN.{get_or}
+use Rattle.step_reach.specs.Counts.{Rest}
 use Rattle.step_reach.proofs.Queue.{queued_few, spread_none, spread_trans}
 use Rattle.step_reach.proofs.Counts.{room_same}
 use Rattle.step_reach.proofs.close.Goals as goal

@@ -1,12 +1,9 @@
 -- `step_reach::close` meets its contract. The invariant: the first i atoms of the queue are taken.
-use native.Mathlib.Omega.{arith}
-use mathlib.Core.Path.{◌≡◌, refl, subst, ◌∙◌}
+use mathlib.Core.Path.{◌≡◌}
 use Prim.Native.Nat.{◌-◌}
 use lib.ListN.{length, get_or}
 use Rattle.table.specs.View.{view}
 use Rattle.step_reach.specs.Counts.{QueueSpread, Rest}
-use Rattle.step_reach.proofs.Queue.{queued_few, spread_none, spread_trans}
-use Rattle.step_reach.proofs.Counts.{room_same}
 use Rattle.step_reach.proofs.close.Given as goal
 
 abbrev pub invariant-loop-i : goal.invariant-loop-i

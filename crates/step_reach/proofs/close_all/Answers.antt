@@ -4,7 +4,6 @@ use lib.ListN.{length}
 use Rattle.step_reach.proofs.Laws.{grown_trans, grown_within}
 use Rattle.step_reach.proofs.Queue.{queued_none}
 use Rattle.step_reach.proofs.Counts.{room_same}
-use borrow.Author.Rules.{rules}
 use mathlib.Core.Path.{refl}
 use Rattle.step_reach.proofs.close_all.Goals as goal
 

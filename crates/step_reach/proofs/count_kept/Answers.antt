@@ -1,9 +1,8 @@
 -- `step_reach::count_kept` meets its contract. The invariant: the count and the kept atoms to come are all of them. A count stays below the part's length, so within 8,192.
 use native.Mathlib.Omega.{arith}
-use mathlib.Core.Path.{◌≡◌, refl, sym, ap, ◌∙◌}
-use Prim.Native.Nat.{◌+◌, ◌≤◌, ◌-◌}
+use mathlib.Core.Path.{refl, sym, ap, ◌∙◌}
+use Prim.Native.Nat.{◌+◌}
 use lib.ListN.{length, drop}
-use Rattle.table.specs.Slices.{kept_of}
 use Rattle.table.proofs.Parts.{scan_end}
 use Rattle.step_parts.proofs.Laws.{kept_on, kept_some}
 use borrow.Author.Rules.{rules}

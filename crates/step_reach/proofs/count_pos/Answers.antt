@@ -4,7 +4,6 @@ use Rattle.step_parts.specs.declared.Part.TheVariants.{Pos}
 use Rattle.step_parts.proofs.Laws.{part_is, part_marked}
 use Rattle.step_reach.proofs.Queue.{part_short}
 use lib.ListN.{length}
-use borrow.Author.Rules.{rules}
 use Rattle.step_reach.proofs.count_pos.Goals as goal
 
 pub count_kept-requires : goal.count_kept-requires

@@ -2,7 +2,6 @@
 use native.Mathlib.Omega.{arith}
 use Rattle.table.proofs.Encoding.{passed_limits}
 use Rattle.step_reach.proofs.Counts.{none_left, rest_enter}
-use borrow.Author.Rules.{rules}
 use Rattle.step_reach.proofs.enter.Goals as goal
 
 pub offset_bounds-missing-t : goal.offset_bounds-missing-t

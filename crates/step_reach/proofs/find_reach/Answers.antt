@@ -4,7 +4,6 @@ use Prim.Native.Nat.{ℕ}
 use lib.ListN.{length-replicate}
 use Rattle.step_reach.proofs.Laws.{reached_by}
 use Rattle.step_reach.proofs.Counts.{settled_closed}
-use borrow.Author.Rules.{rules}
 use Rattle.step_reach.proofs.find_reach.Goals as goal
 
 pub close_all-requires : goal.close_all-requires

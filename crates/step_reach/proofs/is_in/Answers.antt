@@ -3,7 +3,6 @@ use mathlib.Core.Path.{sym, ap}
 use native.Mathlib.Omega.{arith}
 use Rattle.step_reach.specs.Bytes.{in_bytes}
 use Rattle.step_reach.proofs.Laws.{is_out}
-use borrow.Author.Rules.{rules}
 use Rattle.step_reach.proofs.is_in.Goals as goal
 
 pub returns-then-a-bytes : goal.returns-then-a-bytes

@@ -5,7 +5,6 @@ use Prim.Native.Nat.{◌+◌}
 use lib.ListN.{get_or, set}
 use Rattle.step_reach.specs.Counts.{Joined}
 use Rattle.step_reach.proofs.Queue.{join_old, join_room, join_new}
-use borrow.Author.Rules.{rules}
 use Rattle.step_reach.proofs.join.Goals as goal
 
 pub returns-then-bytes-a-eq1 : goal.returns-then-bytes-a-eq1

@@ -1,10 +1,7 @@
 -- `step_reach::join_all` meets its contract. The invariant: the kept atoms passed have joined.
 use native.Mathlib.Omega.{arith}
-use mathlib.Core.Path.{◌≡◌, refl, ◌∙◌}
-use Prim.Native.Nat.{◌≤◌, ◌-◌}
-use lib.ListN.{length}
-use Rattle.step_reach.specs.Counts.{Joined}
-use Rattle.step_reach.proofs.Queue.{Among, joined_none, joined_past, joined_on, joined_end}
+use mathlib.Core.Path.{refl, ◌∙◌}
+use Rattle.step_reach.proofs.Queue.{joined_none, joined_past, joined_on, joined_end}
 use borrow.Author.Rules.{rules}
 use Rattle.step_reach.proofs.join_all.Goals as goal
 

@@ -1,11 +1,9 @@
 -- `step_reach::join_all` meets its contract. The invariant: the kept atoms passed have joined.
-use native.Mathlib.Omega.{arith}
-use mathlib.Core.Path.{◌≡◌, refl, ◌∙◌}
+use mathlib.Core.Path.{◌≡◌}
 use Prim.Native.Nat.{◌≤◌, ◌-◌}
 use lib.ListN.{length}
 use Rattle.step_reach.specs.Counts.{Joined}
-use Rattle.step_reach.proofs.Queue.{Among, joined_none, joined_past, joined_on, joined_end}
-use borrow.Author.Rules.{rules}
+use Rattle.step_reach.proofs.Queue.{Among}
 use Rattle.step_reach.proofs.join_all.Given as goal
 
 abbrev pub invariant-loop-i : goal.invariant-loop-i

@@ -1,7 +1,6 @@
 -- `step_reach::join_part` meets its contract.
 use Rattle.step_parts.proofs.Laws.{part_is, part_marked}
 use Rattle.step_reach.proofs.Queue.{part_small, joined_of}
-use borrow.Author.Rules.{rules}
 use Rattle.step_reach.proofs.join_part.Goals as goal
 
 pub join_all-requires : goal.join_all-requires

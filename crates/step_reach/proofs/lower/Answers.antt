@@ -5,7 +5,6 @@ use Prim.Native.Nat.{◌<◌}
 use lib.ListN.{get_or}
 use Rattle.table.proofs.Encoding.{passed_limits}
 use Rattle.step_reach.proofs.Counts.{lowered_past, due_left, lowered_here}
-use borrow.Author.Rules.{rules}
 use Rattle.step_reach.proofs.lower.Goals as goal
 
 pub returns-then-marks-i-ne1 : goal.returns-then-marks-i-ne1

@@ -1,9 +1,7 @@
 -- `step_reach::settle` meets its contract.
 use mathlib.Core.Path.{sym, ◌∙◌}
-use borrow.Author.Tests.{not-true, not-false}
 use Rattle.table.specs.View.{view}
 use Rattle.step_reach.proofs.Queue.{spread_none, fired_gone, spread_head}
-use borrow.Author.Rules.{rules}
 use Rattle.step_reach.proofs.settle.Goals as goal
 
 pub returns-then-left-ne0 : goal.returns-then-left-ne0

@@ -1,16 +1,11 @@
 -- `step_reach::take_atom` meets its contract. The invariant: the places above i are counted off; it falls from place to place.
 use native.Mathlib.Omega.{arith}
-use mathlib.Core.Path.{◌≡◌, refl, ◌∙◌}
-use Prim.Native.Nat.{◌+◌, ◌<◌}
-use lib.ListN.{length, get_or, take}
-use Rattle.table.specs.View.{view}
+use mathlib.Core.Path.{refl, ◌∙◌}
 use Rattle.table.proofs.Encoding.{passed_limits}
-use Rattle.step_parts.specs.Parts.{Stands, owner_at}
 use Rattle.step_parts.specs.declared.Part.TheVariants.{Pos}
 use Rattle.step_parts.proofs.Walk.{latest_less}
-use Rattle.step_reach.specs.Counts.{QueueSpread}
 use Rattle.step_reach.proofs.Queue.{queued_few, queued_at, spread_none, spread_trans}
-use Rattle.step_reach.proofs.Counts.{room_same, CountingOff, walk_start, walk_due, walk_on, walk_end}
+use Rattle.step_reach.proofs.Counts.{room_same, walk_start, walk_due, walk_on, walk_end}
 use Rattle.step_reach.proofs.take_atom.Goals as goal
 
 pub offset_bounds-queue-k : goal.offset_bounds-queue-k
