@@ -1,5 +1,6 @@
 // For each kind whether it applies, on the words and the marks of a table that passed, and the mark that a step clears.
 #![tactic(auto)]
+
 ghost use Rattle.std.specs.Prelude.{◌≡◌, ◌&&◌, not, ℕ, ◌+◌, ◌-◌, ◌≤◌, ◌<◌, eqb, length, get_or, set, replicate};
 ghost use Rattle.std.proofs.Math.Bool.{So};
 ghost use Rattle.semantics.specs.Lists.{mem, single};

@@ -1,10 +1,7 @@
 -- `step_conditions::blocked_holds` meets its contract.
 use mathlib.Core.Path.{sym, ◌∙◌}
-use borrow.Author.Tests.{not-true, not-false}
-use Rattle.rewriting.specs.Marked.{left}
 use Rattle.rewriting.specs.Steps.{condition}
 use Rattle.step_conditions.proofs.Tests.{and_lost, and_on}
-use borrow.Author.Rules.{rules}
 use Rattle.step_conditions.proofs.blocked_holds.Goals as goal
 
 pub returns-then-not-is_fact : goal.returns-then-not-is_fact

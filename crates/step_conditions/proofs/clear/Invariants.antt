@@ -1,12 +1,8 @@
 -- `step_conditions::clear` meets its contract. The invariant: the counts before i are 0.
 use Prim.Native.Nat.{◌≤◌, ◌-◌}
-use mathlib.Core.Path.{◌≡◌, refl}
+use mathlib.Core.Path.{◌≡◌}
 use mathlib.Core.List.{◌++◌}
-use native.Mathlib.Omega.{arith}
-use lib.ListN.{length, drop, replicate, length-set}
-use borrow.Author.Fill.{fill_none}
-use Rattle.step_reach.proofs.Laws.{clear_end, fill_on}
-use borrow.Author.Rules.{rules}
+use lib.ListN.{length, drop, replicate}
 use Rattle.step_conditions.proofs.clear.Given as goal
 
 abbrev pub invariant-loop-i : goal.invariant-loop-i

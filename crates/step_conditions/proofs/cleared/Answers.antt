@@ -1,7 +1,6 @@
 -- `step_conditions::cleared` meets its contract.
 use mathlib.Core.Path.{sym, ◌∙◌}
 use Rattle.step_conditions.proofs.Tests.{clears_pos, clears_neg, clears_first}
-use borrow.Author.Rules.{rules}
 use Rattle.step_conditions.proofs.cleared.Goals as goal
 
 pub returns-in-3 : goal.returns-in-3

@@ -1,15 +1,9 @@
 -- `step_conditions::count_heads` meets its contract. The invariant: the heads of the clauses before t are counted.
 use Prim.Native.Nat.{◌≤◌, ◌-◌}
-use mathlib.Core.Path.{◌≡◌, refl, sym, ◌∙◌}
-use native.Mathlib.Omega.{arith}
+use mathlib.Core.Path.{◌≡◌}
 use lib.ListN.{length, get_or}
-use borrow.Author.Tests.{not-true, not-false}
-use Rattle.rewriting.specs.Marked.{left}
 use Rattle.table.specs.View.{view}
-use Rattle.table.proofs.Encoding.{passed_limits}
-use Rattle.table.proofs.View.{length_view}
-use Rattle.step_conditions.proofs.Heads.{Counting, counting_start, counting_past, counting_on, counting_room, counting_end}
-use borrow.Author.Rules.{rules}
+use Rattle.step_conditions.proofs.Heads.{Counting}
 use Rattle.step_conditions.proofs.count_heads.Given as goal
 
 abbrev pub invariant-loop-t : goal.invariant-loop-t

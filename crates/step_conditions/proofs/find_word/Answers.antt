@@ -1,8 +1,5 @@
 -- `step_conditions::find_word` meets its contract.
-use Prim.Native.Nat.{◌≤◌, ◌-◌}
-use mathlib.Core.Path.{◌≡◌, refl, sym, ◌∙◌}
-use Rattle.rewriting.specs.Marked.{left}
-use Rattle.table.specs.Effects.{find}
+use mathlib.Core.Path.{refl, sym, ◌∙◌}
 use Rattle.step_conditions.proofs.Tests.{find_hit, find_on, find_end}
 use borrow.Author.Rules.{rules}
 use Rattle.step_conditions.proofs.find_word.Goals as goal

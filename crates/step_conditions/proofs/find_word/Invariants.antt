@@ -1,10 +1,7 @@
 -- `step_conditions::find_word` meets its contract.
 use Prim.Native.Nat.{◌≤◌, ◌-◌}
-use mathlib.Core.Path.{◌≡◌, refl, sym, ◌∙◌}
-use Rattle.rewriting.specs.Marked.{left}
+use mathlib.Core.Path.{◌≡◌}
 use Rattle.table.specs.Effects.{find}
-use Rattle.step_conditions.proofs.Tests.{find_hit, find_on, find_end}
-use borrow.Author.Rules.{rules}
 use Rattle.step_conditions.proofs.find_word.Given as goal
 
 abbrev pub invariant-loop-i : goal.invariant-loop-i

@@ -2,7 +2,6 @@
 use mathlib.Core.Path.{sym, ap, ◌∙◌}
 use lib.ListN.{get_or}
 use Rattle.step_parts.proofs.Laws.{part_is, part_marked}
-use borrow.Author.Rules.{rules}
 use Rattle.step_conditions.proofs.first_atom.Goals as goal
 
 pub first_of-requires : goal.first_of-requires

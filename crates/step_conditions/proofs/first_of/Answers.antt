@@ -1,7 +1,5 @@
 -- `step_conditions::first_of` meets its contract.
-use Rattle.rewriting.specs.Marked.{left}
 use Rattle.step_conditions.proofs.Tests.{first_there, first_none}
-use borrow.Author.Rules.{rules}
 use Rattle.step_conditions.proofs.first_of.Goals as goal
 
 pub returns-then-i-part : goal.returns-then-i-part

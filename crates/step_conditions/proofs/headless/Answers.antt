@@ -1,10 +1,7 @@
 -- `step_conditions::headless` meets its contract.
 use mathlib.Core.Path.{sym, ◌∙◌}
-use borrow.Author.Tests.{not-true, not-false}
-use Rattle.rewriting.specs.Marked.{left}
 use Rattle.step_conditions.proofs.Heads.{no_head_is}
 use Rattle.step_conditions.proofs.Tests.{and_lost, and_on}
-use borrow.Author.Rules.{rules}
 use Rattle.step_conditions.proofs.headless.Goals as goal
 
 pub returns-then-not-has : goal.returns-then-not-has

@@ -2,7 +2,6 @@
 use mathlib.Core.Path.{refl}
 use Rattle.rewriting.specs.Steps.{condition}
 use Rattle.step_conditions.proofs.Tests.{kind_last}
-use borrow.Author.Rules.{rules}
 use Rattle.step_conditions.proofs.holds.Goals as goal
 
 pub headless-requires : goal.headless-requires

@@ -1,9 +1,6 @@
 -- `step_conditions::is_fact` meets its contract.
 use mathlib.Core.Path.{sym, ◌∙◌}
-use borrow.Author.Tests.{not-true, not-false}
-use Rattle.rewriting.specs.Marked.{left}
 use Rattle.step_conditions.proofs.Tests.{and_lost, and_on}
-use borrow.Author.Rules.{rules}
 use Rattle.step_conditions.proofs.is_fact.Goals as goal
 
 pub returns-then-not-empty : goal.returns-then-not-empty

@@ -5,7 +5,6 @@ use Rattle.rewriting.specs.Marked.{entry}
 use Rattle.table.specs.View.{view}
 use Rattle.step_parts.specs.Parts.{part_of}
 use Rattle.step_conditions.proofs.Tests.{single_one, single_other}
-use borrow.Author.Rules.{rules}
 use Rattle.step_conditions.proofs.is_only.Goals as goal
 
 pub returns-in_default : goal.returns-in_default

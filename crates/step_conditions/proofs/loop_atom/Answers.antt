@@ -2,7 +2,6 @@
 use mathlib.Core.Path.{sym, ap, ◌∙◌}
 use mathlib.Core.Bool.{not}
 use Rattle.step_conditions.proofs.Tests.{and_lost, and_on}
-use borrow.Author.Rules.{rules}
 use Rattle.step_conditions.proofs.loop_atom.Goals as goal
 
 pub returns-then-no_head : goal.returns-then-no_head

@@ -1,10 +1,8 @@
 -- `step_conditions::loop_holds` meets its contract.
 use mathlib.Core.Path.{sym, ◌∙◌}
-use borrow.Author.Tests.{not-true, not-false}
 use Rattle.rewriting.specs.Steps.{condition}
 use Rattle.step_conditions.proofs.Heads.{loop_atom_is}
 use Rattle.step_conditions.proofs.Tests.{and_lost, and_on}
-use borrow.Author.Rules.{rules}
 use Rattle.step_conditions.proofs.loop_holds.Goals as goal
 
 pub returns-then-not-has : goal.returns-then-not-has

@@ -4,8 +4,6 @@ use mathlib.Core.Path.{sym, ap}
 use native.Mathlib.Omega.{arith}
 use lib.ListN.{get_or, set}
 use lib.Seq.{set_out}
-use Rattle.rewriting.specs.Marked.{left}
-use borrow.Author.Rules.{rules}
 use Rattle.step_conditions.proofs.lower.Goals as goal
 
 pub overflow_sub-heads : goal.overflow_sub-heads

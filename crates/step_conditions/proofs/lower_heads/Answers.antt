@@ -4,7 +4,6 @@ use Rattle.step_conditions.specs.Known.{Positive}
 use Rattle.step_parts.specs.declared.Part.TheVariants.{Head}
 use Rattle.step_parts.proofs.Laws.{part_is, part_marked, part_ascends}
 use Rattle.step_conditions.proofs.Heads.{tallied_of, heads_positive}
-use borrow.Author.Rules.{rules}
 use Rattle.step_conditions.proofs.lower_heads.Goals as goal
 
 pub lower_part-requires : goal.lower_part-requires

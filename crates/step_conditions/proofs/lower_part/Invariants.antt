@@ -1,11 +1,8 @@
 -- `lower_part`: the counts now, with what the whole gives, are those at first with what is left of the part.
 use Prim.Native.Nat.{◌≤◌, ◌-◌}
-use mathlib.Core.Path.{◌≡◌, refl, sym}
-use native.Mathlib.Omega.{arith}
+use mathlib.Core.Path.{◌≡◌}
 use lib.ListN.{length}
-use Rattle.rewriting.specs.Marked.{left}
-use Rattle.step_conditions.proofs.Heads.{Tallying, tally_start, tally_past, untally_room, untally_on, tally_end}
-use borrow.Author.Rules.{rules}
+use Rattle.step_conditions.proofs.Heads.{Tallying}
 use Rattle.step_conditions.proofs.lower_part.Given as goal
 
 abbrev pub invariant-loop-i : goal.invariant-loop-i

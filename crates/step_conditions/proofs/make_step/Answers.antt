@@ -3,7 +3,6 @@ use native.Mathlib.Omega.{arith}
 use Rattle.rewriting.proofs.Rows.{kind_of_on_target}
 use Rattle.step_conditions.specs.Known.{step_of}
 use Rattle.step_conditions.proofs.Tests.{clears_at, clears_fits, step_fits, after_is}
-use borrow.Author.Rules.{rules}
 use Rattle.step_conditions.proofs.make_step.Goals as goal
 
 pub cleared-at-requires : goal.cleared-at-requires

@@ -3,9 +3,7 @@ use mathlib.Core.Path.{ap}
 use native.Mathlib.Omega.{arith}
 use lib.ListN.{get_or}
 use lib.Dec.{eqb}
-use Rattle.rewriting.specs.Marked.{left}
 use Rattle.step_conditions.proofs.Tests.{no_count}
-use borrow.Author.Rules.{rules}
 use Rattle.step_conditions.proofs.no_head.Goals as goal
 
 pub returns-then-a-heads : goal.returns-then-a-heads

@@ -2,7 +2,6 @@
 use Prim.Native.Nat.{◌-◌}
 use mathlib.Core.Path.{ap, ◌∙◌}
 use Rattle.table.specs.Effects.{find}
-use borrow.Author.Rules.{rules}
 use Rattle.step_conditions.proofs.place_of.Goals as goal
 
 pub returns : goal.returns

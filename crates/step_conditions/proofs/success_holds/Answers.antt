@@ -1,9 +1,7 @@
 -- `step_conditions::success_holds` meets its contract: three tests, one after the other.
 use mathlib.Core.Path.{sym, ◌∙◌}
-use borrow.Author.Tests.{not-true, not-false}
 use Rattle.rewriting.specs.Steps.{condition}
 use Rattle.step_conditions.proofs.Tests.{and_lost, and_on}
-use borrow.Author.Rules.{rules}
 use Rattle.step_conditions.proofs.success_holds.Goals as goal
 
 pub returns-then-not-is_fact : goal.returns-then-not-is_fact

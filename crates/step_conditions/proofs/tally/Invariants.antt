@@ -1,11 +1,8 @@
 -- `step_conditions::tally` meets its contract. The invariant: what is left of the part, counted now, gives what the whole gave at first.
 use Prim.Native.Nat.{◌≤◌, ◌-◌}
-use mathlib.Core.Path.{◌≡◌, refl}
-use native.Mathlib.Omega.{arith}
+use mathlib.Core.Path.{◌≡◌}
 use lib.ListN.{length}
-use Rattle.rewriting.specs.Marked.{left}
-use Rattle.step_conditions.proofs.Heads.{Tallying, tally_start, tally_past, tally_room, tally_on, tally_end}
-use borrow.Author.Rules.{rules}
+use Rattle.step_conditions.proofs.Heads.{Tallying}
 use Rattle.step_conditions.proofs.tally.Given as goal
 
 abbrev pub invariant-loop-i : goal.invariant-loop-i

@@ -2,7 +2,6 @@
 use Rattle.step_parts.specs.declared.Part.TheVariants.{Head}
 use Rattle.step_parts.proofs.Laws.{part_is, part_marked, part_ascends}
 use Rattle.step_conditions.proofs.Heads.{tallied_of}
-use borrow.Author.Rules.{rules}
 use Rattle.step_conditions.proofs.tally_head.Goals as goal
 
 pub tally-requires : goal.tally-requires
