@@ -1,5 +1,6 @@
 // Kind 9 on the words and the marks of a table that passed: the consequences of an atom as bytes, the condition, and the marks after the step.
 #![tactic(auto)]
+
 ghost use Rattle.std.specs.Prelude.{◌≡◌, ℕ, ◌-◌, ◌≤◌, ◌<◌, length, get_or};
 ghost use Rattle.std.proofs.Math.Bool.{So};
 ghost use Rattle.semantics.specs.Lists.{any, all};

@@ -4,7 +4,6 @@ use Rattle.semantics.specs.Lists.{all}
 use Rattle.step_reach.specs.Bytes.{in_bytes}
 use Rattle.step_parts.specs.declared.Part.TheVariants.{Pos}
 use Rattle.step_parts.proofs.Laws.{part_is, part_marked}
-use borrow.Author.Rules.{rules}
 use Rattle.step_exclusion.proofs.body_in.Goals as goal
 
 pub part_in-requires : goal.part_in-requires

@@ -1,9 +1,7 @@
 -- `step_exclusion::clear_clause` meets its contract.
 use native.Mathlib.Omega.{arith}
 use mathlib.Core.Path.{sym, ◌∙◌}
-use borrow.Author.Tests.{not-true, not-false}
 use Rattle.step_exclusion.proofs.Marks.{clause_gone, clause_deleted, clause_dropped}
-use borrow.Author.Rules.{rules}
 use Rattle.step_exclusion.proofs.clear_clause.Goals as goal
 
 pub returns-then-not-kept : goal.returns-then-not-kept

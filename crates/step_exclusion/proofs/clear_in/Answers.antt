@@ -1,6 +1,5 @@
 -- `step_exclusion::clear_in` meets its contract.
 use Rattle.step_exclusion.proofs.Marks.{clear_span}
-use borrow.Author.Rules.{rules}
 use Rattle.step_exclusion.proofs.clear_in.Goals as goal
 
 pub clear_part-requires : goal.clear_part-requires

@@ -1,11 +1,8 @@
 -- `step_exclusion::clear_part` meets its contract. The invariant: what is left to clear gives what the whole gives.
-use native.Mathlib.Omega.{arith}
-use mathlib.Core.Path.{◌≡◌, refl, sym, ◌∙◌}
+use mathlib.Core.Path.{◌≡◌}
 use Prim.Native.Nat.{◌≤◌, ◌-◌}
-use lib.ListN.{length, length-set}
+use lib.ListN.{length}
 use Rattle.table.specs.Clearing.{clear_part}
-use Rattle.step_exclusion.proofs.Marks.{clear_past, clear_here, clear_end}
-use borrow.Author.Rules.{rules}
 use Rattle.step_exclusion.proofs.clear_part.Given as goal
 
 abbrev pub invariant-loop-i : goal.invariant-loop-i

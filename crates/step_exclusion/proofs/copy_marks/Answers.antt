@@ -1,8 +1,7 @@
 -- `step_exclusion::copy_marks` meets its contract. The invariant: the marks before i are copied.
 use native.Mathlib.Omega.{arith}
-use mathlib.Core.Path.{◌≡◌, refl}
-use Prim.Native.Nat.{ℕ, ◌≤◌, ◌<◌, ◌-◌}
-use lib.ListN.{length, get_or, length-set}
+use mathlib.Core.Path.{refl}
+use lib.ListN.{length-set}
 use Rattle.step_exclusion.proofs.Sets.{copy_on}
 use borrow.Author.Rules.{rules}
 use Rattle.step_exclusion.proofs.copy_marks.Goals as goal

@@ -1,10 +1,7 @@
 -- `step_exclusion::copy_marks` meets its contract. The invariant: the marks before i are copied.
-use native.Mathlib.Omega.{arith}
-use mathlib.Core.Path.{◌≡◌, refl}
+use mathlib.Core.Path.{◌≡◌}
 use Prim.Native.Nat.{ℕ, ◌≤◌, ◌<◌, ◌-◌}
-use lib.ListN.{length, get_or, length-set}
-use Rattle.step_exclusion.proofs.Sets.{copy_on}
-use borrow.Author.Rules.{rules}
+use lib.ListN.{length, get_or}
 use Rattle.step_exclusion.proofs.copy_marks.Given as goal
 
 abbrev pub invariant-loop-i : goal.invariant-loop-i

@@ -3,12 +3,10 @@ use native.Mathlib.Omega.{arith}
 use mathlib.Core.Path.{sym, ◌∙◌}
 use Prim.Native.Nat.{ℕ}
 use lib.ListN.{length-replicate}
-use borrow.Author.Tests.{not-true, not-false}
 use Rattle.rewriting.specs.Marked.{entry, left}
 use Rattle.table.specs.View.{view}
 use Rattle.table.proofs.Encoding.{passed_limits}
 use Rattle.step_exclusion.proofs.Bools.{not_plain, condition_none, condition_all}
-use borrow.Author.Rules.{rules}
 use Rattle.step_exclusion.proofs.excluded.Goals as goal
 
 pub returns-then-not-is_plain : goal.returns-then-not-is_plain

@@ -5,7 +5,6 @@ use Prim.Native.Nat.{ℕ}
 use lib.ListN.{length-replicate}
 use Rattle.table.proofs.Encoding.{passed_limits}
 use Rattle.step_exclusion.proofs.Sets.{consequences_by}
-use borrow.Author.Rules.{rules}
 use Rattle.step_exclusion.proofs.find_consequences.Goals as goal
 
 pub narrow-requires : goal.narrow-requires

@@ -1,13 +1,11 @@
 -- `step_exclusion::find_present` meets its contract. The invariant: the atoms of the kept clauses before t are in the set.
 use native.Mathlib.Omega.{arith}
-use mathlib.Core.Path.{◌≡◌, refl, sym, ◌∙◌}
-use Prim.Native.Nat.{ℕ, ◌≤◌, ◌-◌}
-use lib.ListN.{length, get_or, length-replicate}
-use borrow.Author.Tests.{not-true, not-false}
+use mathlib.Core.Path.{refl, sym, ◌∙◌}
+use Prim.Native.Nat.{ℕ}
+use lib.ListN.{length, length-replicate}
 use Rattle.table.proofs.Encoding.{passed_limits}
-use Rattle.step_reach.specs.Counts.{Queued}
 use Rattle.step_reach.proofs.Queue.{queued_none}
-use Rattle.step_exclusion.proofs.Sets.{Seen, seen_none, seen_past, seen_on, seen_end}
+use Rattle.step_exclusion.proofs.Sets.{seen_none, seen_past, seen_on, seen_end}
 use borrow.Author.Rules.{rules}
 use Rattle.step_exclusion.proofs.find_present.Goals as goal
 

@@ -1,14 +1,9 @@
 -- `step_exclusion::find_present` meets its contract. The invariant: the atoms of the kept clauses before t are in the set.
-use native.Mathlib.Omega.{arith}
-use mathlib.Core.Path.{◌≡◌, refl, sym, ◌∙◌}
-use Prim.Native.Nat.{ℕ, ◌≤◌, ◌-◌}
-use lib.ListN.{length, get_or, length-replicate}
-use borrow.Author.Tests.{not-true, not-false}
-use Rattle.table.proofs.Encoding.{passed_limits}
+use mathlib.Core.Path.{◌≡◌}
+use Prim.Native.Nat.{◌≤◌, ◌-◌}
+use lib.ListN.{length, get_or}
 use Rattle.step_reach.specs.Counts.{Queued}
-use Rattle.step_reach.proofs.Queue.{queued_none}
-use Rattle.step_exclusion.proofs.Sets.{Seen, seen_none, seen_past, seen_on, seen_end}
-use borrow.Author.Rules.{rules}
+use Rattle.step_exclusion.proofs.Sets.{Seen}
 use Rattle.step_exclusion.proofs.find_present.Given as goal
 
 abbrev pub invariant-loop-t : goal.invariant-loop-t

@@ -2,7 +2,6 @@
 use Rattle.rewriting.specs.Marked.{entry}
 use Rattle.table.specs.View.{view}
 use Rattle.step_exclusion.proofs.Bools.{definite_one, definite_other}
-use borrow.Author.Rules.{rules}
 use Rattle.step_exclusion.proofs.is_definite.Goals as goal
 
 pub returns-in-One : goal.returns-in-One

@@ -1,10 +1,8 @@
 -- `step_exclusion::is_plain` meets its contract.
 use mathlib.Core.Path.{sym, ◌∙◌}
-use borrow.Author.Tests.{not-true, not-false}
 use Rattle.rewriting.specs.Marked.{entry}
 use Rattle.table.specs.View.{view}
 use Rattle.step_exclusion.proofs.Bools.{has_head, has_neg, has_neither}
-use borrow.Author.Rules.{rules}
 use Rattle.step_exclusion.proofs.is_plain.Goals as goal
 
 pub returns-then-not-empty : goal.returns-then-not-empty

@@ -4,7 +4,6 @@ use mathlib.Core.Path.{◌∙◌}
 use Prim.Native.Nat.{ℕ}
 use lib.ListN.{length-replicate}
 use Rattle.table.proofs.Encoding.{passed_limits}
-use borrow.Author.Rules.{rules}
 use Rattle.step_exclusion.proofs.is_present.Goals as goal
 
 pub find_present-requires : goal.find_present-requires

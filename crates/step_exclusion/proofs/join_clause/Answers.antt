@@ -3,7 +3,6 @@ use native.Mathlib.Omega.{arith}
 use Rattle.rewriting.specs.Marked.{entry}
 use Rattle.table.specs.View.{view}
 use Rattle.step_exclusion.proofs.Sets.{joined_three}
-use borrow.Author.Rules.{rules}
 use Rattle.step_exclusion.proofs.join_clause.Goals as goal
 
 pub join_part-a-requires : goal.join_part-a-requires

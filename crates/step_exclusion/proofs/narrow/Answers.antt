@@ -1,10 +1,9 @@
 -- `step_exclusion::narrow` meets its contract. The invariant: the clauses before t are sorted out.
 use native.Mathlib.Omega.{arith}
-use mathlib.Core.Path.{◌≡◌, refl, sym, ◌∙◌}
-use Prim.Native.Nat.{◌≤◌, ◌-◌}
-use lib.ListN.{length, get_or, length-set}
+use mathlib.Core.Path.{refl, sym, ◌∙◌}
+use lib.ListN.{length-set}
 use Rattle.table.proofs.Encoding.{passed_limits}
-use Rattle.step_exclusion.proofs.Sets.{Narrowing, narrow_start, narrow_past, narrow_at, narrow_end}
+use Rattle.step_exclusion.proofs.Sets.{narrow_start, narrow_past, narrow_at, narrow_end}
 use borrow.Author.Rules.{rules}
 use Rattle.step_exclusion.proofs.narrow.Goals as goal
 

@@ -1,11 +1,8 @@
 -- `step_exclusion::narrow` meets its contract. The invariant: the clauses before t are sorted out.
-use native.Mathlib.Omega.{arith}
-use mathlib.Core.Path.{◌≡◌, refl, sym, ◌∙◌}
+use mathlib.Core.Path.{◌≡◌}
 use Prim.Native.Nat.{◌≤◌, ◌-◌}
-use lib.ListN.{length, get_or, length-set}
-use Rattle.table.proofs.Encoding.{passed_limits}
-use Rattle.step_exclusion.proofs.Sets.{Narrowing, narrow_start, narrow_past, narrow_at, narrow_end}
-use borrow.Author.Rules.{rules}
+use lib.ListN.{length, get_or}
+use Rattle.step_exclusion.proofs.Sets.{Narrowing}
 use Rattle.step_exclusion.proofs.narrow.Given as goal
 
 abbrev pub invariant-loop-t : goal.invariant-loop-t

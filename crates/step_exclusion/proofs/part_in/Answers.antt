@@ -1,11 +1,6 @@
 -- `step_exclusion::part_in` meets its contract. The invariant: what is left decides.
 use native.Mathlib.Omega.{arith}
-use mathlib.Core.Path.{◌≡◌, refl, sym, ◌∙◌}
-use Prim.Native.Nat.{◌≤◌, ◌-◌}
-use borrow.Author.Tests.{not-true, not-false}
-use lib.ListN.{length, drop}
-use Rattle.semantics.specs.Lists.{all}
-use Rattle.table.specs.Slices.{kept_of}
+use mathlib.Core.Path.{refl, sym, ◌∙◌}
 use Rattle.step_reach.specs.Bytes.{in_bytes}
 use Rattle.step_exclusion.proofs.Bools.{all_past, all_on, all_lost, all_end}
 use borrow.Author.Rules.{rules}

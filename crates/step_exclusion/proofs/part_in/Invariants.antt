@@ -1,14 +1,10 @@
 -- `step_exclusion::part_in` meets its contract. The invariant: what is left decides.
-use native.Mathlib.Omega.{arith}
-use mathlib.Core.Path.{◌≡◌, refl, sym, ◌∙◌}
+use mathlib.Core.Path.{◌≡◌}
 use Prim.Native.Nat.{◌≤◌, ◌-◌}
-use borrow.Author.Tests.{not-true, not-false}
 use lib.ListN.{length, drop}
 use Rattle.semantics.specs.Lists.{all}
 use Rattle.table.specs.Slices.{kept_of}
 use Rattle.step_reach.specs.Bytes.{in_bytes}
-use Rattle.step_exclusion.proofs.Bools.{all_past, all_on, all_lost, all_end}
-use borrow.Author.Rules.{rules}
 use Rattle.step_exclusion.proofs.part_in.Given as goal
 
 abbrev pub invariant-loop-i : goal.invariant-loop-i

@@ -1,11 +1,9 @@
 -- `step_exclusion::remove_atom` meets its contract. The invariant: clearing what is left gives what clearing all gives.
 use native.Mathlib.Omega.{arith}
-use mathlib.Core.Path.{◌≡◌, refl, sym, ◌∙◌}
-use Prim.Native.Nat.{◌≤◌, ◌-◌}
-use lib.ListN.{length, get_or}
+use mathlib.Core.Path.{refl, sym, ◌∙◌}
+use lib.ListN.{get_or}
 use Rattle.table.specs.Places.{start_of}
 use Rattle.table.proofs.Encoding.{passed_limits}
-use Rattle.table.specs.Clearing.{clear_from, marks_without}
 use Rattle.step_exclusion.proofs.Marks.{remove_start, remove_on, remove_end}
 use borrow.Author.Rules.{rules}
 use Rattle.step_exclusion.proofs.remove_atom.Goals as goal

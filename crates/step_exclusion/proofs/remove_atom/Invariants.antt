@@ -1,13 +1,9 @@
 -- `step_exclusion::remove_atom` meets its contract. The invariant: clearing what is left gives what clearing all gives.
-use native.Mathlib.Omega.{arith}
-use mathlib.Core.Path.{◌≡◌, refl, sym, ◌∙◌}
+use mathlib.Core.Path.{◌≡◌}
 use Prim.Native.Nat.{◌≤◌, ◌-◌}
 use lib.ListN.{length, get_or}
 use Rattle.table.specs.Places.{start_of}
-use Rattle.table.proofs.Encoding.{passed_limits}
 use Rattle.table.specs.Clearing.{clear_from, marks_without}
-use Rattle.step_exclusion.proofs.Marks.{remove_start, remove_on, remove_end}
-use borrow.Author.Rules.{rules}
 use Rattle.step_exclusion.proofs.remove_atom.Given as goal
 
 abbrev pub invariant-loop-t : goal.invariant-loop-t
