@@ -1,5 +1,6 @@
 // Kinds of steps by their numbers: which words a kind uses, what it asks for, and the part in which its targets have an atom.
 #![tactic(auto)]
+
 ghost use Rattle.std.specs.Prelude.{◌≡◌, ◌≤◌, cond};
 ghost use Rattle.rewriting.specs.Kinds.{uses_partner, kind_of, uses_atom};
 ghost use Rattle.rewriting.specs.Uses.{asks_no_head, asks_heads, asks_reach, drops};
