@@ -1,5 +1,6 @@
 // One step of a list: questions 12 to 16 with 29 and 32 before 16, then the step made; what is known of the program is kept from step to step.
 #![tactic(auto)]
+
 ghost use Rattle.std.specs.Prelude.{◌≡◌, ◌≢◌, List, true, not, ◌&&◌, ℕ, ◌≤◌, ◌<◌, eqb, length, get_or};
 ghost use Rattle.std.proofs.Math.Bool.{So};
 ghost use Rattle.rewriting.specs.Steps.{partner_kept, atom_known, atom_matches, condition_holds, applies};

@@ -2,7 +2,6 @@
 use mathlib.Core.Path.{ap}
 use mathlib.Core.Bool.{not}
 use borrow.Author.Tests.{ne_eqb}
-use borrow.Author.Rules.{rules}
 use Rattle.step_questions.proofs.atom_headed.Goals as goal
 
 pub returns-then-s-ne7 : goal.returns-then-s-ne7

@@ -1,9 +1,7 @@
 -- `step_questions::atom_known` meets its contract.
 use mathlib.Core.Path.{sym, ◌∙◌}
 use lib.ListN.{get_or}
-use borrow.Author.Tests.{not-true, not-false}
 use Rattle.step_questions.proofs.Laws.{atom_unused, atom_used}
-use borrow.Author.Rules.{rules}
 use Rattle.step_questions.proofs.atom_known.Goals as goal
 
 pub returns-then-not-uses_atom : goal.returns-then-not-uses_atom

@@ -5,7 +5,6 @@ use Rattle.rewriting.specs.Marked.{entry}
 use Rattle.table.specs.View.{view}
 use Rattle.step_parts.specs.Parts.{single_of}
 use Rattle.step_questions.proofs.Laws.{success_partner, matches_kind, matches_other, matches_one}
-use borrow.Author.Rules.{rules}
 use Rattle.step_questions.proofs.atom_matches.Goals as goal
 
 pub returns-then-s-ne3 : goal.returns-then-s-ne3

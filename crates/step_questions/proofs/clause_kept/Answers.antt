@@ -5,7 +5,6 @@ use Rattle.rewriting.specs.Marked.{entry}
 use Rattle.table.specs.View.{view}
 use Rattle.table.proofs.Encoding.{passed_limits}
 use Rattle.step_questions.proofs.Laws.{kept_out}
-use borrow.Author.Rules.{rules}
 use Rattle.step_questions.proofs.clause_kept.Goals as goal
 
 pub bounds-words-1 : goal.bounds-words-1

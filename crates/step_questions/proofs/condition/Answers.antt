@@ -1,8 +1,6 @@
 -- `step_questions::condition` meets its contract: 32, then 16.
 use mathlib.Core.Path.{sym, ◌∙◌}
-use borrow.Author.Tests.{not-true, not-false}
 use Rattle.step_questions.proofs.Laws.{headed_is, condition_32, condition_16, condition_fine}
-use borrow.Author.Rules.{rules}
 use Rattle.step_questions.proofs.condition.Goals as goal
 
 pub returns-then-not-atom_headed : goal.returns-then-not-atom_headed

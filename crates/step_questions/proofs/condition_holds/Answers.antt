@@ -1,7 +1,6 @@
 -- `step_questions::condition_holds` meets its contract.
 use native.Mathlib.Omega.{arith}
 use Rattle.step_questions.proofs.Laws.{shape_fits, holds_is}
-use borrow.Author.Rules.{rules}
 use Rattle.step_questions.proofs.condition_holds.Goals as goal
 
 pub holds-requires : goal.holds-requires

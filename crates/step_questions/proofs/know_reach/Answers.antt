@@ -1,8 +1,6 @@
 -- `step_questions::know_reach` meets its contract.
 use mathlib.Core.Path.{refl, sym, ◌∙◌}
-use borrow.Author.Tests.{not-true}
 use Rattle.step_questions.proofs.Known.{none_asked}
-use borrow.Author.Rules.{rules}
 use Rattle.step_questions.proofs.know_reach.Goals as goal
 
 pub returns-then-known : goal.returns-then-known

@@ -1,7 +1,6 @@
 -- `step_questions::lose_heads` meets its contract.
 use mathlib.Core.Path.{sym, ◌∙◌}
 use mathlib.Core.Bool.{true≢false}
-use borrow.Author.Rules.{rules}
 use Rattle.step_questions.proofs.lose_heads.Goals as goal
 
 pub lower_heads-requires : goal.lower_heads-requires

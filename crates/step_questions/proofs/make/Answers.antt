@@ -1,7 +1,6 @@
 -- `step_questions::make` meets its contract: what is known after a drop, after a failure or a loop step, and after another deletion.
 use mathlib.Core.Path.{sym, ◌∙◌}
 use Rattle.step_questions.proofs.Known.{target_fits, after_drop, after_idle, after_deletion}
-use borrow.Author.Rules.{rules}
 use Rattle.step_questions.proofs.make.Goals as goal
 
 pub returns-then-drops_literal : goal.returns-then-drops_literal

@@ -1,9 +1,7 @@
 -- `step_questions::partner_kept` meets its contract.
 use mathlib.Core.Path.{sym, ◌∙◌}
-use borrow.Author.Tests.{not-true, not-false}
 use Rattle.table.specs.View.{view}
 use Rattle.step_questions.proofs.Laws.{partner_unused, partner_same, partner_other}
-use borrow.Author.Rules.{rules}
 use Rattle.step_questions.proofs.partner_kept.Goals as goal
 
 pub returns-then-not-uses_partner : goal.returns-then-not-uses_partner

@@ -1,6 +1,5 @@
 -- `step_questions::refresh` meets its contract.
 use Rattle.step_questions.proofs.Known.{ready_for}
-use borrow.Author.Rules.{rules}
 use Rattle.step_questions.proofs.refresh.Goals as goal
 
 pub returns : goal.returns

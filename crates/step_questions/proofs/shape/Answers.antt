@@ -1,10 +1,8 @@
 -- `step_questions::shape` meets its contract, question by question.
 use mathlib.Core.Path.{sym, ◌∙◌}
 use native.Mathlib.Omega.{arith}
-use borrow.Author.Tests.{not-true, not-false}
 use Rattle.table.proofs.Encoding.{passed_limits}
 use Rattle.step_questions.proofs.Laws.{known_kind, low_kind, high_kind, shape_12, shape_13, shape_14, shape_15, shape_29, shape_fine}
-use borrow.Author.Rules.{rules}
 use Rattle.step_questions.proofs.shape.Goals as goal
 
 pub returns-then-kind-lt1 : goal.returns-then-kind-lt1

@@ -1,13 +1,11 @@
 -- `step_questions::take_exclusion` meets its contract, question by question.
 use mathlib.Core.Path.{sym, ◌∙◌}
 use native.Mathlib.Omega.{arith}
-use borrow.Author.Tests.{not-true, not-false}
 use Rattle.rewriting.proofs.Left.{kept_lt}
 use Rattle.table.specs.View.{view}
 use Rattle.table.proofs.View.{length_view}
 use Rattle.table.proofs.Encoding.{passed_limits}
 use Rattle.step_questions.proofs.Excluded.{nine_13, nine_14, nine_15, nine_16, nine_made}
-use borrow.Author.Rules.{rules}
 use Rattle.step_questions.proofs.take_exclusion.Goals as goal
 
 pub returns-then-not-clause_kept : goal.returns-then-not-clause_kept

@@ -1,7 +1,6 @@
 -- `step_questions::take_flagged` meets its contract: the first no, or the step made and what is known after it.
 use mathlib.Core.Path.{sym, ◌∙◌}
 use Rattle.step_questions.proofs.Laws.{shape_inv, condition_inv, applies_of, not_shaped, not_holding, made}
-use borrow.Author.Rules.{rules}
 use Rattle.step_questions.proofs.take_flagged.Goals as goal
 
 pub returns-in-No : goal.returns-in-No

@@ -1,5 +1,4 @@
 -- `step_questions::take_step` meets its contract: kind 9, and the others.
-use borrow.Author.Rules.{rules}
 use Rattle.step_questions.proofs.take_step.Goals as goal
 
 pub returns-then-s-eq9 : goal.returns-then-s-eq9
