@@ -1,5 +1,6 @@
 // Checking a list of steps: questions 9, 11 to 16, 29 and 32, and the marks that the list leaves.
 #![tactic(auto)]
+
 ghost use Rattle.std.specs.Prelude.{◌≡◌, ◌+◌, ◌*◌, ◌/◌, ◌≤◌, ◌<◌, length, get_or};
 ghost use Rattle.table.specs.Questions.{Passed};
 ghost use Rattle.step_parts.specs.Parts.{Ready};

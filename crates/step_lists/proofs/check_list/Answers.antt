@@ -1,10 +1,8 @@
 -- `step_lists::check_list` meets its contract.
 use mathlib.Core.Path.{sym, ◌∙◌}
 use native.Mathlib.Omega.{arith}
-use borrow.Author.Tests.{not-true, not-false}
 use Rattle.table.proofs.Encoding.{valid_passed}
 use Rattle.step_lists.proofs.Walks.{check_refused, check_9, check_11, leaves_made}
-use borrow.Author.Rules.{rules}
 use Rattle.step_lists.proofs.check_list.Goals as goal
 
 pub returns-in_default : goal.returns-in_default

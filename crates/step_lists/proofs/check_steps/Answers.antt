@@ -1,7 +1,6 @@
 -- `step_lists::check_steps` meets its contract.
 use native.Mathlib.Omega.{arith}
 use Rattle.table.proofs.Encoding.{passed_limits}
-use borrow.Author.Rules.{rules}
 use Rattle.step_lists.proofs.check_steps.Goals as goal
 
 pub build_index-requires : goal.build_index-requires

@@ -1,9 +1,7 @@
 -- `step_lists::take_steps` meets its contract. The invariant: what is left from here, on the marks as they are, is the whole from the start.
-use Prim.Native.Nat.{◌≤◌, ◌-◌}
-use mathlib.Core.Path.{◌≡◌, refl, ◌∙◌}
+use mathlib.Core.Path.{refl, ◌∙◌}
 use native.Mathlib.Omega.{arith}
-use lib.ListN.{length}
-use Rattle.step_lists.proofs.Walks.{Stepping, stepping_start, stepping_on, stepping_no, stepping_end, ready_after}
+use Rattle.step_lists.proofs.Walks.{stepping_start, stepping_on, stepping_no, stepping_end, ready_after}
 use borrow.Author.Rules.{rules}
 use Rattle.step_lists.proofs.take_steps.Goals as goal
 
