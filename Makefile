@@ -9,13 +9,14 @@ PREFIX ?= /usr/local
 LIB_DIR := $(CURDIR)/target/staticlib
 PROGRAM := $(CURDIR)/target/bin/reduce
 BUILD := $(CURDIR)/build
+# what the crates are made of: files and directories of theirs, but not what rt leaves in out/
+SOURCES := crates.txt $(shell find crates -mindepth 2 -name out -prune -o -print)
 C_FLAGS := -std=c11 -Wall -Wextra -Werror -O2 -Iinclude
 VERSION := $(shell sed -n 's/.*define GAMBROLT_VERSION "\(.*\)"/\1/p' include/gambrolt.h)
 CARGO_ENV = MAKEFLAGS= GAMBROLT_LIB_DIR=$(LIB_DIR) CARGO_TARGET_DIR=$(BUILD)
 
 # the program on document 01's sample: the reduced program, then its steps
-run:
-	rt check reduce
+run: $(PROGRAM)
 	target/bin/reduce < examples/sample.txt
 
 test:
@@ -25,7 +26,7 @@ lib: $(LIB_DIR)/libgambrolt.a
 	@echo "the library: $(LIB_DIR)/libgambrolt.a; its header: $(CURDIR)/include/gambrolt.h"
 
 # the library and the program against an independent implementation of document 01; GAMBROLT_ROUNDS=10 for a larger run
-test-lib: lib $(PROGRAM) $(BUILD)/gambrolt-reduce | compiler
+test-lib: lib $(PROGRAM) $(BUILD)/gambrolt-reduce $(BUILD)/gambrolt-reduce-c | compiler
 	$(CARGO_ENV) cargo test --offline --release --manifest-path tests/Cargo.toml
 
 # the example in C: what it prints, and what valgrind, or else the address sanitizer, says of it
@@ -70,25 +71,36 @@ compiler:
 	@command -v $(CC) >/dev/null || { apt-get update && apt-get install -y gcc libc6-dev; } >/dev/null || \
 		{ echo "shell: FAILED: $(CC) is missing, and Debian's package gcc can't be installed" >&2; exit 1; }
 
-# made again only where a file or a directory of a crate is newer
-$(LIB_DIR)/libgambrolt.a: crates.txt $(shell find crates)
-	@rt staticlib gambrolt
-	@touch $@
+# What the kit makes of a crate lies in the crate's out/; the copies below target/ are what everything else uses. They are made again
+# only where a file or a directory of a crate is newer, and one after the other, as the crates below them are the same.
+$(LIB_DIR)/libgambrolt.a: $(SOURCES)
+	@mkdir -p $(@D)
+	@cd crates/gambrolt_c && rt lib
+	@cp crates/gambrolt_c/out/libgambrolt_c.a $@
 
-# not beside the library: both are made below target/
-$(PROGRAM): crates.txt $(shell find crates) | $(LIB_DIR)/libgambrolt.a
-	@rt check reduce
-	@touch $@
+# the program on its own input, which proves and links it
+$(PROGRAM): $(SOURCES) | $(LIB_DIR)/libgambrolt.a
+	@mkdir -p $(@D)
+	@cd crates/reduce && rt run < stdin > /dev/null
+	@cp crates/reduce/out/reduce $@
 
-# the program with its exit status: C over the function that it runs, which is all of it
+# the program with its exit status
 program: $(BUILD)/gambrolt-reduce
 
-$(LIB_DIR)/libreduce_streams.a: crates.txt $(shell find crates) | $(PROGRAM)
-	@rt staticlib reduce_streams
-	@touch $@
+$(BUILD)/gambrolt-reduce: $(SOURCES) | $(PROGRAM)
+	@mkdir -p $(@D)
+	@cd crates/reduce_status && rt run < stdin > /dev/null
+	@cp crates/reduce_status/out/reduce_status $@
 
-$(BUILD)/gambrolt-reduce: reduce/main.c $(LIB_DIR)/libreduce_streams.a | compiler
-	@mkdir -p $(BUILD)
+# the same function for C, with what it takes of the kit's own C (the number of a failed call's error)
+$(LIB_DIR)/libreduce_streams.a: $(SOURCES) | $(BUILD)/gambrolt-reduce
+	@mkdir -p $(@D)
+	@cd crates/reduce_streams_c && rt lib
+	@printf 'create %s\naddlib %s\naddlib %s\nsave\nend\n' $@ crates/reduce_streams_c/out/libreduce_streams_c.a \
+		"$$(dirname "$$(rt doc)")/c/libos_c.a" | ar -M
+
+$(BUILD)/gambrolt-reduce-c: reduce/main.c $(LIB_DIR)/libreduce_streams.a | compiler
+	@mkdir -p $(@D)
 	$(CC) $(C_FLAGS) $^ -o $@
 
 shell: build/gambrolt

@@ -1,5 +1,7 @@
-/* The program with its exit status, which the language can't give: 0 done, 1 the text is refused, 2 reading or writing failed. */
-unsigned gambrolt_reduce_main(void);
+/* The program in C: the library's call, whose result is its exit status: 0 done, 1 the text is refused, 2 reading or writing failed. */
+#include <stdint.h>
+
+uint32_t gambrolt_reduce_main(void);
 
 int main(void)
 {

@@ -17,8 +17,10 @@
 // At most 128 numbers before and after the colon, and 128 bytes of a text, are read.
 #![tactic(auto)]
 use cases_lines::{SIZE, WORDS};
-use libc::STDIN_FILENO;
 use table::Checked;
+
+// The descriptor of standard input.
+const STDIN_FILENO: i32 = 0;
 
 // ---- the calls
 

@@ -2,7 +2,8 @@
 #![tactic(auto)]
 ghost use Rattle.std.specs.Prelude.{◌≤◌, ◌<◌};
 
-use libc::STDOUT_FILENO;
+// The descriptor of standard output.
+const STDOUT_FILENO: i32 = 1;
 
 // Elements of most arrays, and of those that hold any table.
 pub const SIZE: usize = 128;

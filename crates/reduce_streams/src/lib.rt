@@ -1,33 +1,45 @@
-// The program on standard input and output, with what it has to report as its exit status.
+// The program between a reader and a writer, with what it has to report as its exit status.
 #![tactic(auto)]
-ghost use Rattle.std.specs.Prelude.{◌≤◌};
 
-use libc::{STDIN_FILENO, STDOUT_FILENO};
+ghost use Rattle.std.specs.Prelude.{◌≡◌, ◌≢◌, ◌≤◌, length, take, IfOk, IfSome};
+ghost use Rattle.std.specs.Io.KnownBytes.{Appends};
+ghost use Rattle.reduce_filter.specs.Output.{output_of};
+ghost use Rattle.reduce_streams.specs.Streams.{text_read, status_of};
 
-// Whether the input ended: a read that gives a byte more, or fails, says that it was not read whole.
-fn input_ended() -> bool {
-    let mut more = [0u8; 1];
-    libc::read(STDIN_FILENO, &mut more) == 0
+use std::io;
+use std::io::{Read, Write};
+
+// Reads until the slice is full or the input ends; how many bytes. An error where a read fails.
+fn read_input<R: Read>(input: &mut R, text: &mut [u8]) -> io::Result<usize>
+    ensures bound { IfOk result (λ n. n ≤ length text.new) }
+    ensures bytes { IfOk result (λ n. IfSome (R.remaining input.old) (λ xs. take n text.new ≡ take (length text.new) xs)) }
+{
+    let mut got = 0;
+    while got < text.len() {
+        let n = input.read(&mut text[got..])?;
+        if n == 0 {
+            return Ok(got);
+        }
+        got += n;
+    }
+    Ok(got)
 }
 
-// Reads text from standard input, prints what it comes to, and gives the exit status: 0 done, 1 the text is refused, 2 reading or writing failed.
-#[unsafe(no_mangle)]
-pub extern "C" fn gambrolt_reduce_main() -> u32
-    ensures { result ≤ 2 }
+// Reads text, writes what it comes to, and gives the exit status: 0 done, 1 the text is refused, 2 reading or writing failed. Where it gives
+// 0 or 1, the output is that of the text, and the status says whether the text is refused.
+pub fn gambrolt_reduce_main<R: Read, W: Write>(input: &mut R, output: &mut W) -> u32
+    ensures bound { result ≤ 2 }
+    ensures done { result ≢ 2 → IfSome (R.remaining input.old) (λ xs. (result ≡ status_of (text_read xs)) × Appends (W.contents output.old) (W.contents output.new) (output_of (text_read xs))) }
 {
     let mut text = reduce_filter::input_buffer();
     let mut out = reduce_filter::output_buffer();
-    let got = io::read_full(STDIN_FILENO, &mut text);
-    // a full buffer holds a byte more than a text may have, whatever follows
-    if got < reduce_filter::INPUT_BYTES {
-        if !input_ended() {
-            return 2;
-        }
-    }
-    let printed = reduce_filter::filter_text(&text[0..got], &mut out);
-    let n = printed.bytes;
-    if !io::write_all(STDOUT_FILENO, &out[0..n]) {
+    let Ok(got) = read_input(input, &mut text) else {
         return 2;
-    }
+    };
+    let printed = reduce_filter::filter_text(&text[..got], &mut out);
+    let n = printed.bytes;
+    let Ok(()) = output.write_all(&out[..n]) else {
+        return 2;
+    };
     if printed.refused { 1 } else { 0 }
 }

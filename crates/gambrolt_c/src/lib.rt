@@ -1,0 +1,86 @@
+// The library for C: each call of the crate `gambrolt` under its own name and with its clauses, which include/gambrolt.h declares.
+#![tactic(auto)]
+ghost use Rattle.std.specs.Prelude.{◌≡◌, length};
+ghost use Rattle.answers.specs.declared.Answer.TheVariants.{Accepted, Refused};
+ghost use Rattle.answers.specs.Answers.{answer_code};
+ghost use Rattle.table.specs.Questions.{table_of, on_table};
+ghost use Rattle.step_lists.specs.Lists.{check_list};
+ghost use Rattle.reducer_results.specs.Reductions.{reduction};
+ghost use Rattle.reduced_table.specs.Reduced.{reduced_answer, reduced_out};
+ghost use Rattle.cycle.specs.Answer.{cycle_of};
+ghost use Rattle.models_test.specs.Answer.{test_of};
+ghost use Rattle.models_list.specs.Answer.{models_answer, models_out};
+ghost use Rattle.text_form.specs.Reader.{read_answer, table_after};
+ghost use Rattle.text_form.specs.Writer.{write_answer, out_after};
+
+// Questions 1 to 8.
+#[unsafe(no_mangle)]
+pub extern "C" fn gambrolt_check_table(words: &[u16]) -> u64
+    ensures { result ≡ answer_code (on_table Refused (table_of words.now) (Accepted 0)) }
+{
+    gambrolt::gambrolt_check_table(words)
+}
+
+// Questions 1 to 9, 11 to 16, 29 and 32, and the marks of the steps that are taken.
+#[unsafe(no_mangle)]
+pub extern "C" fn gambrolt_check(words: &[u16], marks: &mut [u8], list: &[u16]) -> u64
+    ensures { (result ≡ answer_code (check_list words.now marks.old list.now).answer) × (marks.new ≡ (check_list words.now marks.old list.now).marks) }
+{
+    gambrolt::gambrolt_check(words, marks, list)
+}
+
+// Questions 1 to 9 and 17, then the smallest step again and again: the list of steps, and the marks that they leave.
+#[unsafe(no_mangle)]
+pub extern "C" fn gambrolt_reduce(words: &[u16], marks: &mut [u8], list: &mut [u16]) -> u64
+    ensures { (result ≡ answer_code (reduction words.now marks.old list.old).answer) × ((marks.new ≡ (reduction words.now marks.old list.old).marks) × (list.new ≡ (reduction words.now marks.old list.old).list)) }
+{
+    gambrolt::gambrolt_reduce(words, marks, list)
+}
+
+// Questions 1 to 10 and 18, then the table that the marks leave.
+#[unsafe(no_mangle)]
+pub extern "C" fn gambrolt_reduced_table(words: &[u16], marks: &[u8], out: &mut [u16]) -> u64
+    ensures { (result ≡ answer_code (reduced_answer words.now marks.now out.old)) × (out.new ≡ reduced_out words.now marks.now out.old) }
+{
+    gambrolt::gambrolt_reduced_table(words, marks, out)
+}
+
+// Questions 1 to 8 and 19 to 21, then whether the set is a stable model.
+#[unsafe(no_mangle)]
+pub extern "C" fn gambrolt_test(words: &[u16], set: &[u16]) -> u64
+    ensures { result ≡ answer_code (test_of words.now set.now) }
+{
+    gambrolt::gambrolt_test(words, set)
+}
+
+// Questions 1 to 8, 30 and 31, then the words of all stable models.
+#[unsafe(no_mangle)]
+pub extern "C" fn gambrolt_models(words: &[u16], out: &mut [u16]) -> u64
+    ensures { (result ≡ answer_code (models_answer words.now (length out.old))) × (out.new ≡ models_out words.now out.old) }
+{
+    gambrolt::gambrolt_models(words, out)
+}
+
+// Questions 1 to 8, then whether some atom leads back to itself.
+#[unsafe(no_mangle)]
+pub extern "C" fn gambrolt_cycle(words: &[u16]) -> u64
+    ensures { result ≡ answer_code (cycle_of words.now) }
+{
+    gambrolt::gambrolt_cycle(words)
+}
+
+// Questions 22 to 27, then the table of a text.
+#[unsafe(no_mangle)]
+pub extern "C" fn gambrolt_read_text(text: &[u8], words: &mut [u16]) -> u64
+    ensures { (result ≡ answer_code (read_answer text.now (length words.old))) × (words.new ≡ table_after text.now words.old) }
+{
+    gambrolt::gambrolt_read_text(text, words)
+}
+
+// Questions 1 to 8 and 28, then the text of a table.
+#[unsafe(no_mangle)]
+pub extern "C" fn gambrolt_write_text(words: &[u16], out: &mut [u8]) -> u64
+    ensures { (result ≡ answer_code (write_answer words.now (length out.old))) × (out.new ≡ out_after words.now out.old) }
+{
+    gambrolt::gambrolt_write_text(words, out)
+}
