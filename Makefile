@@ -3,7 +3,8 @@
 # make shell: the program `gambrolt` in build/; make install-shell: it and its man page. make test-shell: its tests.
 # make dist: a tarball of program, library and verdict. make fuzz: a minute of a fuzzer on the program.
 # make program: the program `gambrolt-reduce` in build/, which ends with a status.
-.PHONY: run test lib install bench test-lib test-c shell install-shell test-shell dist fuzz clean compiler packages program
+# make edits: the wrong programs alone that the prover must refuse; make test tries them too.
+.PHONY: run test edits lib install bench test-lib test-c shell install-shell test-shell dist fuzz clean compiler packages program
 
 PREFIX ?= /usr/local
 LIB_DIR := $(CURDIR)/target/staticlib
@@ -21,6 +22,10 @@ run: $(PROGRAM)
 
 test:
 	@tests/run
+
+# wrong programs that the prover must refuse, over what is proved; CRATES=.. for those of some crates
+edits:
+	rt must-fail $(CRATES)
 
 lib: $(LIB_DIR)/libgambrolt.a
 	@echo "the library: $(LIB_DIR)/libgambrolt.a; its header: $(CURDIR)/include/gambrolt.h"
@@ -71,15 +76,15 @@ compiler:
 	@command -v $(CC) >/dev/null || { apt-get update && apt-get install -y gcc libc6-dev; } >/dev/null || \
 		{ echo "shell: FAILED: $(CC) is missing, and Debian's package gcc can't be installed" >&2; exit 1; }
 
-# What the kit makes of a crate lies in the crate's out/; the copies below target/ are what everything else uses. They are made again
-# only where a file or a directory of a crate is newer, and one after the other, as the crates below them are the same.
+# What the kit makes of a crate lies in the crate's out/; the copies below target/ and build/ are what everything else uses. They are made
+# again only where a file or a directory of a crate is newer, and one after the other, as they stand on the same crates.
 $(LIB_DIR)/libgambrolt.a: $(SOURCES)
 	@mkdir -p $(@D)
-	@cd crates/gambrolt_c && rt lib
+	@cd crates/gambrolt_c && rt lib >&2
 	@cp crates/gambrolt_c/out/libgambrolt_c.a $@
 
 # the program on its own input, which proves and links it
-$(PROGRAM): $(SOURCES) | $(LIB_DIR)/libgambrolt.a
+$(PROGRAM): $(SOURCES) | $(if $(filter run program,$(MAKECMDGOALS)),,$(LIB_DIR)/libgambrolt.a)
 	@mkdir -p $(@D)
 	@cd crates/reduce && rt run < stdin > /dev/null
 	@cp crates/reduce/out/reduce $@
@@ -95,7 +100,7 @@ $(BUILD)/gambrolt-reduce: $(SOURCES) | $(PROGRAM)
 # the same function for C, with what it takes of the kit's own C (the number of a failed call's error)
 $(LIB_DIR)/libreduce_streams.a: $(SOURCES) | $(BUILD)/gambrolt-reduce
 	@mkdir -p $(@D)
-	@cd crates/reduce_streams_c && rt lib
+	@cd crates/reduce_streams_c && rt lib >&2
 	@printf 'create %s\naddlib %s\naddlib %s\nsave\nend\n' $@ crates/reduce_streams_c/out/libreduce_streams_c.a \
 		"$$(dirname "$$(rt doc)")/c/libos_c.a" | ar -M
 

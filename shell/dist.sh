@@ -23,7 +23,7 @@ sed "s|@PREFIX@|"'${pcfiledir}/../..'"|; s|@VERSION@|$version|" include/gambrolt
     echo "gambrolt $version"
     if [ ! -f "$log" ]; then
         echo "The proof was not run where this was packed; \`make test\` runs it."
-    elif [ -n "$(find crates crates.txt -newer "$log" | head -1)" ]; then
+    elif [ -n "$(find crates -mindepth 2 -name out -prune -o -newer "$log" -print | head -1)" ] || [ crates.txt -nt "$log" ]; then
         echo "The proof was not run on these sources, only on earlier ones; \`make test\` runs it."
     else
         echo "The proof's verdict on the sources of the library:"

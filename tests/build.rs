@@ -1,4 +1,4 @@
-// Links the archive that GAMBROLT_LIB_DIR names, or the one that `rt staticlib gambrolt` writes.
+// Links the archive that GAMBROLT_LIB_DIR names, or the one that `make lib` puts into target/staticlib.
 use std::env;
 use std::path::PathBuf;
 

@@ -56,7 +56,7 @@ fn lines_of(in_crate: &str, text: &str) -> Vec<Line> {
     for line in text.lines() {
         let code = line.split("//").next().unwrap().trim().to_string();
         function = declared(&code).map_or(function, str::to_string);
-        if !["requires {", "ensures {"].iter().any(|contract| code.starts_with(contract)) {
+        if !["requires ", "ensures "].iter().any(|contract| code.starts_with(contract)) {
             lines.push(Line { in_crate: in_crate.to_string(), function: function.clone(), code });
         }
     }
@@ -101,11 +101,11 @@ fn one_function() {
     assert_eq!(places, [["text_writer", "put_number", "let w = number_width(v);"]], "it is called once");
 }
 
-/// `cases` is left out: it writes no text, reads its input and prints its sums in its own way.
+/// `cases` and `cases_lines` are left out: they write no text, read their input and print sums in a way of their own.
 #[test]
 fn no_second_way() {
     let mut others = Vec::new();
-    for Line { in_crate, function, code } in code().into_iter().filter(|line| line.in_crate != "cases") {
+    for Line { in_crate, function, code } in code().into_iter().filter(|line| !line.in_crate.starts_with("cases")) {
         let writer = in_crate == "text_writer" && WRITERS.contains(&&function[..]);
         if !writer && numbers(&code).iter().any(|number| NUMBERS.contains(&&number[..])) {
             others.push((in_crate, code));

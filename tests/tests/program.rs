@@ -1,5 +1,5 @@
-//! The program `reduce`, run on texts: it prints what document 01's literal implementation gives. It is run as the Rattle program, which has no status to give,
-//! and with the exit status that `reduce/main.c` gives it.
+//! The program `reduce`, run on texts: it prints what document 01's literal implementation gives. It is run as the program that always ends in 0,
+//! as the one with an exit status, and as the one in C that calls the same function.
 #![deny(warnings)]
 use gambrolt_tests::independent::filter::output;
 use gambrolt_tests::independent::text::read_text;
@@ -11,8 +11,9 @@ use std::process::{Command, Stdio};
 
 const PROGRAM: &str = concat!(env!("CARGO_MANIFEST_DIR"), "/../target/bin/reduce");
 
-/// The same function, with its exit status.
+/// The same function, with its exit status: the program of crate `reduce_status`, and `reduce/main.c` over the library for C.
 const WITH_STATUS: &str = concat!(env!("CARGO_MANIFEST_DIR"), "/../build/gambrolt-reduce");
+const IN_C: &str = concat!(env!("CARGO_MANIFEST_DIR"), "/../build/gambrolt-reduce-c");
 
 const SAMPLE: &[u8] = include_bytes!("../../examples/sample.txt");
 
@@ -37,9 +38,9 @@ fn compared(text: &[u8]) -> String {
     printed
 }
 
-/// The status of the program with this input and output, as a shell writes them.
-fn status(redirected: &str) -> Option<i32> {
-    let command = format!("exec '{WITH_STATUS}' {redirected}");
+/// The status of a program with this input and output, as a shell writes them.
+fn status(program: &str, redirected: &str) -> Option<i32> {
+    let command = format!("exec '{program}' {redirected}");
     Command::new("sh").args(["-c", &command]).stdin(Stdio::null()).stdout(Stdio::null()).status().unwrap().code()
 }
 
@@ -340,20 +341,37 @@ fn one_byte_too_many() {
 }
 
 /// 0 done, 1 refused, 2 where reading or writing fails.
+fn ends(program: &str) {
+    assert_eq!(run(program, SAMPLE), (run(PROGRAM, SAMPLE).0, Some(0)));
+    assert_eq!(run(program, SHORT), ("atoms=0\nclauses=0\nsteps=0\n".into(), Some(0)));
+    assert_eq!(run(program, b""), ("refused=24,0\n".into(), Some(1)));
+    assert_eq!(run(program, &[b'x'; 65537]), ("refused=22,0\n".into(), Some(1)));
+    let sample = concat!(env!("CARGO_MANIFEST_DIR"), "/../examples/sample.txt");
+    assert_eq!(status(program, &format!("< '{sample}'")), Some(0));
+    assert_eq!(status(program, "< /dev/null"), Some(1));
+    assert_eq!(status(program, &format!("< '{sample}' > /dev/full")), Some(2));
+    assert_eq!(status(program, "< /dev/null > /dev/full"), Some(2));
+    assert_eq!(status(program, &format!("< '{sample}' >&-")), Some(2));
+    assert_eq!(status(program, "<&-"), Some(2));
+    // a directory can be opened, and not read
+    assert_eq!(status(program, "< /"), Some(2));
+}
+
 #[test]
 fn exit_status() {
-    let sample = (run(PROGRAM, SAMPLE).0, Some(0));
-    assert_eq!(run(WITH_STATUS, SAMPLE), sample);
-    assert_eq!(run(WITH_STATUS, SHORT), ("atoms=0\nclauses=0\nsteps=0\n".into(), Some(0)));
-    assert_eq!(run(WITH_STATUS, b""), ("refused=24,0\n".into(), Some(1)));
-    assert_eq!(run(WITH_STATUS, &[b'x'; 65537]), ("refused=22,0\n".into(), Some(1)));
-    let sample = concat!(env!("CARGO_MANIFEST_DIR"), "/../examples/sample.txt");
-    assert_eq!(status(&format!("< '{sample}'")), Some(0));
-    assert_eq!(status("< /dev/null"), Some(1));
-    assert_eq!(status(&format!("< '{sample}' > /dev/full")), Some(2));
-    assert_eq!(status("< /dev/null > /dev/full"), Some(2));
-    assert_eq!(status(&format!("< '{sample}' >&-")), Some(2));
-    assert_eq!(status("<&-"), Some(2));
-    // a directory can be opened, and not read
-    assert_eq!(status("< /"), Some(2));
+    ends(WITH_STATUS);
+}
+
+/// Of the program in C the same.
+#[test]
+fn exit_status_in_c() {
+    ends(IN_C);
+}
+
+/// The program without a status ends in 0, also where reading or writing fails.
+#[test]
+fn no_status() {
+    for redirected in ["< /dev/null", "< /dev/null > /dev/full", "<&-", "< /"] {
+        assert_eq!(status(PROGRAM, redirected), Some(0));
+    }
 }
