@@ -1,5 +1,6 @@
 // Flags: rows of numbers in one array, each row with bounds that its flags stand within.
 #![tactic(auto)]
+
 ghost use Rattle.std.specs.Prelude.{◌≡◌, ◌+◌, ◌≤◌, ◌<◌, length, set, ◌≢◌, ◌⊎◌, true};
 ghost use Rattle.search_flags.specs.Flags.{flag_at, most, Flagged, Covered, lowest, highest, Raising, AllFlagged, Fenced, all_flags, highests, lowests};
 

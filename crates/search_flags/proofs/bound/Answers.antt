@@ -1,7 +1,6 @@
 -- `bound`: two stores.
 use native.Mathlib.Omega.{arith}
 use lib.ListN.{length-set}
-use borrow.Author.Rules.{rules}
 use Rattle.search_flags.proofs.bound.Goals as goal
 
 pub bounds-flags-row : goal.bounds-flags-row

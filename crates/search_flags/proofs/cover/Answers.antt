@@ -4,7 +4,6 @@ use Prim.Native.Nat.{◌+◌}
 use native.Mathlib.Omega.{arith}
 use Rattle.search_flags.specs.Flags.{Raising}
 use Rattle.search_flags.proofs.Flags.{raising_more, raising_flagged}
-use borrow.Author.Rules.{rules}
 use Rattle.search_flags.proofs.cover.Goals as goal
 
 pub flag-requires : goal.flag-requires

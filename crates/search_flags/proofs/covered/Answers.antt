@@ -1,8 +1,7 @@
 -- `covered`: the flag, and for kind 3 one word more.
 use mathlib.Core.Bool.{false≢true}
 use native.Mathlib.Omega.{arith}
-use borrow.Author.Tests.{not-false, ltb-true}
-use borrow.Author.Rules.{rules}
+use borrow.Author.Tests.{ltb-true}
 use Rattle.search_flags.proofs.covered.Goals as goal
 
 pub flagged-requires : goal.flagged-requires

@@ -3,7 +3,6 @@ use mathlib.Core.Path.{sym, subst}
 use native.Mathlib.Omega.{arith}
 use Rattle.search_flags.specs.Flags.{Fenced}
 use Rattle.search_flags.proofs.Flags.{drawn_closer, drawn_empty}
-use borrow.Author.Rules.{rules}
 use Rattle.search_flags.proofs.fence.Goals as goal
 
 pub bound-requires : goal.bound-requires

@@ -2,11 +2,10 @@
 use Rattle.search_flags.specs.Flags.{highests, lowests}
 use Prim.Native.Nat.{◌+◌, ◌≤◌}
 use mathlib.Core.Path.{sym, ◌∙◌}
-use mathlib.Core.Logic.{◌⊎◌, inl, inr, ⊎_elim}
+use mathlib.Core.Logic.{inl, inr, ⊎_elim}
 use native.Mathlib.Omega.{arith}
 use lib.ListN.{get_or, length-set}
 use Rattle.search_flags.proofs.Flags.{flag_raising, flag_there}
-use borrow.Author.Rules.{rules}
 use Rattle.search_flags.proofs.flag.Goals as goal
 
 pub bounds-flags-row : goal.bounds-flags-row

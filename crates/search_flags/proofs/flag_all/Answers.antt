@@ -1,9 +1,7 @@
 -- `flag_all`: the places passed are flagged, and no flag is lost.
-use Prim.Native.Nat.{◌-◌, ◌≤◌}
 use mathlib.Core.Path.{◌∙◌}
 use native.Mathlib.Omega.{arith}
 use borrow.Author.Count.{below_more}
-use Rattle.search_flags.specs.Flags.{Raising, AllFlagged}
 use Rattle.search_flags.proofs.Flags.{raising_none, raising_more, raising_keeps}
 use borrow.Author.Rules.{rules}
 use Rattle.search_flags.proofs.flag_all.Goals as goal

@@ -1,6 +1,5 @@
 -- `flag_of`: one word read.
 use native.Mathlib.Omega.{arith}
-use borrow.Author.Rules.{rules}
 use Rattle.search_flags.proofs.flag_of.Goals as goal
 
 pub bounds-flags-row : goal.bounds-flags-row

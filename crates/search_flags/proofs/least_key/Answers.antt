@@ -1,7 +1,6 @@
 -- `least_key`: the lesser of two keys, or the only one.
 use mathlib.Core.Logic.{⊎_elim}
 use native.Mathlib.Omega.{arith}
-use borrow.Author.Rules.{rules}
 use Rattle.search_flags.proofs.least_key.Goals as goal
 
 pub returns-then-old-eq0 : goal.returns-then-old-eq0

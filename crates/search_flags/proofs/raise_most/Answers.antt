@@ -4,7 +4,6 @@ use mathlib.Core.Logic.{⊎_elim}
 use native.Mathlib.Omega.{arith}
 use Rattle.search_flags.specs.Flags.{most}
 use Rattle.search_flags.proofs.Flags.{most_there, most_raising}
-use borrow.Author.Rules.{rules}
 use Rattle.search_flags.proofs.raise_most.Goals as goal
 
 pub bounds-flags-t : goal.bounds-flags-t
