@@ -1,5 +1,6 @@
 // The steps that the reducer passes over: of two equal clauses the earlier one stays.
 #![tactic(auto)]
+
 ghost use Rattle.std.specs.Prelude.{◌≡◌, ℕ, ◌≤◌, ◌<◌, get_or};
 ghost use Rattle.rewriting.specs.Marked.{entry};
 ghost use Rattle.rewriting.specs.Steps.{step};

@@ -1,8 +1,6 @@
 -- `search_passed::equal_clauses` meets its contract.
 use mathlib.Core.Path.{sym, ◌∙◌}
-use borrow.Author.Tests.{not-true, not-false}
 use Rattle.search_passed.proofs.Equal.{not_equal, is_equal}
-use borrow.Author.Rules.{rules}
 use Rattle.search_passed.proofs.equal_clauses.Goals as goal
 
 pub returns-then-not-subsumed_holds : goal.returns-then-not-subsumed_holds

@@ -2,7 +2,6 @@
 use mathlib.Core.Path.{refl, ◌∙◌}
 use native.Mathlib.Omega.{arith}
 use Rattle.search_passed.proofs.Equal.{passed_later, passed_equal, passed_kind}
-use borrow.Author.Rules.{rules}
 use Rattle.search_passed.proofs.passed_over.Goals as goal
 
 pub returns-then-p-t : goal.returns-then-p-t
