@@ -1,5 +1,6 @@
 // One clause's atoms stamped in an array, and whether a partner of kind 3, 5 or 8 fits the clause that is stamped.
 #![tactic(auto)]
+
 ghost use Rattle.std.specs.Prelude.{◌≡◌, ◌&&◌, ◌≤◌, ◌<◌, length, get_or, replicate};
 ghost use Rattle.std.proofs.Math.Bool.{So};
 ghost use Rattle.semantics.specs.Lists.{all, single};

@@ -1,8 +1,8 @@
 -- `all_stamped`: what is left of the part decides.
-use Prim.Native.Nat.{◌-◌, ◌≤◌, ◌+◌}
-use mathlib.Core.Path.{◌≡◌, refl, sym, ap, ◌∙◌}
+use Prim.Native.Nat.{◌+◌}
+use mathlib.Core.Path.{refl, sym, ap, ◌∙◌}
 use native.Mathlib.Omega.{arith}
-use lib.ListN.{length, drop}
+use lib.ListN.{drop}
 use Rattle.semantics.specs.Lists.{all}
 use Rattle.table.specs.Slices.{kept_of}
 use Rattle.search_partners.specs.Stamps.{is_stamped}

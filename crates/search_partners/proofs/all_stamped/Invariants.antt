@@ -1,14 +1,10 @@
 -- `all_stamped`: what is left of the part decides.
-use Prim.Native.Nat.{◌-◌, ◌≤◌, ◌+◌}
-use mathlib.Core.Path.{◌≡◌, refl, sym, ap, ◌∙◌}
-use native.Mathlib.Omega.{arith}
+use Prim.Native.Nat.{◌-◌, ◌≤◌}
+use mathlib.Core.Path.{◌≡◌}
 use lib.ListN.{length, drop}
 use Rattle.semantics.specs.Lists.{all}
 use Rattle.table.specs.Slices.{kept_of}
 use Rattle.search_partners.specs.Stamps.{is_stamped}
-use Rattle.step_parts.proofs.Laws.{kept_some, kept_on}
-use Rattle.search_partners.proofs.Stamps.{part_done, not_stamped, is_stamped_lem}
-use borrow.Author.Rules.{rules}
 use Rattle.search_partners.proofs.all_stamped.Given as goal
 
 abbrev pub invariant-loop-i : goal.invariant-loop-i

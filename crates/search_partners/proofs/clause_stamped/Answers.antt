@@ -1,7 +1,6 @@
 -- `clause_stamped`: the parts one after the other.
 use mathlib.Core.Path.{sym, ◌∙◌}
 use native.Mathlib.Omega.{arith}
-use borrow.Author.Tests.{not-true, not-false}
 use Rattle.search_partners.proofs.clause_stamped.Goals as goal
 
 pub part_stamped-requires : goal.part_stamped-requires

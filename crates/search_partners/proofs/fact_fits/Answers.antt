@@ -7,7 +7,6 @@ use Rattle.rewriting.specs.Steps.{fact}
 use Rattle.table.specs.View.{view}
 use Rattle.search_partners.proofs.Fits.{fit_success, fit_blocked}
 use Rattle.step_kinds.proofs.Numbers.{is_five}
-use borrow.Author.Rules.{rules}
 use Rattle.search_partners.proofs.fact_fits.Goals as goal
 
 pub part_stamped-requires : goal.part_stamped-requires

@@ -4,7 +4,6 @@ use Rattle.semantics.specs.Lists.{all}
 use Rattle.step_parts.proofs.Laws.{part_is, part_marked}
 use Rattle.search_partners.specs.Stamps.{is_stamped}
 use Rattle.search_partners.proofs.Fits.{part_below}
-use borrow.Author.Rules.{rules}
 use Rattle.search_partners.proofs.part_stamped.Goals as goal
 
 pub all_stamped-requires : goal.all_stamped-requires

@@ -1,6 +1,5 @@
 -- `partner_eligible`: another clause, kept, the condition, and not passed over; the partner settles the atom.
 use mathlib.Core.Path.{sym, ◌∙◌}
-use borrow.Author.Tests.{not-true, not-false}
 use Rattle.search_partners.proofs.Fits.{kept_below, itself_eligible, gone_eligible, unfit_eligible, fit_eligible}
 use Rattle.search_partners.proofs.partner_eligible.Goals as goal
 

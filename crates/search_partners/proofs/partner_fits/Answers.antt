@@ -1,6 +1,5 @@
 -- `partner_fits`: by the kind; 3 and 5 ask for a fact, whose head is looked at first.
 use mathlib.Core.Path.{◌∙◌}
-use borrow.Author.Tests.{not-true, not-false}
 use Rattle.rewriting.specs.Marked.{entry}
 use Rattle.rewriting.specs.Steps.{fact}
 use Rattle.table.specs.View.{view}

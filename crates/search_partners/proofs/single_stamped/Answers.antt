@@ -6,7 +6,6 @@ use Rattle.table.specs.View.{view}
 use Rattle.search_partners.specs.Stamps.{is_stamped}
 use Rattle.step_conditions.proofs.Tests.{single_other}
 use Rattle.search_partners.proofs.Fits.{single_is, single_below}
-use borrow.Author.Rules.{rules}
 use Rattle.search_partners.proofs.single_stamped.Goals as goal
 
 pub returns-in_default : goal.returns-in_default

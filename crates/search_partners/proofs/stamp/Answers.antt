@@ -3,7 +3,6 @@ use mathlib.Core.Path.{sym, ap, ◌∙◌}
 use Rattle.step_parts.proofs.Laws.{part_is, part_marked}
 use Rattle.search_partners.specs.Stamps.{stamped}
 use Rattle.search_partners.proofs.Fits.{part_below}
-use borrow.Author.Rules.{rules}
 use Rattle.search_partners.proofs.stamp.Goals as goal
 
 pub stamp_part-requires : goal.stamp_part-requires

@@ -4,7 +4,6 @@ use mathlib.Core.Path.{◌∙◌}
 use native.Mathlib.Omega.{arith}
 use lib.ListN.{length-replicate}
 use Rattle.search_partners.proofs.Fits.{clause_stamps}
-use borrow.Author.Rules.{rules}
 use Rattle.search_partners.proofs.stamp_clause.Goals as goal
 
 pub stamp-requires : goal.stamp-requires

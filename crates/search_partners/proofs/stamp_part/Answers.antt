@@ -1,9 +1,7 @@
 -- `stamp_part`: the stamps so far, with what is left of the part, are those of the whole.
-use Prim.Native.Nat.{◌-◌, ◌≤◌}
-use mathlib.Core.Path.{◌≡◌, refl, sym, ap, ◌∙◌}
+use mathlib.Core.Path.{refl, sym, ap, ◌∙◌}
 use native.Mathlib.Omega.{arith}
-use lib.ListN.{length, drop, length-set}
-use Rattle.table.specs.Slices.{kept_of}
+use lib.ListN.{length-set}
 use Rattle.search_partners.specs.Stamps.{stamped}
 use Rattle.step_parts.proofs.Laws.{kept_some, kept_on}
 use Rattle.search_partners.proofs.Stamps.{part_done}

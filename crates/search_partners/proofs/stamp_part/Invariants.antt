@@ -1,13 +1,9 @@
 -- `stamp_part`: the stamps so far, with what is left of the part, are those of the whole.
 use Prim.Native.Nat.{◌-◌, ◌≤◌}
-use mathlib.Core.Path.{◌≡◌, refl, sym, ap, ◌∙◌}
-use native.Mathlib.Omega.{arith}
-use lib.ListN.{length, drop, length-set}
+use mathlib.Core.Path.{◌≡◌}
+use lib.ListN.{length, drop}
 use Rattle.table.specs.Slices.{kept_of}
 use Rattle.search_partners.specs.Stamps.{stamped}
-use Rattle.step_parts.proofs.Laws.{kept_some, kept_on}
-use Rattle.search_partners.proofs.Stamps.{part_done}
-use borrow.Author.Rules.{rules}
 use Rattle.search_partners.proofs.stamp_part.Given as goal
 
 abbrev pub invariant-loop-i : goal.invariant-loop-i
