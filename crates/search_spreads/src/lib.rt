@@ -1,5 +1,6 @@
 // Which targets a partner or an atom flags: all that have a step with it, found by an atom that each of them has.
 #![tactic(auto)]
+
 ghost use Rattle.std.specs.Prelude.{◌≡◌, true, false, ◌+◌, ◌≤◌, ◌<◌, length, get_or};
 ghost use Rattle.std.proofs.Math.Bool.{So};
 ghost use Rattle.rewriting.specs.Steps.{step};

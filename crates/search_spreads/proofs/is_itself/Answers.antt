@@ -1,8 +1,7 @@
 -- `is_itself`: two tests.
 use mathlib.Core.Path.{sym, ◌∙◌}
 use mathlib.Core.Bool.{false≢true}
-use borrow.Author.Tests.{eqb-true, not-false}
-use borrow.Author.Rules.{rules}
+use borrow.Author.Tests.{eqb-true}
 use Rattle.search_spreads.proofs.is_itself.Goals as goal
 
 pub returns-then-not-uses_partner : goal.returns-then-not-uses_partner

@@ -1,7 +1,6 @@
 -- `may_partner`: a clause that is gone, or is no fact, is none.
 use mathlib.Core.Path.{sym, ◌∙◌}
 use mathlib.Core.Bool.{false≢true}
-use borrow.Author.Tests.{not-true}
 use Rattle.search_spreads.proofs.Clues.{gone_partner, open_partner_lem}
 use Rattle.search_spreads.proofs.may_partner.Goals as goal
 

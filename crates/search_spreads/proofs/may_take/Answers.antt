@@ -1,9 +1,8 @@
 -- `may_take`: a condition that does not hold, or whether the step is passed over.
 use mathlib.Core.Path.{sym, ◌∙◌}
-use borrow.Author.Tests.{not-true, not-false}
+use borrow.Author.Tests.{not-false}
 use Rattle.semantics.proofs.Tests.{not_so}
 use Rattle.rewriting.proofs.Equal.{eligible_iff, eligible_ask}
-use borrow.Author.Rules.{rules}
 use Rattle.search_spreads.proofs.may_take.Goals as goal
 
 pub returns-then-not-holds : goal.returns-then-not-holds

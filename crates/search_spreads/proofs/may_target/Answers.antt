@@ -3,7 +3,6 @@ use mathlib.Core.Path.{sym, ◌∙◌}
 use Rattle.semantics.proofs.Tests.{not_so}
 use Rattle.rewriting.proofs.Equal.{eligible_ask}
 use Rattle.search_spreads.proofs.Spreads.{itself_not}
-use borrow.Author.Rules.{rules}
 use Rattle.search_spreads.proofs.may_target.Goals as goal
 
 pub returns-then-is_itself : goal.returns-then-is_itself

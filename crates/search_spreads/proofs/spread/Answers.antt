@@ -1,12 +1,12 @@
 -- `spread`: the targets passed are done.
-use Prim.Native.Nat.{ℕ, ◌-◌, ◌≤◌, ◌<◌}
+use Prim.Native.Nat.{ℕ, ◌<◌}
 use mathlib.Core.List.{List}
 use Rattle.table.specs.Questions.{Passed}
 use mathlib.Core.Path.{◌≡◌, ◌∙◌}
 use native.Mathlib.Omega.{arith}
 use lib.ListN.{get_or}
 use Rattle.table.proofs.Encoding.{passed_limits}
-use Rattle.search_spreads.proofs.Spreads.{Spreading, spreading_none, spreading_on, spreading_all}
+use Rattle.search_spreads.proofs.Spreads.{spreading_none, spreading_on, spreading_all}
 use borrow.Author.Rules.{rules}
 use Rattle.search_spreads.proofs.spread.Goals as goal
 

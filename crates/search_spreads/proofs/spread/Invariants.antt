@@ -1,11 +1,6 @@
 -- `spread`: the targets passed are done.
-use Prim.Native.Nat.{◌-◌, ◌≤◌, ◌<◌}
-use mathlib.Core.Path.{◌∙◌}
-use native.Mathlib.Omega.{arith}
-use lib.ListN.{get_or}
-use Rattle.table.proofs.Encoding.{passed_limits}
-use Rattle.search_spreads.proofs.Spreads.{Spreading, spreading_none, spreading_on, spreading_all}
-use borrow.Author.Rules.{rules}
+use Prim.Native.Nat.{◌-◌, ◌≤◌}
+use Rattle.search_spreads.proofs.Spreads.{Spreading}
 use Rattle.search_spreads.proofs.spread.Given as goal
 
 abbrev pub invariant-loop-t : goal.invariant-loop-t

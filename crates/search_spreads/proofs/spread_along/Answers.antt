@@ -3,11 +3,9 @@ use Prim.Native.Nat.{◌<◌}
 use mathlib.Core.Path.{sym, subst, ◌∙◌}
 use native.Mathlib.Omega.{arith}
 use lib.ListN.{get_or}
-use Rattle.step_parts.specs.declared.Part.{Part}
 use Rattle.step_parts.proofs.Index.{stands_small}
-use Rattle.search_spreads.specs.Spreads.{Clue}
 use Rattle.step_parts.proofs.Walk.{latest_less}
-use Rattle.search_spreads.proofs.Clues.{SpreadAlong, along_none, along_on, along_end}
+use Rattle.search_spreads.proofs.Clues.{along_none, along_on, along_end}
 use Rattle.search_spreads.proofs.spread_along.Goals as goal
 
 pub last_place-i-requires : goal.last_place-i-requires

@@ -1,13 +1,7 @@
 -- `spread_along`: the places passed are done; at place 0 all are.
-use Prim.Native.Nat.{◌<◌}
-use mathlib.Core.Path.{sym, subst, ◌∙◌}
-use native.Mathlib.Omega.{arith}
-use lib.ListN.{get_or}
 use Rattle.step_parts.specs.declared.Part.{Part}
-use Rattle.step_parts.proofs.Index.{stands_small}
 use Rattle.search_spreads.specs.Spreads.{Clue}
-use Rattle.step_parts.proofs.Walk.{latest_less}
-use Rattle.search_spreads.proofs.Clues.{SpreadAlong, along_none, along_on, along_end}
+use Rattle.search_spreads.proofs.Clues.{SpreadAlong}
 use Rattle.search_spreads.proofs.spread_along.Given as goal
 
 abbrev pub invariant-loop-i : goal.invariant-loop-i

@@ -2,13 +2,11 @@
 use Prim.Native.Nat.{◌<◌}
 use mathlib.Core.Path.{sym, subst, refl, ◌∙◌}
 use native.Mathlib.Omega.{arith}
-use borrow.Author.Tests.{not-true}
 use Rattle.rewriting.specs.Kinds.{subsumed}
 use Rattle.step_parts.specs.declared.Part.TheVariants.{Pos, Neg}
 use Rattle.search_spreads.specs.Spreads.{Clue}
 use Rattle.search_spreads.proofs.Known.{partner_known}
 use Rattle.search_spreads.proofs.Clues.{first_in_lem, part_small, clue_pos, clue_neg}
-use borrow.Author.Rules.{rules}
 use Rattle.search_spreads.proofs.spread_body.Goals as goal
 
 pub empty-requires : goal.empty-requires

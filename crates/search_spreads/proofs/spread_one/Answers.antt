@@ -2,11 +2,9 @@
 use Prim.Native.Nat.{◌+◌}
 use mathlib.Core.Path.{subst}
 use native.Mathlib.Omega.{arith}
-use borrow.Author.Tests.{not-true}
 use Rattle.table.proofs.Encoding.{passed_limits}
 use Rattle.search_flags.specs.Flags.{Covered, Raising}
 use Rattle.search_flags.proofs.Flags.{raising_none}
-use borrow.Author.Rules.{rules}
 use Rattle.search_spreads.proofs.spread_one.Goals as goal
 
 pub covered-requires : goal.covered-requires

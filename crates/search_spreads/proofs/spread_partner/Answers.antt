@@ -1,14 +1,12 @@
 -- `spread_partner`: by the first head atom; without a head by the body for kind 8, none for kind 3, and every clause for kind 5.
 use Prim.Native.Nat.{◌<◌}
 use mathlib.Core.Path.{sym, subst, ◌∙◌}
-use borrow.Author.Tests.{not-true, not-false}
 use Rattle.rewriting.specs.Kinds.{kind_of}
 use Rattle.step_parts.specs.declared.Part.TheVariants.{Head}
 use Rattle.step_kinds.specs.Kinds.{target_part}
 use Rattle.search_spreads.specs.Spreads.{Clue, PartnerSpread}
 use Rattle.search_spreads.proofs.Known.{partner_known}
 use Rattle.search_spreads.proofs.Clues.{first_in_lem, part_small, clue_head, spread_headless, spread_named, spread_unnamed}
-use borrow.Author.Rules.{rules}
 use Rattle.search_spreads.proofs.spread_partner.Goals as goal
 
 pub empty-requires : goal.empty-requires
