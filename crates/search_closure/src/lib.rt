@@ -2,6 +2,7 @@
 // The new atoms leave the queue from the last one on. Each is counted on again in every clause in whose positive body it stands, along the index, and its
 // byte is cleared; on the way the first clause asked for is found that lacked no positive atom.
 #![tactic(auto)]
+
 ghost use Rattle.std.specs.Prelude.{◌≡◌, ◌+◌, ◌≤◌, ◌<◌, length, get_or, take, set};
 ghost use Rattle.std.proofs.Math.Bool.{So};
 ghost use Rattle.table.specs.Questions.{Passed};

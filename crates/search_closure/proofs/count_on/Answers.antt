@@ -5,7 +5,6 @@ use Prim.Native.Nat.{◌≤◌}
 use lib.ListN.{get_or}
 use Rattle.table.proofs.Encoding.{passed_limits}
 use Rattle.search_closure.proofs.Counting.{counted_past, counted_here}
-use borrow.Author.Rules.{rules}
 use Rattle.search_closure.proofs.count_on.Goals as goal
 
 pub bounds-marks-i : goal.bounds-marks-i

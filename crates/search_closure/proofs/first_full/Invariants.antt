@@ -1,14 +1,9 @@
 -- `search_closure::first_full` meets its contract. The invariant: no clause before t is one.
-use native.Mathlib.Omega.{arith}
 use mathlib.Core.Path.{◌≡◌}
 use mathlib.Core.Bool.{So}
 use Prim.Native.Nat.{ℕ, ◌≤◌, ◌<◌, ◌-◌}
 use lib.ListN.{get_or}
-use borrow.Author.Tests.{eqb-true, eq-eqb}
-use Rattle.table.proofs.Encoding.{passed_limits}
 use Rattle.step_reach.specs.Bytes.{in_bytes}
-use Rattle.search_closure.proofs.Counting.{no_on}
-use borrow.Author.Rules.{rules}
 use Rattle.search_closure.proofs.first_full.Given as goal
 
 abbrev pub invariant-loop-t : goal.invariant-loop-t

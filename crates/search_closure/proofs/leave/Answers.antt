@@ -1,7 +1,6 @@
 -- `search_closure::leave` meets its contract.
 use mathlib.Core.Path.{ap}
 use lib.ListN.{set}
-use borrow.Author.Rules.{rules}
 use Rattle.search_closure.proofs.leave.Goals as goal
 
 pub returns : goal.returns

@@ -2,7 +2,6 @@
 use native.Mathlib.Omega.{arith}
 use borrow.Author.Tests.{eqb-true}
 use Rattle.search_closure.proofs.Counting.{lesser_first, lesser_here}
-use borrow.Author.Rules.{rules}
 use Rattle.search_closure.proofs.lesser.Goals as goal
 
 pub returns-then-left-ne0 : goal.returns-then-left-ne0

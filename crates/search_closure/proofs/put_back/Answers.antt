@@ -1,13 +1,10 @@
 -- `search_closure::put_back` meets its contract. The invariant: the places above i are counted on; it falls from place to place.
 use native.Mathlib.Omega.{arith}
-use mathlib.Core.Path.{◌≡◌, refl, ◌∙◌}
-use Prim.Native.Nat.{◌+◌, ◌<◌}
-use lib.ListN.{length, get_or, take}
+use mathlib.Core.Path.{refl, ◌∙◌}
 use Rattle.table.proofs.Encoding.{passed_limits}
-use Rattle.step_parts.specs.Parts.{Stands, owner_at}
 use Rattle.step_parts.specs.declared.Part.TheVariants.{Pos}
 use Rattle.step_parts.proofs.Walk.{latest_less}
-use Rattle.search_closure.proofs.Counting.{CountingOn, counting_start, counting_few, counting_on, counting_end}
+use Rattle.search_closure.proofs.Counting.{counting_start, counting_few, counting_on, counting_end}
 use Rattle.search_closure.proofs.put_back.Goals as goal
 
 pub offset_bounds-queue-k : goal.offset_bounds-queue-k

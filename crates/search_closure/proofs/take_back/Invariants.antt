@@ -1,10 +1,8 @@
 -- `search_closure::take_back` meets its contract. The invariant: the atoms of the queue from k on are put back.
-use native.Mathlib.Omega.{arith}
-use mathlib.Core.Path.{◌≡◌, refl, ◌∙◌}
+use mathlib.Core.Path.{◌≡◌}
 use Prim.Native.Nat.{◌≤◌}
 use lib.ListN.{length}
-use Rattle.step_reach.proofs.Queue.{queued_few}
-use Rattle.search_closure.proofs.Back.{queued_newest, queued_byte, TakingBack, taking_start, taking_last, taking_on, taking_end}
+use Rattle.search_closure.proofs.Back.{TakingBack}
 use Rattle.search_closure.proofs.take_back.Given as goal
 
 abbrev pub invariant-loop-k : goal.invariant-loop-k
