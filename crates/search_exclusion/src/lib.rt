@@ -2,6 +2,7 @@
 // The atoms are tried in order. The closure of the facts is made once a search, grown by each atom and taken back. An atom among the consequences of an
 // earlier one can't be better and is passed over; and once the best target is the first clause that can be one, no other atom is tried.
 #![tactic(auto)]
+
 ghost use Rattle.std.specs.Prelude.{◌≡◌, not, ◌&&◌, cond, ◌≤◌, ◌<◌, eqb, ltb, length, get_or, take};
 ghost use Rattle.rewriting.specs.Marked.{entry};
 ghost use Rattle.table.specs.View.{view};

@@ -2,7 +2,6 @@
 use native.Mathlib.Omega.{arith}
 use mathlib.Core.Path.{refl, ap}
 use Rattle.search_exclusion.specs.declared.Pick.TheVariants.{One}
-use borrow.Author.Rules.{rules}
 use Rattle.search_exclusion.proofs.answer.Goals as goal
 
 pub returns-then-best-m : goal.returns-then-best-m

@@ -4,7 +4,6 @@ use Prim.Native.Nat.{ℕ}
 use lib.ListN.{length-replicate}
 use Rattle.table.proofs.Encoding.{passed_limits}
 use Rattle.search_closure.proofs.Counting.{first_settled}
-use borrow.Author.Rules.{rules}
 use Rattle.search_exclusion.proofs.best_pair.Goals as goal
 
 pub narrow-requires : goal.narrow-requires

@@ -1,19 +1,11 @@
 -- `search_exclusion::by_atoms` meets its contract. The invariant: the best pair is a step, and no step with an atom before a, or with a consequence of such an atom, is smaller; and the closure of the facts is as it was.
-use native.Mathlib.Omega.{arith}
-use mathlib.Core.Path.{◌≡◌, refl, sym, ◌∙◌}
-use Prim.Native.Nat.{ℕ, ◌-◌}
-use lib.ListN.{length, get_or, take, length-replicate}
-use borrow.Author.Tests.{not-true, not-false}
+use mathlib.Core.Path.{◌≡◌}
+use Prim.Native.Nat.{◌-◌}
+use lib.ListN.{length, get_or, take}
 use Rattle.table.specs.View.{view}
-use Rattle.table.proofs.Encoding.{passed_limits}
-use Rattle.table.proofs.View.{length_view}
 use Rattle.step_reach.specs.Bytes.{in_bytes}
 use Rattle.step_reach.specs.Counts.{ReachSettled}
-use Rattle.step_reach.proofs.Counts.{room_same}
-use Rattle.step_exclusion.proofs.Sets.{narrowed_clause, consequences_by}
-use Rattle.search_exclusion.proofs.Targets.{improves_as, first_again}
-use Rattle.search_exclusion.proofs.Tries.{Tried, tried_start, tried_past, tried_on, tried_end, tried_low}
-use borrow.Author.Rules.{rules}
+use Rattle.search_exclusion.proofs.Tries.{Tried}
 use Rattle.search_exclusion.proofs.by_atoms.Given as goal
 
 abbrev pub invariant-loop-a : goal.invariant-loop-a

@@ -1,12 +1,10 @@
 -- `search_exclusion::find_targets` meets its contract. The invariant: the bytes of the clauses before t are right.
 use native.Mathlib.Omega.{arith}
-use mathlib.Core.Path.{◌≡◌, refl}
-use Prim.Native.Nat.{ℕ, ◌≤◌, ◌<◌, ◌-◌}
-use lib.ListN.{length, get_or, length-set}
+use mathlib.Core.Path.{refl}
+use lib.ListN.{length-set}
 use Rattle.table.specs.View.{view}
 use Rattle.table.proofs.Encoding.{passed_limits}
 use Rattle.table.proofs.View.{length_view}
-use Rattle.step_reach.specs.Bytes.{in_bytes}
 use Rattle.search_exclusion.proofs.Targets.{can_be, bytes_on, targets_end}
 use borrow.Author.Rules.{rules}
 use Rattle.search_exclusion.proofs.find_targets.Goals as goal

@@ -8,7 +8,6 @@ use Rattle.table.proofs.Encoding.{passed_limits}
 use Rattle.table.proofs.View.{length_view}
 use Rattle.search_exclusion.proofs.Targets.{idle_on}
 use Rattle.search_exclusion.proofs.Tries.{smallest_none, smallest_by, answers_as}
-use borrow.Author.Rules.{rules}
 use Rattle.search_exclusion.proofs.first_exclusion.Goals as goal
 
 pub find_targets-requires : goal.find_targets-requires

@@ -1,7 +1,5 @@
 -- `search_exclusion::first_set` meets its contract. The invariant: no byte before i is 1.
 use native.Mathlib.Omega.{arith}
-use Prim.Native.Nat.{◌≤◌, ◌-◌}
-use Rattle.search_exclusion.specs.Tries.{Unset}
 use Rattle.search_exclusion.proofs.Targets.{unset_on}
 use borrow.Author.Rules.{rules}
 use Rattle.search_exclusion.proofs.first_set.Goals as goal

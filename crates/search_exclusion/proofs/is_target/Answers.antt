@@ -1,11 +1,9 @@
 -- `search_exclusion::is_target` meets its contract.
 use native.Mathlib.Omega.{arith}
 use mathlib.Core.Path.{sym, ◌∙◌}
-use borrow.Author.Tests.{not-true, not-false}
 use Rattle.table.specs.View.{view}
 use Rattle.table.proofs.Encoding.{passed_limits}
 use Rattle.search_exclusion.proofs.Targets.{target_idle, target_gone, target_kept_lem}
-use borrow.Author.Rules.{rules}
 use Rattle.search_exclusion.proofs.is_target.Goals as goal
 
 pub bounds-idle-t : goal.bounds-idle-t

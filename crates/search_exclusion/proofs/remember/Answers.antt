@@ -1,8 +1,7 @@
 -- `search_exclusion::remember` meets its contract. The invariant: the bytes before t are set where they have to be.
 use native.Mathlib.Omega.{arith}
-use mathlib.Core.Path.{◌≡◌, refl, subst}
-use Prim.Native.Nat.{◌≤◌, ◌-◌}
-use lib.ListN.{length, length-set}
+use mathlib.Core.Path.{refl, subst}
+use lib.ListN.{length-set}
 use Rattle.search_exclusion.specs.Tries.{Remembered}
 use Rattle.search_exclusion.proofs.Targets.{remember_none, remember_past, remember_on}
 use borrow.Author.Rules.{rules}

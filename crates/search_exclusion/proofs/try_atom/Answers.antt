@@ -3,7 +3,6 @@ use mathlib.Core.Path.{◌∙◌}
 use Rattle.step_reach.proofs.Counts.{room_same}
 use Rattle.search_closure.proofs.Back.{settled_again}
 use Rattle.search_exclusion.proofs.Targets.{trial_by, first_again}
-use borrow.Author.Rules.{rules}
 use Rattle.search_exclusion.proofs.try_atom.Goals as goal
 
 pub close_with-end-requires : goal.close_with-end-requires
