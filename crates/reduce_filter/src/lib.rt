@@ -1,5 +1,6 @@
 // The program's whole work as one function on slices: text in, the reduced program and its steps out.
 #![tactic(auto)]
+
 ghost use Rattle.std.specs.Prelude.{◌≡◌, [], ◌∷◌, ◌+◌, ◌*◌, ◌≤◌, length};
 ghost use Rattle.table.specs.Places.{cut};
 ghost use Rattle.text_form.specs.Digits.{commas};
