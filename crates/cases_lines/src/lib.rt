@@ -1,5 +1,6 @@
 // What the lines of cases are made of: printing, numbers and bytes read from a line, and sums over digits. It uses no call of the library.
 #![tactic(auto)]
+
 ghost use Rattle.std.specs.Prelude.{◌≤◌, ◌<◌};
 
 // The descriptor of standard output.
