@@ -16,6 +16,10 @@
 // In a text a slash stands for a line feed, a tilde for a carriage return, a caret for NUL and an underscore for a tab.
 // At most 128 numbers before and after the colon, and 128 bytes of a text, are read.
 #![tactic(auto)]
+
+ghost use Rattle.std.specs.Prelude.{◌≡◌, ◌≢◌, ◌≤◌, ◌<◌, length, slice_index, All};
+ghost use Rattle.std.specs.List.{between};
+
 use cases_lines::{SIZE, WORDS};
 use table::Checked;
 
@@ -147,6 +151,23 @@ fn run_text(before: &[u8], after: &[u8]) {
     run_parse(&text[0..n], table::wide(room[0]));
 }
 
+// The first place from `from` on and below `to` at which the byte stands, or else `to`.
+fn find(text: &[u8], from: usize, to: usize, byte: u8) -> usize
+    requires order { from ≤ to }
+    requires in_bounds { to ≤ length text.now }
+    ensures low { from ≤ result }
+    ensures high { result ≤ to }
+    ensures before { All (λ b. b ≢ byte) (between from result text.now) }
+    ensures there { result < to → slice_index text.now result ≡ byte }
+{
+    for i in from..to {
+        if text[i] == byte {
+            return i;
+        }
+    }
+    to
+}
+
 fn run_line(line: &[u8]) {
     if line.len() == 0 {
         return;
@@ -155,7 +176,7 @@ fn run_line(line: &[u8]) {
         cases_lines::print(line);
         return;
     }
-    let mid = bytes::scan::find(line, 0, line.len(), b':');
+    let mid = find(line, 0, line.len(), b':');
     if line[0] != b'p' {
         return run_numbers(line[0], &line[0..mid], &line[mid..]);
     }
@@ -167,7 +188,7 @@ fn run_line(line: &[u8]) {
 fn run_lines(text: &[u8]) {
     let mut at: usize = 0;
     while at < text.len() {
-        let end = bytes::scan::find(text, at, text.len(), 10);
+        let end = find(text, at, text.len(), 10);
         run_line(&text[at..end]);
         cases_lines::print(b"\n");
         at = end + 1;
