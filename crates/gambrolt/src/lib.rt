@@ -1,5 +1,6 @@
 // The library's calls: numbers and slices in, one number out. The crate `gambrolt_c` exports each to C.
 #![tactic(auto)]
+
 ghost use Rattle.std.specs.Prelude.{◌≡◌, length};
 ghost use Rattle.answers.specs.declared.Answer.TheVariants.{Accepted, Refused};
 ghost use Rattle.answers.specs.Answers.{answer_code};
