@@ -1,5 +1,6 @@
 // The library for C: each call of the crate `gambrolt` under its own name and with its clauses, which include/gambrolt.h declares.
 #![tactic(auto)]
+
 ghost use Rattle.std.specs.Prelude.{◌≡◌, length};
 ghost use Rattle.answers.specs.declared.Answer.TheVariants.{Accepted, Refused};
 ghost use Rattle.answers.specs.Answers.{answer_code};
