@@ -15,7 +15,6 @@ use Rattle.table.specs.Questions as Table
 use Rattle.table.specs.View.{view}
 use Rattle.table.proofs.Encoding.{passed_limits}
 use Rattle.step_reach.specs.Bytes.{Reached}
-use Rattle.step_conditions.specs.declared.Step as row
 use Rattle.search_flags.specs.Flags.{flag_at, most, next, highest, Inside, Rows, Raising, AllFlagged, Fenced, mosts, nexts}
 use Rattle.search_keys.specs.State.{Arrays, Calm, Swept, KeySpread, KeyPassed, Settled, Least, Most, Gaps, Flagged, State, Prepared}
 use Rattle.step_kinds.proofs.Numbers.{kind_number}

@@ -1,5 +1,6 @@
 // The state between two steps, and its fresh keys: before a search each is spread to its targets.
 #![tactic(auto)]
+
 ghost use Rattle.std.specs.Prelude.{◌≡◌, ◌≢◌, ◌≤◌, ◌<◌, length, get_or, true};
 ghost use Rattle.step_parts.specs.Parts.{Ready};
 ghost use Rattle.search_flags.specs.Flags.{flag_at, all_flags};

@@ -3,10 +3,8 @@ use mathlib.Core.Path.{sym, ap, ◌∙◌}
 use mathlib.Core.Bool.{false≢true}
 use Prim.Native.Nat.{◌+◌}
 use native.Mathlib.Omega.{arith}
-use borrow.Author.Tests.{not-false}
 use Rattle.table.proofs.Encoding.{passed_limits}
 use Rattle.search_flags.specs.Flags.{flag_at}
-use borrow.Author.Rules.{rules}
 use Rattle.search_keys.proofs.is_subsumed.Goals as goal
 
 pub returns-then-kind-eq3 : goal.returns-then-kind-eq3

@@ -1,6 +1,5 @@
 -- `least_before`: x, or what is less.
 use native.Mathlib.Omega.{arith}
-use borrow.Author.Rules.{rules}
 use Rattle.search_keys.proofs.least_before.Goals as goal
 
 pub flag_of-old-requires : goal.flag_of-old-requires

@@ -1,7 +1,6 @@
 -- `pass_key`: a fresh key is spread, then cleared.
 use native.Mathlib.Omega.{arith}
 use Rattle.search_keys.proofs.States.{key_passed, key_stale}
-use borrow.Author.Rules.{rules}
 use Rattle.search_keys.proofs.pass_key.Goals as goal
 
 pub overflow_mul-at : goal.overflow_mul-at

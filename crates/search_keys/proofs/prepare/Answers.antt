@@ -1,5 +1,4 @@
 -- `prepare`: the reach, then the fresh keys.
-use borrow.Author.Rules.{rules}
 use Rattle.search_keys.proofs.prepare.Goals as goal
 
 pub refresh-requires : goal.refresh-requires

@@ -4,7 +4,6 @@ use native.Mathlib.Omega.{arith}
 use lib.Seq.{get_or-set_same}
 use Rattle.search_flags.specs.Flags.{AllFlagged, Raising}
 use Rattle.search_keys.proofs.States.{few_clauses_lem, state_reached}
-use borrow.Author.Rules.{rules}
 use Rattle.search_keys.proofs.refresh.Goals as goal
 
 pub returns-then-kind-ne7 : goal.returns-then-kind-ne7

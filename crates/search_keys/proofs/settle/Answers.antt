@@ -1,10 +1,9 @@
 -- `settle`: the keys passed are fresh no more, and the state stays.
-use Prim.Native.Nat.{◌-◌, ◌≤◌, ◌+◌}
+use Prim.Native.Nat.{◌≤◌, ◌+◌}
 use mathlib.Core.Path.{◌≡◌, sym, ap, subst, ◌∙◌}
 use native.Mathlib.Omega.{arith}
 use Rattle.search_flags.specs.Flags.{lowest, highest, Fenced}
-use Rattle.search_keys.proofs.States.{Settling, settling_none, settling_on, settling_end}
-use borrow.Author.Rules.{rules}
+use Rattle.search_keys.proofs.States.{settling_none, settling_on, settling_end}
 use Rattle.search_keys.proofs.settle.Goals as goal
 
 pub lowest_of-low-requires : goal.lowest_of-low-requires

@@ -1,10 +1,7 @@
 -- `settle`: the keys passed are fresh no more, and the state stays.
 use Prim.Native.Nat.{◌-◌, ◌≤◌, ◌+◌}
-use mathlib.Core.Path.{◌≡◌, sym, ap, subst, ◌∙◌}
-use native.Mathlib.Omega.{arith}
-use Rattle.search_flags.specs.Flags.{lowest, highest, Fenced}
-use Rattle.search_keys.proofs.States.{Settling, settling_none, settling_on, settling_end}
-use borrow.Author.Rules.{rules}
+use mathlib.Core.Path.{◌≡◌}
+use Rattle.search_keys.proofs.States.{Settling}
 use Rattle.search_keys.proofs.settle.Given as goal
 
 abbrev pub invariant-loop-x : goal.invariant-loop-x

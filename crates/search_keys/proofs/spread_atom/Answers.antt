@@ -1,11 +1,9 @@
 -- `spread_atom`: an atom in a kept head has no step; the places of another are walked.
 use mathlib.Core.Path.{sym, subst, ◌∙◌}
-use borrow.Author.Tests.{not-true}
 use Rattle.search_spreads.specs.Spreads.{Clue}
 use Rattle.step_kinds.proofs.Numbers.{no_head_bounds}
 use Rattle.search_spreads.proofs.Known.{heads_known}
 use Rattle.search_spreads.proofs.Clues.{clue_atom, spread_headed}
-use borrow.Author.Rules.{rules}
 use Rattle.search_keys.proofs.spread_atom.Goals as goal
 
 pub returns-then-not-no_head : goal.returns-then-not-no_head

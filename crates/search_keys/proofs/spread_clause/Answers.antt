@@ -2,7 +2,6 @@
 use native.Mathlib.Omega.{arith}
 use Rattle.search_keys.proofs.States.{few_clauses_lem}
 use Rattle.search_keys.proofs.Subsumers.{subsumer_spread}
-use borrow.Author.Rules.{rules}
 use Rattle.search_keys.proofs.spread_clause.Goals as goal
 
 pub least_before-q-requires : goal.least_before-q-requires

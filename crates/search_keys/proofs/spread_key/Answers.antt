@@ -1,14 +1,12 @@
 -- `spread_key`: a partner or an atom is spread, and for another kind every target is flagged.
 use mathlib.Core.Path.{sym, subst, ◌∙◌}
 use native.Mathlib.Omega.{arith}
-use borrow.Author.Tests.{not-true, not-false}
 use Rattle.search_flags.specs.Flags.{AllFlagged, Raising}
 use Rattle.search_spreads.specs.Spreads.{Spread}
 use Rattle.search_keys.proofs.States.{few_clauses_lem}
 use Rattle.step_kinds.proofs.Numbers.{partner_kind, no_head_alone, no_head_kind}
 use Rattle.search_keys.proofs.Keys.{key_partner, key_none, key_all}
 use Rattle.search_keys.proofs.Keys.{key_atom, key_without, key_empty, key_past}
-use borrow.Author.Rules.{rules}
 use Rattle.search_keys.proofs.spread_key.Goals as goal
 
 pub uses_partner-requires : goal.uses_partner-requires
