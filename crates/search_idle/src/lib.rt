@@ -1,6 +1,7 @@
 // What the search of kind 9 remembers from step to step: the constraints that exclude no atom stay so, but where a clause gets definite, by which more may follow.
 // Then what may follow by it is found, from its head on: the constraints with such an atom are no longer known to be idle.
 #![tactic(auto)]
+
 ghost use Rattle.std.specs.Prelude.{◌≡◌, false, ◌≤◌, ◌<◌, length, get_or};
 ghost use Rattle.rewriting.specs.Marked.{entry};
 ghost use Rattle.table.specs.View.{view};

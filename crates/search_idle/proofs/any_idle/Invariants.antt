@@ -1,12 +1,9 @@
 -- `search_idle::any_idle` meets its contract. The invariant: no byte before i is 1 while none was found.
-use native.Mathlib.Omega.{arith}
-use mathlib.Core.Path.{◌≡◌, refl}
-use mathlib.Core.Bool.{false, true≢false}
+use mathlib.Core.Path.{◌≡◌}
+use mathlib.Core.Bool.{false}
 use Prim.Native.Nat.{◌≤◌, ◌-◌}
 use lib.ListN.{length}
 use Rattle.search_exclusion.specs.Tries.{Unset}
-use Rattle.search_exclusion.proofs.Targets.{unset_on}
-use borrow.Author.Rules.{rules}
 use Rattle.search_idle.proofs.any_idle.Given as goal
 
 abbrev pub invariant-loop-i : goal.invariant-loop-i

@@ -1,9 +1,7 @@
 -- `search_idle::exclude_atom` meets its contract.
 use native.Mathlib.Omega.{arith}
-use borrow.Author.Tests.{not-true}
 use Rattle.search_idle.proofs.Memory.{idle_kept}
 use Rattle.search_idle.proofs.Forgets.{with_nothing}
-use borrow.Author.Rules.{rules}
 use Rattle.search_idle.proofs.exclude_atom.Goals as goal
 
 pub returns-then-not-any_idle : goal.returns-then-not-any_idle

@@ -1,10 +1,8 @@
 -- `search_idle::fires` meets its contract.
 use mathlib.Core.Path.{sym, ◌∙◌}
-use borrow.Author.Tests.{not-true, not-false}
 use Rattle.rewriting.specs.Marked.{entry}
 use Rattle.table.specs.View.{view}
 use Rattle.search_idle.proofs.Forgets.{fires_gone, fires_kept}
-use borrow.Author.Rules.{rules}
 use Rattle.search_idle.proofs.fires.Goals as goal
 
 pub returns-then-not-kept : goal.returns-then-not-kept

@@ -1,7 +1,6 @@
 -- `search_idle::forget` meets its contract.
 use native.Mathlib.Omega.{arith}
 use Rattle.search_idle.proofs.Forgets.{forgot_here, forgot_past}
-use borrow.Author.Rules.{rules}
 use Rattle.search_idle.proofs.forget.Goals as goal
 
 pub returns-then-t-idle : goal.returns-then-t-idle

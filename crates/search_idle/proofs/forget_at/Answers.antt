@@ -1,12 +1,10 @@
 -- `search_idle::forget_at` meets its contract.
 use mathlib.Core.Path.{refl, sym, ◌∙◌}
 use mathlib.Core.Bool.{false}
-use borrow.Author.Tests.{not-true}
 use Rattle.rewriting.specs.Marked.{entry}
 use Rattle.table.specs.View.{view}
 use Rattle.search_idle.specs.Forgets.{Heads}
 use Rattle.search_idle.proofs.Forgets.{heads_not, forgets_none, forgets_nothing}
-use borrow.Author.Rules.{rules}
 use Rattle.search_idle.proofs.forget_at.Goals as goal
 
 pub returns-then-not-fires : goal.returns-then-not-fires

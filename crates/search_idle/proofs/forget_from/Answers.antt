@@ -9,7 +9,6 @@ use Rattle.table.proofs.Encoding.{passed_limits}
 use Rattle.step_reach.proofs.Queue.{queued_none}
 use Rattle.search_idle.specs.Forgets.{Heads}
 use Rattle.search_idle.proofs.Forgets.{forgets_by}
-use borrow.Author.Rules.{rules}
 use Rattle.search_idle.proofs.forget_from.Goals as goal
 
 pub join_part-top-requires : goal.join_part-top-requires

@@ -7,7 +7,6 @@ use Rattle.table.specs.View.{view}
 use Rattle.table.proofs.Encoding.{passed_limits}
 use Rattle.step_reach.proofs.Queue.{queued_none}
 use Rattle.search_idle.proofs.Forgets.{forgets_none, with_none, forgets_two}
-use borrow.Author.Rules.{rules}
 use Rattle.search_idle.proofs.forget_without.Goals as goal
 
 pub returns-then-atom-ge1024 : goal.returns-then-atom-ge1024

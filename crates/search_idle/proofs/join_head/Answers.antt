@@ -1,10 +1,8 @@
 -- `search_idle::join_head` meets its contract.
 use mathlib.Core.Path.{sym, ◌∙◌}
-use borrow.Author.Tests.{not-true}
 use Rattle.rewriting.specs.Marked.{entry}
 use Rattle.table.specs.View.{view}
 use Rattle.search_idle.proofs.Forgets.{later_none, later_joined, heads_not}
-use borrow.Author.Rules.{rules}
 use Rattle.search_idle.proofs.join_head.Goals as goal
 
 pub returns-then-not-fires : goal.returns-then-not-fires

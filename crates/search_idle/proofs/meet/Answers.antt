@@ -2,7 +2,6 @@
 use native.Mathlib.Omega.{arith}
 use Rattle.table.specs.View.{view}
 use Rattle.search_idle.proofs.Forgets.{met_owner}
-use borrow.Author.Rules.{rules}
 use Rattle.search_idle.proofs.meet.Goals as goal
 
 pub join_head-requires : goal.join_head-requires

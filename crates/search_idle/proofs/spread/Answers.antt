@@ -1,13 +1,10 @@
 -- `search_idle::spread` meets its contract. The invariant: the clauses of the first k atoms of the queue are met.
 use native.Mathlib.Omega.{arith}
-use mathlib.Core.Path.{◌≡◌, refl, ◌∙◌}
+use mathlib.Core.Path.{refl, ◌∙◌}
 use mathlib.Core.List.Memᴰ
-use Prim.Native.Nat.{◌≤◌, ◌-◌}
-use lib.ListN.{length}
 use Rattle.table.specs.View.{view}
 use Rattle.step_reach.proofs.Queue.{queued_few, queued_at}
-use Rattle.search_idle.specs.Forgets.{Onward}
-use Rattle.search_idle.proofs.Forgets.{onward_none, onward_trans, met_all, MetFirst, first_on, first_end}
+use Rattle.search_idle.proofs.Forgets.{onward_none, onward_trans, met_all, first_on, first_end}
 use borrow.Author.Rules.{rules}
 use Rattle.search_idle.proofs.spread.Goals as goal
 

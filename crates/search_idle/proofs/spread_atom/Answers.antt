@@ -1,5 +1,4 @@
 -- `search_idle::spread_atom` meets its contract.
-use borrow.Author.Rules.{rules}
 use Rattle.search_idle.proofs.spread_atom.Goals as goal
 
 pub last_place-last-requires : goal.last_place-last-requires

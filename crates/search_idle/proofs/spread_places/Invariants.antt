@@ -1,15 +1,13 @@
 -- `search_idle::spread_places` meets its contract. The invariant, for whichever atom and part: the clauses at the places above i are met; it falls from place to place.
-use native.Mathlib.Omega.{arith}
-use mathlib.Core.Path.{◌≡◌, refl, ◌∙◌}
+use mathlib.Core.Path.{◌≡◌}
 use Prim.Native.Nat.{ℕ}
 use lib.ListN.{length}
 use Rattle.table.specs.View.{view}
 use Rattle.step_parts.specs.Parts.{Latest}
 use Rattle.step_parts.specs.declared.Part.{Part}
-use Rattle.step_parts.proofs.Walk.{latest_less, Above, above_start, above_on, above_end}
+use Rattle.step_parts.proofs.Walk.{Above}
 use Rattle.step_reach.specs.Bytes.{in_bytes}
 use Rattle.search_idle.specs.Forgets.{Onward, Met}
-use Rattle.search_idle.proofs.Forgets.{onward_none, onward_trans, met_later}
 use Rattle.search_idle.proofs.spread_places.Given as goal
 
 abbrev pub invariant-loop-i : goal.invariant-loop-i
