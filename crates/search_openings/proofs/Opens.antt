@@ -20,7 +20,7 @@ use Rattle.table.proofs.View.{length_view}
 use Rattle.step_reach.specs.Bytes.{in_bytes}
 use Rattle.search_keys.specs.State.{State}
 use Rattle.rewriting.specs.Steps.{applies, Step}
-use Rattle.rewriting.specs.Kinds.{uses_partner, subsumed, no_head, failure}
+use Rattle.rewriting.specs.Kinds.{uses_partner, subsumed}
 use Rattle.table.specs.View.{part, view}
 use Rattle.step_parts.specs.declared.Part.TheVariants.{Head, Pos}
 use Rattle.step_parts.specs.declared.Bounds.{Bounds}

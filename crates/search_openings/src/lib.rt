@@ -1,5 +1,6 @@
 // A step made, and what it opens: the keys that it makes fresh, and whether the reach is to be found anew.
 #![tactic(auto)]
+
 ghost use Rattle.search_flags.specs.Flags.{all_flags};
 ghost use Rattle.std.specs.Prelude.{◌≡◌, ◌<◌, length, get_or, true};
 ghost use Rattle.std.proofs.Math.Bool.{So};

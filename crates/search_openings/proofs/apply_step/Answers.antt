@@ -4,7 +4,6 @@ use mathlib.Core.Bool.{So}
 use Rattle.rewriting.specs.Kinds.{kind_of}
 use Rattle.rewriting.specs.Uses.{drops}
 use Rattle.search_openings.proofs.Keeps.{not_drop}
-use borrow.Author.Rules.{rules}
 use Rattle.search_openings.proofs.apply_step.Goals as goal
 
 pub drop_literal-requires : goal.drop_literal-requires

@@ -14,7 +14,6 @@ use Rattle.search_spreads.proofs.Limits.{applied_lt}
 use Rattle.search_openings.specs.Opened.{AllFresh}
 use Rattle.search_openings.proofs.Opens.{opened_more}
 use Rattle.search_openings.proofs.Keeps.{ready_after, state_deleted}
-use borrow.Author.Rules.{rules}
 use Rattle.search_openings.proofs.delete_clause.Goals as goal
 
 pub lose_reach-requires : goal.lose_reach-requires

@@ -8,7 +8,6 @@ use Rattle.search_keys.proofs.States.{few_clauses_lem}
 use Rattle.search_spreads.proofs.Limits.{applied_lt}
 use Rattle.search_openings.specs.Opened.{PartnerFresh}
 use Rattle.search_openings.proofs.Keeps.{state_dropped}
-use borrow.Author.Rules.{rules}
 use Rattle.search_openings.proofs.drop_literal.Goals as goal
 
 pub make_step-requires : goal.make_step-requires

@@ -1,10 +1,7 @@
 -- `fires`: what is left of the positive body decides.
-use Prim.Native.Nat.{◌-◌, ◌≤◌}
 use mathlib.Core.Path.{sym, ◌∙◌}
 use native.Mathlib.Omega.{arith}
-use lib.ListN.{length}
-use borrow.Author.Tests.{not-true, not-false}
-use Rattle.search_openings.proofs.Opens.{Firing, firing_all, firing_past, firing_on, firing_stop, firing_end}
+use Rattle.search_openings.proofs.Opens.{firing_all, firing_past, firing_on, firing_stop, firing_end}
 use borrow.Author.Rules.{rules}
 use Rattle.search_openings.proofs.fires.Goals as goal
 

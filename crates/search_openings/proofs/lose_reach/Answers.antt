@@ -2,7 +2,6 @@
 use mathlib.Core.Path.{◌≡◌, sym, subst, ◌∙◌}
 use mathlib.Core.Bool.{false}
 use native.Mathlib.Omega.{arith}
-use borrow.Author.Tests.{not-true}
 use Rattle.semantics.specs.Lists.{all}
 use Rattle.rewriting.specs.Marked.{entry}
 use Rattle.table.specs.View.{view}
@@ -10,7 +9,6 @@ use Rattle.step_reach.specs.Bytes.{in_bytes}
 use Rattle.step_conditions.specs.Known.{step_of}
 use Rattle.search_spreads.proofs.Limits.{applied_lt}
 use Rattle.search_openings.proofs.Opens.{lost_idle, lost_same_head, lost_all}
-use borrow.Author.Rules.{rules}
 use Rattle.search_openings.proofs.lose_reach.Goals as goal
 
 pub fires-requires : goal.fires-requires

@@ -3,7 +3,6 @@ use mathlib.Core.Path.{◌∙◌}
 use mathlib.Core.Logic.{inr}
 use native.Mathlib.Omega.{arith}
 use Rattle.search_openings.proofs.Opens.{opened_by, opened_more}
-use borrow.Author.Rules.{rules}
 use Rattle.search_openings.proofs.open_atom.Goals as goal
 
 pub flag-requires : goal.flag-requires

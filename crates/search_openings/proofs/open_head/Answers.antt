@@ -1,15 +1,11 @@
 -- `open_head`: the atoms passed are done.
-use Prim.Native.Nat.{ℕ, ◌-◌, ◌≤◌, ◌<◌}
 use mathlib.Core.Path.{subst, ◌∙◌}
 use native.Mathlib.Omega.{arith}
-use lib.ListN.{length, get_or}
-use Rattle.rewriting.specs.Marked.{entry}
-use Rattle.table.specs.View.{view}
 use Rattle.step_parts.specs.declared.Part.TheVariants.{Head}
 use Rattle.step_parts.proofs.Laws.{words_below}
 use Rattle.table.proofs.Encoding.{passed_limits}
 use Rattle.search_openings.specs.Opened.{AtomFresh}
-use Rattle.search_openings.proofs.Opens.{Opening, opening_none, opening_past, opening_on, opening_all}
+use Rattle.search_openings.proofs.Opens.{opening_none, opening_past, opening_on, opening_all}
 use borrow.Author.Rules.{rules}
 use Rattle.search_openings.proofs.open_head.Goals as goal
 

@@ -1,16 +1,9 @@
 -- `open_head`: the atoms passed are done.
 use Prim.Native.Nat.{ℕ, ◌-◌, ◌≤◌, ◌<◌}
-use mathlib.Core.Path.{subst, ◌∙◌}
-use native.Mathlib.Omega.{arith}
 use lib.ListN.{length, get_or}
 use Rattle.rewriting.specs.Marked.{entry}
 use Rattle.table.specs.View.{view}
-use Rattle.step_parts.specs.declared.Part.TheVariants.{Head}
-use Rattle.step_parts.proofs.Laws.{words_below}
-use Rattle.table.proofs.Encoding.{passed_limits}
-use Rattle.search_openings.specs.Opened.{AtomFresh}
-use Rattle.search_openings.proofs.Opens.{Opening, opening_none, opening_past, opening_on, opening_all}
-use borrow.Author.Rules.{rules}
+use Rattle.search_openings.proofs.Opens.{Opening}
 use Rattle.search_openings.proofs.open_head.Given as goal
 
 abbrev pub invariant-loop-i : goal.invariant-loop-i

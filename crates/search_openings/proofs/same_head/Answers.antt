@@ -1,5 +1,4 @@
 -- `same_head`: kind 8, and the target's head within the partner's.
-use Prim.Native.Nat.{◌-◌}
 use mathlib.Core.Path.{sym, ap, ◌∙◌}
 use mathlib.Core.Bool.{false≢true}
 use native.Mathlib.Omega.{arith}
@@ -8,7 +7,6 @@ use Rattle.table.specs.View.{view}
 use Rattle.step_conditions.specs.Known.{step_of}
 use Rattle.search_spreads.proofs.Limits.{applied_lt}
 use Rattle.search_openings.proofs.Opens.{same_head_by, partner_lt}
-use borrow.Author.Rules.{rules}
 use Rattle.search_openings.proofs.same_head.Goals as goal
 
 pub returns-then-step-ne8 : goal.returns-then-step-ne8
