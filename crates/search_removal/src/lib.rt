@@ -1,6 +1,7 @@
 // What a step of kind 9 opens among kinds 1 to 8, along the places of its atom in the index: the clauses that lost the atom are fresh partners, the atom and the heads of the
 // clauses that went with it are fresh keys of kinds 4 and 6, and the reach is to be found anew.
 #![tactic(auto)]
+
 ghost use Rattle.std.specs.Prelude.{◌≡◌, ◌<◌, length, get_or};
 ghost use Rattle.table.specs.View.{view};
 ghost use Rattle.step_parts.specs.Parts.{Ready};

@@ -1,7 +1,6 @@
 -- `open_clause`: by the part.
 use native.Mathlib.Omega.{arith}
 use Rattle.table.proofs.Encoding.{passed_limits}
-use borrow.Author.Rules.{rules}
 use Rattle.search_removal.proofs.open_clause.Goals as goal
 
 pub open_partner-requires : goal.open_partner-requires

@@ -2,8 +2,7 @@
 use mathlib.Core.Path.{subst, ◌∙◌}
 use native.Mathlib.Omega.{arith}
 use Rattle.table.specs.View.{view}
-use Rattle.step_parts.proofs.Walk.{latest_less, Above, above_start, above_on, above_end}
-use Rattle.search_openings.specs.Opened.{Opened}
+use Rattle.step_parts.proofs.Walk.{latest_less, above_start, above_on, above_end}
 use Rattle.search_openings.proofs.Opens.{opened_none, opened_more}
 use Rattle.search_removal.specs.Removed.{OpenAt}
 use Rattle.search_removal.proofs.Opens.{open_more}

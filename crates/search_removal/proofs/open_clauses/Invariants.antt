@@ -1,12 +1,8 @@
 -- `open_clauses`: the clauses at the places above i are flagged; it falls from place to place.
-use mathlib.Core.Path.{subst, ◌∙◌}
-use native.Mathlib.Omega.{arith}
 use Rattle.table.specs.View.{view}
-use Rattle.step_parts.proofs.Walk.{latest_less, Above, above_start, above_on, above_end}
+use Rattle.step_parts.proofs.Walk.{Above}
 use Rattle.search_openings.specs.Opened.{Opened}
-use Rattle.search_openings.proofs.Opens.{opened_none, opened_more}
 use Rattle.search_removal.specs.Removed.{OpenAt}
-use Rattle.search_removal.proofs.Opens.{open_more}
 use Rattle.search_removal.proofs.open_clauses.Given as goal
 
 abbrev pub invariant-loop-i : goal.invariant-loop-i

@@ -2,7 +2,6 @@
 use Rattle.step_parts.specs.declared.Part.TheVariants.{Head, Pos}
 use Rattle.search_openings.proofs.Opens.{opened_more}
 use Rattle.search_removal.proofs.Opens.{all_more, parts_all}
-use borrow.Author.Rules.{rules}
 use Rattle.search_removal.proofs.open_parts.Goals as goal
 
 pub returns : goal.returns

@@ -4,7 +4,6 @@ use mathlib.Core.Logic.{inl}
 use Rattle.search_openings.specs.Opened.{AtomFresh}
 use Rattle.search_openings.proofs.Opens.{opened_by, opened_more}
 use Rattle.search_removal.proofs.Opens.{removal_none, removal_all}
-use borrow.Author.Rules.{rules}
 use Rattle.search_removal.proofs.open_removal.Goals as goal
 
 pub returns-then-atom-ge1024 : goal.returns-then-atom-ge1024
