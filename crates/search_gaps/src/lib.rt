@@ -1,5 +1,6 @@
 // Clauses that are gone are passed once: the flag of a target goes up past them.
 #![tactic(auto)]
+
 ghost use Rattle.std.specs.Prelude.{◌≡◌, ℕ, ◌≤◌, ◌<◌, length, get_or, ◌≢◌};
 ghost use Rattle.std.proofs.Math.Bool.{So};
 ghost use Rattle.rewriting.specs.Marked.{entry};

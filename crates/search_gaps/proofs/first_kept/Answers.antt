@@ -3,7 +3,6 @@ use mathlib.Core.Logic.{⊎_elim}
 use native.Mathlib.Omega.{arith}
 use Rattle.table.proofs.Encoding.{passed_limits}
 use Rattle.search_gaps.proofs.Gaps.{skipped_none, skipped_on}
-use borrow.Author.Rules.{rules}
 use Rattle.search_gaps.proofs.first_kept.Goals as goal
 
 pub bounds-flags-q : goal.bounds-flags-q

@@ -1,5 +1,4 @@
 -- `kept_from`: the clauses passed are gone.
-use Prim.Native.Nat.{ℕ, ◌-◌, ◌≤◌, ◌<◌}
 use mathlib.Core.Path.{◌≡◌, sym, subst, ◌∙◌}
 use mathlib.Core.Logic.{by_cases}
 use mathlib.Core.Bool.{So}
@@ -8,7 +7,6 @@ use native.Mathlib.Decide.{dec_lt}
 use Rattle.semantics.proofs.Tests.{not_so}
 use Rattle.rewriting.specs.Marked.{entry}
 use Rattle.table.specs.View.{view}
-use borrow.Author.Rules.{rules}
 use Rattle.search_gaps.proofs.kept_from.Goals as goal
 
 pub loop-i-init : goal.loop-i-init

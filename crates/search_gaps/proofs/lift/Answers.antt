@@ -7,7 +7,6 @@ use Rattle.table.proofs.Encoding.{passed_limits}
 use Rattle.search_flags.specs.Flags.{flag_at}
 use Rattle.search_keys.specs.State.{Skipped}
 use Rattle.search_gaps.proofs.Gaps.{lifted_none, lifted_on}
-use borrow.Author.Rules.{rules}
 use Rattle.search_gaps.proofs.lift.Goals as goal
 
 pub bounds-words-1 : goal.bounds-words-1
