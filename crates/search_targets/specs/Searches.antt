@@ -11,7 +11,6 @@ use Rattle.rewriting.proofs.Order.{first_in, asked}
 use Rattle.table.specs.View.{view, part}
 use Rattle.search_targets.specs.declared.Found.{Found}
 use Rattle.search_targets.specs.declared.Found.TheVariants.{One, Nothing}
-use Rattle.search_flags.specs.Flags.{most}
 
 -- a step as the search gives it
 unfoldable pub found_of : Option Step → Found

@@ -1,5 +1,6 @@
 // The search of one kind: its flagged targets in order, each with its atoms or partners, left at the first applicable step.
 #![tactic(auto)]
+
 ghost use Rattle.std.specs.Prelude.{◌≡◌, ◌&&◌, ◌≤◌, ◌<◌, eqb, length, get_or};
 ghost use Rattle.rewriting.specs.Marked.{entry, left};
 ghost use Rattle.rewriting.specs.Kinds.{kind_of};

@@ -1,18 +1,14 @@
 -- `first_by_atom`: targets passed have no step; in the walk, what is left of the part decides.
 use mathlib.Core.List.{List}
 use Rattle.table.specs.Questions.{Passed}
-use Prim.Native.Nat.{ℕ, ◌-◌, ◌<◌, ◌≤◌, ◌+◌, ◌*◌}
-use mathlib.Core.Path.{◌≡◌, refl, sym, ap, ◌∙◌}
-use mathlib.Core.Logic.{⊎_elim}
+use Prim.Native.Nat.{ℕ, ◌<◌, ◌≤◌, ◌+◌, ◌*◌}
+use mathlib.Core.Path.{refl, sym, ap, ◌∙◌}
 use native.Mathlib.Omega.{arith}
 use lib.ListN.{length, get_or}
 use Rattle.table.proofs.Encoding.{passed_limits}
-use Rattle.search_targets.specs.declared.Found.TheVariants.{One, Nothing}
-use Rattle.search_keys.specs.State.{Swept}
-use Rattle.search_targets.specs.Searches.{PartWalk}
+use Rattle.search_targets.specs.declared.Found.TheVariants.{One}
 use Rattle.search_targets.proofs.Walks.{walk_on, walk_hit, walk_end, targets_end, targets_hit, stopped_there, stopped_end}
 use Rattle.search_gaps.proofs.Sweeps.{swept_none, swept_clear, swept_all, swept_before}
-use Rattle.search_flags.specs.Flags.{Inside}
 use Rattle.search_flags.proofs.Flags.{inside_past, inside_clear}
 use borrow.Author.Rules.{rules}
 use Rattle.search_targets.proofs.first_by_atom.Goals as goal
@@ -80,11 +76,11 @@ search-preserved c =
     let k = c.requires.1.1.0.high in
     let r : c.args.kind * 2048 + c.search.t < length c.search.flags = omega (arith, l, s.calm.rows.long, k) in
     elim c.if-flags-base-ne0.branch [
-      then-flags-base-ne0+else-loop-i-test w ↦
-        let e = walk_end _ _ _ _ _ _ w.loop-i.invariant.1 w.loop-i-test.false in
-        (w.found-is ∙ w.loop-i.invariant.0, (inv.1.0, rw (w.flags-is, inv.1.0) (swept_clear _ _ _ _ _ s (omega arith) _ l e, inside_clear c.search.flags c.args.kind c.search.t _ inv.1.1.1 r)))
-    | else-flags-base-ne0 w ↦
-        (w.found-is ∙ inv.0, (inv.1.0, rw w.flags-is (s, inside_past c.search.flags c.args.kind c.search.t _ inv.1.1.1 (rw inv.1.0 at w.if-flags-base-ne0.false))))
+      | then-flags-base-ne0+else-loop-i-test w ↦
+          let e = walk_end _ _ _ _ _ _ w.loop-i.invariant.1 w.loop-i-test.false in
+          (w.found-is ∙ w.loop-i.invariant.0, (inv.1.0, rw (w.flags-is, inv.1.0) (swept_clear _ _ _ _ _ s (omega arith) _ l e, inside_clear c.search.flags c.args.kind c.search.t _ inv.1.1.1 r)))
+      | else-flags-base-ne0 w ↦
+          (w.found-is ∙ inv.0, (inv.1.0, rw w.flags-is (s, inside_past c.search.flags c.args.kind c.search.t _ inv.1.1.1 (rw inv.1.0 at w.if-flags-base-ne0.false))))
     ]
 
 pub shape_of-flags-after-search : goal.shape_of-flags-after-search

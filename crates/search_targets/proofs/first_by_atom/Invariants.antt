@@ -1,18 +1,10 @@
 -- `first_by_atom`: targets passed have no step; in the walk, what is left of the part decides.
-use Prim.Native.Nat.{◌-◌, ◌<◌, ◌+◌, ◌*◌}
-use mathlib.Core.Path.{◌≡◌, refl, sym, ap, ◌∙◌}
-use mathlib.Core.Logic.{⊎_elim}
-use native.Mathlib.Omega.{arith}
-use lib.ListN.{length, get_or}
-use Rattle.table.proofs.Encoding.{passed_limits}
-use Rattle.search_targets.specs.declared.Found.TheVariants.{One, Nothing}
+use Prim.Native.Nat.{◌-◌, ◌*◌}
+use mathlib.Core.Path.{◌≡◌}
+use Rattle.search_targets.specs.declared.Found.TheVariants.{Nothing}
 use Rattle.search_keys.specs.State.{Swept}
 use Rattle.search_targets.specs.Searches.{PartWalk}
-use Rattle.search_targets.proofs.Walks.{walk_on, walk_hit, walk_end, targets_end, targets_hit, stopped_there, stopped_end}
-use Rattle.search_gaps.proofs.Sweeps.{swept_none, swept_clear, swept_all, swept_before}
 use Rattle.search_flags.specs.Flags.{Inside}
-use Rattle.search_flags.proofs.Flags.{inside_past, inside_clear}
-use borrow.Author.Rules.{rules}
 use Rattle.search_targets.proofs.first_by_atom.Given as goal
 
 abbrev pub invariant-loop-i : goal.invariant-loop-i

@@ -1,29 +1,19 @@
 -- `first_by_partner`: targets passed have no step; in the walk, the partners passed make none, and the flags stay.
 use mathlib.Core.List.{List}
 use Rattle.table.specs.Questions.{Passed}
-use Prim.Native.Nat.{ℕ, ◌-◌, ◌<◌, ◌≤◌, ◌+◌, ◌*◌}
+use Prim.Native.Nat.{ℕ, ◌<◌, ◌≤◌, ◌+◌, ◌*◌}
 use mathlib.Core.Path.{◌≡◌, refl, sym, ap, ◌∙◌}
-use mathlib.Core.Bool.{false}
-use mathlib.Core.Logic.{◌≢◌, ⊎_elim}
+use mathlib.Core.Logic.{◌≢◌}
 use native.Mathlib.Omega.{arith}
 use lib.ListN.{length, get_or, set, length-set}
 use borrow.Author.Count.{below_more}
-use Rattle.rewriting.specs.Marked.{entry}
-use Rattle.rewriting.specs.Reducer.{eligible}
-use Rattle.rewriting.specs.Search.{step_with}
-use Rattle.rewriting.specs.Kinds.{kind_of}
-use Rattle.table.specs.View.{view}
 use Rattle.table.proofs.Encoding.{passed_limits}
-use Rattle.search_targets.specs.declared.Found.TheVariants.{One, Nothing}
-use Rattle.search_partners.specs.Stamps.{Stamps}
-use Rattle.search_keys.specs.State.{Swept}
-use Rattle.search_targets.specs.Searches.{Partners}
-use Rattle.search_flags.specs.Flags.{flag_at, Inside}
+use Rattle.search_targets.specs.declared.Found.TheVariants.{One}
+use Rattle.search_flags.specs.Flags.{flag_at}
 use Rattle.search_flags.proofs.Flags.{inside_past, inside_clear, inside_set}
 use Rattle.search_targets.proofs.Walks.{partners_none, partners_hit, targets_end, targets_hit, stopped_there, stopped_end}
 use Rattle.search_gaps.proofs.Sweeps.{swept_none, swept_clear, swept_all, swept_before, swept_later, calm_from}
 use Rattle.search_gaps.proofs.Gaps.{swept_then}
-use borrow.Author.Rules.{rules}
 use Rattle.search_targets.proofs.first_by_partner.Goals as goal
 use Rattle.search_targets.proofs.first_by_partner.Goals.{then-flags-base-ne0+else-e-from+else-loop-p-test, else-flags-base-ne0}
 
@@ -156,13 +146,13 @@ search-preserved c =
     let s = inv.1.1.0 in
     let k = c.requires.1.1.0.high in
     elim c.if-flags-base-ne0.branch [
-      then-flags-base-ne0+else-e-from+else-loop-p-test w ↦
-        let i = w.loop-p.invariant in
-        let z = w.lift.ensures in
-        let e = partners_none c.args.words.now c.args.marks.now c.args.kind _ _ i.1.0 c.requires.1.1.0 (λ q k. i.1.1.1.1.1 q (omega (arith, w.loop-p-test.false))) in
-        (w.found-is ∙ i.0, (inv.1.0, rw (w.flags-is, i.1.1.1.1.0, inv.1.0) (swept_clear _ _ _ _ _ (swept_then _ _ _ _ _ _ s z.swept) (omega arith) _ l e, inside_clear w.lift.new.flags c.args.kind c.search.t _ (z.inside _ _ inv.1.1.1) (omega (arith, l, z.swept.calm.rows.long, k)))))
-    | else-flags-base-ne0 w ↦
-        (w.found-is ∙ inv.0, (inv.1.0, rw w.flags-is (s, inside_past c.search.flags c.args.kind c.search.t _ inv.1.1.1 (rw inv.1.0 at w.if-flags-base-ne0.false))))
+      | then-flags-base-ne0+else-e-from+else-loop-p-test w ↦
+          let i = w.loop-p.invariant in
+          let z = w.lift.ensures in
+          let e = partners_none c.args.words.now c.args.marks.now c.args.kind _ _ i.1.0 c.requires.1.1.0 (λ q k. i.1.1.1.1.1 q (omega (arith, w.loop-p-test.false))) in
+          (w.found-is ∙ i.0, (inv.1.0, rw (w.flags-is, i.1.1.1.1.0, inv.1.0) (swept_clear _ _ _ _ _ (swept_then _ _ _ _ _ _ s z.swept) (omega arith) _ l e, inside_clear w.lift.new.flags c.args.kind c.search.t _ (z.inside _ _ inv.1.1.1) (omega (arith, l, z.swept.calm.rows.long, k)))))
+      | else-flags-base-ne0 w ↦
+          (w.found-is ∙ inv.0, (inv.1.0, rw w.flags-is (s, inside_past c.search.flags c.args.kind c.search.t _ inv.1.1.1 (rw inv.1.0 at w.if-flags-base-ne0.false))))
     ]
 
 pub shape_of-flags-after-search : goal.shape_of-flags-after-search

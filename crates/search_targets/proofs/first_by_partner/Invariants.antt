@@ -1,27 +1,18 @@
 -- `first_by_partner`: targets passed have no step; in the walk, the partners passed make none, and the flags stay.
-use Prim.Native.Nat.{ℕ, ◌-◌, ◌<◌, ◌+◌, ◌*◌}
-use mathlib.Core.Path.{◌≡◌, refl, sym, ap, ◌∙◌}
+use Prim.Native.Nat.{ℕ, ◌-◌, ◌<◌, ◌*◌}
+use mathlib.Core.Path.{◌≡◌}
 use mathlib.Core.Bool.{false}
-use mathlib.Core.Logic.{◌≢◌, ⊎_elim}
-use native.Mathlib.Omega.{arith}
-use lib.ListN.{length, get_or, set, length-set}
-use borrow.Author.Count.{below_more}
+use lib.ListN.{length, get_or}
 use Rattle.rewriting.specs.Marked.{entry}
 use Rattle.rewriting.specs.Reducer.{eligible}
 use Rattle.rewriting.specs.Search.{step_with}
 use Rattle.rewriting.specs.Kinds.{kind_of}
 use Rattle.table.specs.View.{view}
-use Rattle.table.proofs.Encoding.{passed_limits}
-use Rattle.search_targets.specs.declared.Found.TheVariants.{One, Nothing}
+use Rattle.search_targets.specs.declared.Found.TheVariants.{Nothing}
 use Rattle.search_partners.specs.Stamps.{Stamps}
 use Rattle.search_keys.specs.State.{Swept}
 use Rattle.search_targets.specs.Searches.{Partners}
-use Rattle.search_flags.specs.Flags.{flag_at, Inside}
-use Rattle.search_flags.proofs.Flags.{inside_past, inside_clear, inside_set}
-use Rattle.search_targets.proofs.Walks.{partners_none, partners_hit, targets_end, targets_hit, stopped_there, stopped_end}
-use Rattle.search_gaps.proofs.Sweeps.{swept_none, swept_clear, swept_all, swept_before, swept_later, calm_from}
-use Rattle.search_gaps.proofs.Gaps.{swept_then}
-use borrow.Author.Rules.{rules}
+use Rattle.search_flags.specs.Flags.{Inside}
 use Rattle.search_targets.proofs.first_by_partner.Given as goal
 
 abbrev pub invariant-loop-p : goal.invariant-loop-p

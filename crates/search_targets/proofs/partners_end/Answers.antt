@@ -2,10 +2,8 @@
 use mathlib.Core.Path.{sym, ◌∙◌}
 use mathlib.Core.Logic.{inl, inr, ⊎_elim}
 use native.Mathlib.Omega.{arith}
-use borrow.Author.Tests.{not-true, not-false}
 use Rattle.table.proofs.Encoding.{passed_limits}
 use Rattle.search_targets.proofs.Walks.{partners_kept, partners_most, partners_gone}
-use borrow.Author.Rules.{rules}
 use Rattle.search_targets.proofs.partners_end.Goals as goal
 
 pub kept-requires : goal.kept-requires

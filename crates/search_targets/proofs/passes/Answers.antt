@@ -2,7 +2,6 @@
 use mathlib.Core.Path.{sym, ◌∙◌}
 use Rattle.step_conditions.proofs.Heads.{no_head_is, loop_atom_is}
 use Rattle.search_targets.proofs.Walks.{asked_heads}
-use borrow.Author.Rules.{rules}
 use Rattle.search_targets.proofs.passes.Goals as goal
 
 pub has-requires : goal.has-requires

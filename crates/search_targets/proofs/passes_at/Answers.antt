@@ -1,6 +1,5 @@
 -- `passes_at`: a kept word, and the test.
 use borrow.Author.Tests.{eq-eqb, ne_eqb}
-use borrow.Author.Rules.{rules}
 use Rattle.search_targets.proofs.passes_at.Goals as goal
 
 pub returns-then-marks-i-ne1 : goal.returns-then-marks-i-ne1

@@ -2,7 +2,6 @@
 use mathlib.Core.Path.{◌∙◌}
 use native.Mathlib.Omega.{arith}
 use Rattle.table.proofs.Encoding.{passed_limits}
-use borrow.Author.Rules.{rules}
 use Rattle.search_targets.proofs.step_with.Goals as goal
 
 pub narrow-requires : goal.narrow-requires

@@ -1,9 +1,7 @@
 -- `walk`: the walked part, or nothing.
 use mathlib.Core.Path.{sym, subst, ◌∙◌}
-use borrow.Author.Tests.{not-true, not-false}
 use Rattle.step_parts.specs.Parts.{Spanned}
 use Rattle.search_targets.proofs.Walks.{walk_kept, walk_gone}
-use borrow.Author.Rules.{rules}
 use Rattle.search_targets.proofs.walk.Goals as goal
 
 pub returns-then-not-kept : goal.returns-then-not-kept
