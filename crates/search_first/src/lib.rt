@@ -1,5 +1,6 @@
 // The search for the smallest step that is not passed over: kinds 1 to 8, one after the other, at flagged targets only; then kind 9.
 #![tactic(auto)]
+
 ghost use Rattle.std.specs.Prelude.{◌≡◌, ◌≤◌, length, get_or};
 ghost use Rattle.rewriting.specs.Kinds.{kind_of, excluded};
 ghost use Rattle.table.specs.View.{view};

@@ -1,6 +1,5 @@
 -- `first_excluded`: what the search of kind 9 finds, as a step.
 use Rattle.search_first.proofs.Excluded.{excluded_one, excluded_nothing}
-use borrow.Author.Rules.{rules}
 use Rattle.search_first.proofs.first_excluded.Goals as goal
 
 pub returns-in-One : goal.returns-in-One

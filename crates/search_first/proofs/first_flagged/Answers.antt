@@ -1,15 +1,7 @@
 -- `first_flagged`: the kinds passed have no step.
-use Prim.Native.Nat.{ℕ, suc, ◌-◌, ◌≤◌, ◌<◌}
-use mathlib.Core.Path.{◌≡◌, sym, refl, ◌∙◌}
-use mathlib.Core.Option.{none}
+use mathlib.Core.Path.{sym, refl, ◌∙◌}
 use native.Mathlib.Omega.{arith}
-use lib.ListN.{length, get_or}
-use Rattle.rewriting.specs.Kinds.{kind_of}
-use Rattle.rewriting.specs.Search.{first_target}
-use Rattle.table.specs.View.{view}
-use Rattle.search_keys.specs.State.{State}
 use Rattle.search_first.proofs.Searches.{kinds_found, kinds_none, kinds_more, found_one}
-use borrow.Author.Rules.{rules}
 use Rattle.search_first.proofs.first_flagged.Goals as goal
 
 pub loop-kind-init : goal.loop-kind-init

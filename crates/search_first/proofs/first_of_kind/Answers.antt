@@ -4,7 +4,6 @@ use mathlib.Core.Path.{ap, subst, ◌∙◌}
 use native.Mathlib.Omega.{arith}
 use Rattle.search_flags.specs.Flags.{lowest, highest, Fenced}
 use Rattle.search_keys.proofs.States.{prepared_arrays, prepared_calm, prepared_swept}
-use borrow.Author.Rules.{rules}
 use Rattle.search_first.proofs.first_of_kind.Goals as goal
 
 pub prepare-requires : goal.prepare-requires

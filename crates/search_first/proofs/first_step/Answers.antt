@@ -1,7 +1,6 @@
 -- `first_step`: kinds 1 to 8, then kind 9.
 use mathlib.Core.Path.{sym, ◌∙◌}
 use Rattle.search_first.proofs.Searches.{flagged_found, flagged_none, found_one}
-use borrow.Author.Rules.{rules}
 use Rattle.search_first.proofs.first_step.Goals as goal
 
 pub first_excluded-requires : goal.first_excluded-requires

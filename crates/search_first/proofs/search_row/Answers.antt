@@ -1,7 +1,6 @@
 -- `search_row`: by partner or by atom.
 use mathlib.Core.Path.{sym, ◌∙◌}
 use Rattle.step_kinds.proofs.Numbers.{partner_kind, atom_kind}
-use borrow.Author.Rules.{rules}
 use Rattle.search_first.proofs.search_row.Goals as goal
 
 pub uses_partner-requires : goal.uses_partner-requires

@@ -2,7 +2,6 @@
 use mathlib.Core.Path.{sym, ap, ◌∙◌}
 use Rattle.search_targets.specs.Searches.{stopped_at}
 use Rattle.search_targets.proofs.Walks.{stopped_one}
-use borrow.Author.Rules.{rules}
 use Rattle.search_first.proofs.stopped_at.Goals as goal
 
 pub returns-in_default : goal.returns-in_default
