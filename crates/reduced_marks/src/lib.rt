@@ -1,5 +1,6 @@
 // Question 10: which marks of a table are allowed.
 #![tactic(auto)]
+
 ghost use Rattle.std.specs.Prelude.{◌≡◌, ◌-◌, ◌≤◌, length};
 ghost use Rattle.table.specs.Places.{next_at};
 ghost use Rattle.reduced_marks.specs.Allowed.{allowed_where, clearable_in, allowed, marks_from};

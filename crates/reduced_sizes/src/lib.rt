@@ -1,5 +1,6 @@
 // How much the marks leave of a table: atoms of a part, words of a clause, clauses, words in all.
 #![tactic(auto)]
+
 ghost use Rattle.std.specs.Prelude.{◌≡◌, ◌-◌, ◌≤◌, ◌<◌, length};
 ghost use Rattle.rewriting.specs.Marked.{left};
 ghost use Rattle.table.specs.View.{entry_at, view};

@@ -1,5 +1,6 @@
 // The reducer: the smallest applicable step that it does not pass over, again and again, until none applies. After each step what it opens is looked at again.
 #![tactic(auto)]
+
 ghost use Rattle.search_flags.specs.Flags.{all_flags};
 ghost use Rattle.std.specs.Prelude.{◌≡◌, ◌+◌, ◌*◌, ◌≤◌, ◌<◌, length, get_or, replicate, ◌∷◌, []};
 ghost use Rattle.std.proofs.lemmas.List.Edits.{sets};

@@ -1,5 +1,6 @@
 // The text form of a program: the types of its reader and writer. The definitions are in specs/, the theorems in proofs/.
 #![tactic(auto)]
+
 ghost use Rattle.std.specs.Prelude.{◌≡◌};
 
 use answers::Refusal;
