@@ -1,7 +1,8 @@
 -- What the program takes from its input, and the status that it ends with.
 use Rattle.std.specs.Prelude.{ℕ, List, take, cond}
+use Rattle.text_form.specs.Reader.{read_answer}
 use Rattle.reduce_filter.specs.Input.{input_bytes}
-use Rattle.reduce_filter.specs.Output.{is_refused, read_answer}
+use Rattle.reduce_filter.specs.Output.{is_refused}
 
 -- of an input, the bytes that are enough to tell a text that is too long
 abbrev pub text_read : List ℕ → List ℕ
