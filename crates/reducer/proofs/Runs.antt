@@ -8,7 +8,7 @@ use native.Mathlib.Omega.{arith}
 use native.Mathlib.Nat.{sub-zero}
 use lib.ListN.{length, get_or, set}
 use lib.Seq.{sets, length-sets}
-use Rattle.rewriting.specs.Marked.{Marked, whole}
+use Rattle.rewriting.specs.Marked.{Marked}
 use Rattle.rewriting.specs.Steps.{Step, applies, effect}
 use Rattle.rewriting.specs.Kinds.{number}
 use Rattle.rewriting.specs.Search.{reduce, first_step}

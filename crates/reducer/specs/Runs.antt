@@ -2,7 +2,6 @@
 use Rattle.std.specs.Prelude.{◌≡◌, ◌≢◌, List, ℕ, ◌*◌, ◌≤◌, ◌<◌, length, get_or}
 use Rattle.std.proofs.Math.Bool.{So}
 use Rattle.std.proofs.lemmas.List.Edits.{sets}
-use Rattle.rewriting.specs.Reaches.{reach}
 use Rattle.rewriting.specs.Marked.{whole}
 use Rattle.rewriting.specs.Steps.{applies}
 use Rattle.table.specs.Programs.{program_of}

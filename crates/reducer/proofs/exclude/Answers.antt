@@ -1,7 +1,6 @@
 -- `exclude`: the marks, then the heads anew, then what the step opens.
 use native.Mathlib.Omega.{arith}
 use Rattle.search_removal.proofs.Keeps.{state_removed}
-use borrow.Author.Rules.{rules}
 use Rattle.reducer.proofs.exclude.Goals as goal
 
 pub exclude_atom-requires : goal.exclude_atom-requires

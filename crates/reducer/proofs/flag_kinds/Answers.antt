@@ -5,7 +5,6 @@ use mathlib.Core.Path.{ap, ◌∙◌}
 use native.Mathlib.Omega.{arith}
 use lib.ListN.{length, length-replicate}
 use Rattle.reducer.proofs.Begins.{all_open}
-use borrow.Author.Rules.{rules}
 use Rattle.reducer.proofs.flag_kinds.Goals as goal
 
 pub flag-requires : goal.flag-requires

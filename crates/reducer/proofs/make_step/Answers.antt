@@ -3,7 +3,6 @@ use native.Mathlib.Omega.{arith}
 use Rattle.step_conditions.specs.Known.{step_of}
 use Rattle.search_spreads.proofs.Limits.{applied_lt}
 use Rattle.reducer.proofs.Makes.{after_nine, step_made, idle_made, idle_four}
-use borrow.Author.Rules.{rules}
 use Rattle.reducer.proofs.make_step.Goals as goal
 
 pub exclude-requires : goal.exclude-requires

@@ -2,7 +2,6 @@
 use native.Mathlib.Omega.{arith}
 use Rattle.table.proofs.Encoding.{passed_limits}
 use Rattle.reducer_results.proofs.Room.{room_is}
-use borrow.Author.Rules.{rules}
 use Rattle.reducer.proofs.most_steps.Goals as goal
 
 pub overflow_sub-result : goal.overflow_sub-result

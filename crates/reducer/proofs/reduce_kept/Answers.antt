@@ -1,5 +1,5 @@
 -- `reduce_kept`: the arrays, then the steps.
-use Prim.Native.Nat.{ℕ, ◌-◌}
+use Prim.Native.Nat.{ℕ}
 use mathlib.Core.Path.{refl, subst}
 use native.Mathlib.Omega.{arith}
 use lib.ListN.{length-replicate}
@@ -7,7 +7,6 @@ use Rattle.table.proofs.Encoding.{passed_limits}
 use Rattle.search_idle.proofs.Memory.{idle_none}
 use Rattle.reducer.specs.Runs.{AllOpen}
 use Rattle.reducer.proofs.Begins.{state_begun}
-use borrow.Author.Rules.{rules}
 use Rattle.reducer.proofs.reduce_kept.Goals as goal
 
 pub bounds-words-1 : goal.bounds-words-1

@@ -1,9 +1,7 @@
 -- `reduce_table`: the questions one after the other.
-use Prim.Native.Nat.{◌-◌}
 use mathlib.Core.Path.{sym, ◌∙◌}
 use native.Mathlib.Omega.{arith}
 use Rattle.reducer.proofs.Answers.{begun, passed, no_table, few_marks, no_room, done}
-use borrow.Author.Rules.{rules}
 use Rattle.reducer.proofs.reduce_table.Goals as goal
 
 pub returns-in_default : goal.returns-in_default

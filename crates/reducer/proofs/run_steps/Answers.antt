@@ -1,16 +1,9 @@
 -- `run_steps`: what is done so far, with what is left to do, is the whole.
-use Prim.Native.Nat.{◌-◌}
-use mathlib.Core.Path.{◌≡◌, refl, sym, ◌∙◌}
+use mathlib.Core.Path.{refl, sym, ◌∙◌}
 use native.Mathlib.Omega.{arith}
-use lib.ListN.{length, get_or}
-use Rattle.table.specs.View.{view}
-use Rattle.search_exclusion.specs.Smallest.{Idle}
-use Rattle.search_keys.specs.State.{State}
 use Rattle.search_first.proofs.Searches.{found_nothing}
-use Rattle.reducer_results.specs.Reductions.{room}
 use Rattle.reducer_results.proofs.Room.{room_few}
-use Rattle.reducer.proofs.Runs.{Running, running_none, running_end, running_room, running_step, found_made}
-use borrow.Author.Rules.{rules}
+use Rattle.reducer.proofs.Runs.{running_none, running_end, running_room, running_step, found_made}
 use Rattle.reducer.proofs.run_steps.Goals as goal
 
 pub loop-step-init : goal.loop-step-init

@@ -3,7 +3,6 @@ use Prim.Native.Nat.{◌*◌}
 use native.Mathlib.Omega.{arith}
 use lib.ListN.{length-set}
 use Rattle.reducer.proofs.Runs.{four_words}
-use borrow.Author.Rules.{rules}
 use Rattle.reducer.proofs.write_step.Goals as goal
 
 pub bounds-list-at-2 : goal.bounds-list-at-2
