@@ -1,11 +1,10 @@
 -- The first word, the counts, then the atoms: the first refusal of the three spans.
-use Prim.Native.Nat.{◌-◌, ◌+◌}
+use Prim.Native.Nat.{◌+◌}
 use mathlib.Core.Path.{refl}
 use native.Mathlib.Omega.{arith}
 use Rattle.table.specs.Questions.{on_walk}
 use Rattle.table.specs.Places.{next_at}
 use Rattle.reduced_marks.proofs.Marks.{clause_marks}
-use borrow.Author.Rules.{rules}
 use Rattle.reduced_marks.proofs.check_clause_marks.Goals as goal
 
 pub returns-in_default : goal.returns-in_default

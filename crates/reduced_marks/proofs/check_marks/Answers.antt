@@ -2,13 +2,12 @@
 use Rattle.table.specs.declared.Walk.TheVariants.{To}
 use Rattle.reduced_marks.proofs.Spans.{inside, start_next}
 use Rattle.table.proofs.Walks.{along_end}
-use Prim.Native.Nat.{◌≤◌, ◌-◌}
-use mathlib.Core.Path.{◌≡◌, refl, sym, ap, ◌∙◌}
+use mathlib.Core.Path.{refl, sym, ap, ◌∙◌}
 use native.Mathlib.Omega.{arith}
 use lib.ListN.{length}
-use Rattle.table.specs.Places.{start_from, start_of}
+use Rattle.table.specs.Places.{start_from}
 use Rattle.table.proofs.Encoding.{passed_limits}
-use Rattle.reduced_marks.specs.Allowed.{allowed, marks_from}
+use Rattle.reduced_marks.specs.Allowed.{allowed}
 use Rattle.reduced_marks.proofs.Marks.{front_stop, front_next, clause_stop, clause_next, marks_end}
 use borrow.Author.Rules.{rules}
 use Rattle.reduced_marks.proofs.check_marks.Goals as goal

@@ -1,10 +1,8 @@
 -- Each mark of the span is between `least` and 1, up to the first that isn't. The invariant: the walk from here on is the walk from the start.
 use Prim.Native.Nat.{◌≤◌, ◌-◌}
-use mathlib.Core.Path.{◌≡◌, refl, sym, ◌∙◌}
+use mathlib.Core.Path.{◌≡◌}
 use Rattle.reduced_marks.specs.Allowed.{marks_from}
 use Rattle.reduced_marks.specs.Spans.{between}
-use Rattle.reduced_marks.proofs.Marks.{marks_on, marks_bad, marks_end, between_yes, between_low, between_high}
-use borrow.Author.Rules.{rules}
 use Rattle.reduced_marks.proofs.check_span.Given as goal
 
 abbrev pub invariant-loop-i : goal.invariant-loop-i
