@@ -3,7 +3,6 @@ use Prim.Native.Nat.{◌-◌, ◌+◌}
 use mathlib.Core.Path.{sym, ap, ◌∙◌}
 use Rattle.reduced_sizes.specs.Parts.{kept_from}
 use Rattle.reduced_sizes.proofs.Words.{entry_gone, entry_size}
-use borrow.Author.Rules.{rules}
 use Rattle.reduced_sizes.proofs.entry_size.Goals as goal
 
 pub returns-then-marks-at-ne1 : goal.returns-then-marks-at-ne1

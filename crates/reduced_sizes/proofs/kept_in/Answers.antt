@@ -1,8 +1,6 @@
 -- The marks at 1 are counted. The invariant: the count so far and that of the rest are the whole.
-use Prim.Native.Nat.{◌≤◌, ◌-◌, ◌+◌}
-use mathlib.Core.Path.{◌≡◌}
+use Prim.Native.Nat.{◌-◌}
 use native.Mathlib.Omega.{arith}
-use Rattle.reduced_sizes.specs.Parts.{kept_from}
 use Rattle.reduced_sizes.proofs.Words.{kept_yes, kept_no, kept_end, kept_le}
 use borrow.Author.Rules.{rules}
 use Rattle.reduced_sizes.proofs.kept_in.Goals as goal

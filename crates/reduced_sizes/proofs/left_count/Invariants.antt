@@ -1,16 +1,10 @@
 -- The clauses kept are counted by the marks of their first words. The invariant: the count so far and that to come are the whole.
-use Rattle.table.proofs.Encoding.{passed_limits}
 use Prim.Native.Nat.{◌≤◌, ◌-◌, ◌+◌}
-use mathlib.Core.Path.{◌≡◌, refl, ap}
-use native.Mathlib.Omega.{arith}
+use mathlib.Core.Path.{◌≡◌}
 use lib.ListN.{length}
 use Rattle.rewriting.specs.Marked.{left}
-use Rattle.table.specs.Places.{start_from, start_of}
+use Rattle.table.specs.Places.{start_of}
 use Rattle.table.specs.View.{entries_from, view}
-use Rattle.reduced_sizes.proofs.Words.{count_on, left_end}
-use Rattle.reduced_sizes.proofs.Tables.{count_le, view_start}
-use Rattle.reduced_marks.proofs.Spans.{inside, start_next}
-use borrow.Author.Rules.{rules}
 use Rattle.reduced_sizes.proofs.left_count.Given as goal
 
 abbrev pub invariant-loop-k : goal.invariant-loop-k

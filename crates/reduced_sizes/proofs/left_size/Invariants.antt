@@ -1,18 +1,12 @@
 -- The sizes of the clauses as left are added up. The invariant: the sum so far and the words to come are the whole.
-use Rattle.table.proofs.Encoding.{passed_limits}
-use Rattle.reduced_sizes.proofs.Words.{size_end, size_on}
 use Prim.Native.Nat.{◌≤◌, ◌-◌, ◌+◌}
-use mathlib.Core.Path.{◌≡◌, refl, sym}
-use native.Mathlib.Omega.{arith}
+use mathlib.Core.Path.{◌≡◌}
 use lib.ListN.{length}
 use Rattle.rewriting.specs.Marked.{left}
 use Rattle.table.specs.Encoding.{clauses_words}
-use Rattle.table.specs.Places.{start_from, start_of}
+use Rattle.table.specs.Places.{start_of}
 use Rattle.table.specs.View.{entries_from}
 use Rattle.reduced_sizes.specs.Leaves.{reduced}
-use Rattle.reduced_sizes.proofs.Tables.{reduced_length, reduced_le, view_start}
-use Rattle.reduced_marks.proofs.Spans.{inside, start_next}
-use borrow.Author.Rules.{rules}
 use Rattle.reduced_sizes.proofs.left_size.Given as goal
 
 abbrev pub invariant-loop-k : goal.invariant-loop-k
