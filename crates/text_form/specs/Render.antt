@@ -1,5 +1,5 @@
 -- The text of a program, line by line, after document 01, "The text and its program".
-use Rattle.std.specs.Prelude.{ℕ, ◌+◌, List, [], ◌∷◌, ◌++◌, length}
+use Rattle.std.specs.Prelude.{ℕ, List, [], ◌∷◌, ◌++◌, length}
 use Rattle.semantics.specs.Programs.{Clause, Program}
 use Rattle.text_form.specs.Digits.{digits, commas}
 
