@@ -4,10 +4,9 @@ use mathlib.Core.Path.{◌≡◌, refl}
 use mathlib.Core.Bool.{Bool, true, false}
 use native.Mathlib.Omega.{arith}
 use Rattle.answers.specs.declared.Refusal.{Refusal}
-use Rattle.answers.specs.declared.Answer.{Answer}
-use Rattle.answers.specs.declared.Answer.TheVariants.{Accepted, Refused}
+use Rattle.std.specs.Prelude.{Ok, Err}
 use Rattle.answers.specs.Refusals.{refusal_place}
-use Rattle.answers.specs.Answers.{ask, Small}
+use Rattle.answers.specs.Answers.{Answer, ask, Small}
 
 module _ {Q A B : Type 0} where
   -- two answers behind one question: they are related where it stops them, and where it lets them through
@@ -26,16 +25,16 @@ module _ {Q A : Type 0} where
   ask_both S stop t q a h k = ask_pair (λ x y. S x) stop stop t q a a h k
 
 -- a refusal is no value
-pub refused_taken : (r : Refusal) (k : ℕ) → Refused r ≡ Accepted k → ⊥
+pub refused_taken : (r : Refusal) (k : ℕ) → Err r ≡ Ok k → ⊥
 refused_taken r k h = let z : ◌≡◌ {A = ℕ} 0 1 = cc in omega arith
 
-pub ask_taken : (t : Bool) (r : Refusal) (a : Answer) (k : ℕ) → ask Refused t r a ≡ Accepted k → (t ≡ true) × (a ≡ Accepted k)
+pub ask_taken : (t : Bool) (r : Refusal) (a : Answer) (k : ℕ) → ask Err t r a ≡ Ok k → (t ≡ true) × (a ≡ Ok k)
 unfolding ask
 ask_taken true r a k h = (refl, h)
 ask_taken false r a k h = absurd (refused_taken r k h)
 
 -- values and places stay small
-pub small_ask : (t : Bool) (r : Refusal) (a : Answer) → refusal_place r ≤ 65536 → (t ≡ true → Small a) → Small (ask Refused t r a)
+pub small_ask : (t : Bool) (r : Refusal) (a : Answer) → refusal_place r ≤ 65536 → (t ≡ true → Small a) → Small (ask Err t r a)
 unfolding ask
 small_ask true r a h y = y refl
 small_ask false r a h y = h

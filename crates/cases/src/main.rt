@@ -17,186 +17,244 @@
 // At most 128 numbers before and after the colon, and 128 bytes of a text, are read.
 #![tactic(auto)]
 
-ghost use Rattle.std.specs.Prelude.{◌≡◌, ◌≢◌, ◌≤◌, ◌<◌, length, slice_index, All};
-ghost use Rattle.std.specs.List.{between};
+ghost use Rattle.std.specs.Prelude.{◌≤◌, length};
 
-use cases_lines::{SIZE, WORDS};
-use table::Checked;
+use cases_lines::{Answered, Marks, SIZE, Text, Words};
+use std::alloc::Global;
+use std::io;
+use std::io::{BufWriter, Read, Write};
+use text_writer::Output;
 
-// The descriptor of standard input.
-const STDIN_FILENO: i32 = 0;
+// What a case calls, by the first byte of its line.
+#[derive(Clone, Copy)]
+enum Call {
+    Table,
+    Cycle,
+    Set,
+    Models,
+    List,
+    Reduce,
+    Kept,
+    Digits,
+    Write,
+}
+
+impl From<u8> for Call {
+    fn from(name: u8) -> Call {
+        match name {
+            b't' => Call::Table,
+            b'c' => Call::Cycle,
+            b's' => Call::Set,
+            b'm' => Call::Models,
+            b'l' => Call::List,
+            b'r' => Call::Reduce,
+            b'k' => Call::Kept,
+            b'd' => Call::Digits,
+            _ => Call::Write,
+        }
+    }
+}
 
 // ---- the calls
 
-fn run_table(words: &[u16]) {
-    cases_lines::print_answer(gambrolt::gambrolt_check_table(words));
-    let checked = table_questions::check_table(words);
-    let Checked::Valid(t) = checked else {
-        return;
-    };
-    cases_lines::print(b" table=");
-    cases_lines::print_word(t.atoms);
-    cases_lines::print(b",");
-    cases_lines::print_word(t.clauses);
-    cases_lines::print(b",");
-    cases_lines::print_number(t.words);
-}
-
-fn run_list(words: &[u16], rest: &[u16]) {
-    let mut marks = [7u8; SIZE];
-    let k = cases_lines::room(rest, 0);
-    if rest.len() == 0 {
-        return;
+fn show_table<W: Write>(out: &mut W, words: &[u16]) -> io::Result<()> {
+    write!(out, "{}", Answered(gambrolt::gambrolt_check_table(words)))?;
+    match table_questions::check_table(words) {
+        Ok(t) => write!(out, " table={},{},{}", t.atoms, t.clauses, t.words),
+        Err(_) => Ok(()),
     }
-    cases_lines::print_answer(gambrolt::gambrolt_check(words, &mut marks[0..k], &rest[1..]));
-    cases_lines::print_marks(&marks, k + 2);
 }
 
-fn run_reduce(words: &[u16], rest: &[u16]) {
+fn show_list<W: Write>(out: &mut W, words: &[u16], rest: &[u16]) -> io::Result<()> {
+    let Some((_, list)) = rest.split_first() else {
+        return Ok(());
+    };
+    let k = cases_lines::room(rest, 0);
     let mut marks = [7u8; SIZE];
-    let mut list = [9u16; WORDS];
+    let answer = gambrolt::gambrolt_check(words, &mut marks[..k], list);
+    write!(out, "{}{}", Answered(answer), Marks(&marks[..k + 2]))
+}
+
+fn show_reduce<W: Write>(out: &mut W, words: &[u16], rest: &[u16]) -> io::Result<()> {
     let k = cases_lines::room(rest, 0);
     let l = cases_lines::room(rest, 1);
-    cases_lines::print_answer(gambrolt::gambrolt_reduce(words, &mut marks[0..k], &mut list[0..l]));
-    cases_lines::print_marks(&marks, k + 2);
-    cases_lines::print_words(&list, l + 2);
+    let mut marks = [7u8; SIZE];
+    let mut list = [9u16; SIZE];
+    let answer = gambrolt::gambrolt_reduce(words, &mut marks[..k], &mut list[..l]);
+    write!(
+        out,
+        "{}{}{}",
+        Answered(answer),
+        Marks(&marks[..k + 2]),
+        Words(&list[..l + 2])
+    )
 }
 
-fn run_kept(words: &[u16], rest: &[u16]) {
-    let mut marks = [0u8; SIZE];
-    let mut out = [9u16; WORDS];
-    let n = cases_lines::least(cases_lines::to_marks(rest, &mut marks), SIZE);
-    let l = cases_lines::room(rest, 0);
-    if n == 0 {
-        return;
+fn show_kept<W: Write>(out: &mut W, words: &[u16], l: usize, marks: &[u8]) -> io::Result<()>
+    requires { l ≤ 126 }
+{
+    let mut left = [9u16; SIZE];
+    let answer = gambrolt::gambrolt_reduced_table(words, marks, &mut left[..l]);
+    write!(out, "{}{}", Answered(answer), Words(&left[..l + 2]))
+}
+
+fn show_models<W: Write>(out: &mut W, words: &[u16], l: usize) -> io::Result<()>
+    requires { l ≤ 126 }
+{
+    let mut models = [9u16; SIZE];
+    let answer = gambrolt::gambrolt_models(words, &mut models[..l]);
+    write!(out, "{}{}", Answered(answer), Words(&models[..l + 2]))
+}
+
+fn show_write<W: Write>(out: &mut W, words: &[u16], l: usize) -> io::Result<()>
+    requires { l ≤ 126 }
+{
+    let mut text = [b'.'; SIZE];
+    let answer = gambrolt::gambrolt_write_text(words, &mut text[..l]);
+    write!(out, "{}{}", Answered(answer), Text(&text[..l + 2]))
+}
+
+// A table of any size, and two words past it; two words for a refusal.
+fn show_parse<W: Write>(out: &mut W, text: &[u8], room: u16) -> io::Result<()> {
+    let mut words = [7u16; 8200];
+    let answer = gambrolt::gambrolt_read_text(text, &mut words[..usize::from(room).min(8198)]);
+    let shown = match usize::try_from(answer) {
+        Ok(n) if n < 8198 => n + 2,
+        _ => 2,
+    };
+    write!(out, "{}{}", Answered(answer), Words(&words[..shown]))
+}
+
+// ---- digits
+
+// A sum over bytes, after a byte more: 31 times as much and the byte, modulo 65,521.
+fn mixed(sum: usize, byte: u8) -> usize {
+    (sum % 65521 * 31 + usize::from(byte)) % 65521
+}
+
+// The digits of a number, at the beginning; how many.
+fn put_digits(text: &mut [u8], v: usize) -> usize
+    requires small { v ≤ 65536 }
+    requires room { 5 ≤ length text.old }
+    ensures { result ≤ 5 }
+{
+    let mut output = Output::new(text);
+    output.put_number(v);
+    output.len
+}
+
+// Each number is written over the one before it, which has no more digits.
+fn show_digits<W: Write>(out: &mut W, first: u16, more: u16) -> io::Result<()> {
+    let mut text = [b'.'; SIZE];
+    let first = usize::from(first);
+    let last = (first + usize::from(more)).min(65536);
+    let mut shown = 0;
+    let mut bytes: usize = 0;
+    let mut sum = 0;
+    for v in first..last + 1 {
+        let n = put_digits(&mut text, v);
+        bytes = bytes.saturating_add(n);
+        sum = text[..n].iter().fold(sum, |s, b| mixed(s, *b));
+        shown = n;
     }
-    cases_lines::print_answer(gambrolt::gambrolt_reduced_table(
-        words,
-        &marks[1..n],
-        &mut out[0..l],
-    ));
-    cases_lines::print_words(&out, l + 2);
-}
-
-fn run_models(words: &[u16], rest: &[u16]) {
-    let mut out = [9u16; WORDS];
-    let l = cases_lines::room(rest, 0);
-    cases_lines::print_answer(gambrolt::gambrolt_models(words, &mut out[0..l]));
-    cases_lines::print_words(&out, l + 2);
-}
-
-fn run_write(words: &[u16], rest: &[u16]) {
-    let mut out = [b'.'; SIZE];
-    let l = cases_lines::room(rest, 0);
-    cases_lines::print_answer(gambrolt::gambrolt_write_text(words, &mut out[0..l]));
-    cases_lines::print_text(&out, l + 2);
-}
-
-fn run_parse(text: &[u8], room: usize) {
-    let mut words = [7u16; WORDS];
-    let a = gambrolt::gambrolt_read_text(text, &mut words[0..cases_lines::least(room, 8198)]);
-    cases_lines::print_answer(a);
-    cases_lines::print_words(&words, cases_lines::shown(a));
+    write!(
+        out,
+        "numbers={} bytes={bytes} sum={sum}{}",
+        last + 1 - first,
+        Text(&text[..shown.min(5) + 2])
+    )
 }
 
 // ---- the lines
 
-fn run_more(name: u8, words: &[u16], rest: &[u16]) {
-    if name == b'l' {
-        return run_list(words, rest);
-    }
-    if name == b'r' {
-        return run_reduce(words, rest);
-    }
-    if name == b'k' {
-        return run_kept(words, rest);
-    }
-    if name == b'm' {
-        return run_models(words, rest);
-    }
-    run_write(words, rest);
-}
-
-fn run(name: u8, words: &[u16], rest: &[u16]) {
-    if name == b't' {
-        return run_table(words);
-    }
-    if name == b'c' {
-        return cases_lines::print_answer(gambrolt::gambrolt_cycle(words));
-    }
-    if name == b's' {
-        return cases_lines::print_answer(gambrolt::gambrolt_test(words, rest));
-    }
-    if name == b'd' {
-        return cases_lines::run_digits(words);
-    }
-    run_more(name, words, rest);
-}
-
-// Both parts of a case are numbers.
-fn run_numbers(name: u8, before: &[u8], after: &[u8]) {
-    let mut words = [0u16; SIZE];
-    let mut rest = [0u16; SIZE];
-    let n = cases_lines::least(cases_lines::numbers(before, &mut words), SIZE);
-    let k = cases_lines::least(cases_lines::numbers(after, &mut rest), SIZE);
-    run(name, &words[0..n], &rest[0..k]);
-}
-
-// The second part is a text.
-fn run_text(before: &[u8], after: &[u8]) {
-    let mut room = [0u16; 1];
-    let mut text = [0u8; SIZE];
-    cases_lines::numbers(before, &mut room);
-    let n = cases_lines::least(cases_lines::exchange(after, &mut text), SIZE);
-    run_parse(&text[0..n], table::wide(room[0]));
-}
-
-// The first place from `from` on and below `to` at which the byte stands, or else `to`.
-fn find(text: &[u8], from: usize, to: usize, byte: u8) -> usize
-    requires order { from ≤ to }
-    requires in_bounds { to ≤ length text.now }
-    ensures low { from ≤ result }
-    ensures high { result ≤ to }
-    ensures before { All (λ b. b ≢ byte) (between from result text.now) }
-    ensures there { result < to → slice_index text.now result ≡ byte }
-{
-    for i in from..to {
-        if text[i] == byte {
-            return i;
-        }
-    }
-    to
-}
-
-fn run_line(line: &[u8]) {
-    if line.len() == 0 {
-        return;
-    }
-    if line[0] == b'#' {
-        cases_lines::print(line);
-        return;
-    }
-    let mid = find(line, 0, line.len(), b':');
-    if line[0] != b'p' {
-        return run_numbers(line[0], &line[0..mid], &line[mid..]);
-    }
-    if mid < line.len() {
-        run_text(&line[0..mid], &line[mid + 1..]);
+fn run<W: Write>(
+    out: &mut W,
+    alloc: Global,
+    call: Call,
+    words: &[u16],
+    rest: &[u16],
+) -> io::Result<()> {
+    let l = cases_lines::room(rest, 0);
+    match call {
+        Call::Table => show_table(out, words),
+        Call::Cycle => write!(out, "{}", Answered(gambrolt::gambrolt_cycle(words))),
+        Call::Set => write!(out, "{}", Answered(gambrolt::gambrolt_test(words, rest))),
+        Call::Models => show_models(out, words, l),
+        Call::List => show_list(out, words, rest),
+        Call::Reduce => show_reduce(out, words, rest),
+        Call::Kept => match cases_lines::read_marks(alloc, rest)?.split_first() {
+            Some((_, marks)) => show_kept(out, words, l, marks),
+            None => Ok(()),
+        },
+        Call::Digits => show_digits(
+            out,
+            cases_lines::given(words, 0),
+            cases_lines::given(words, 1),
+        ),
+        Call::Write => show_write(out, words, l),
     }
 }
 
-fn run_lines(text: &[u8]) {
-    let mut at: usize = 0;
-    while at < text.len() {
-        let end = find(text, at, text.len(), 10);
-        run_line(&text[at..end]);
-        cases_lines::print(b"\n");
-        at = end + 1;
+// A case whose second part is a text; none where there is no colon.
+fn run_text<W: Write>(out: &mut W, alloc: Global, before: &[u8], after: &[u8]) -> io::Result<()> {
+    let Some((_, text)) = after.split_first() else {
+        return Ok(());
+    };
+    let room = cases_lines::read_numbers(alloc, before)?;
+    let text = cases_lines::read_bytes(alloc, text)?;
+    show_parse(out, &text, cases_lines::given(&room, 0))
+}
+
+// A case whose parts are numbers.
+fn run_numbers<W: Write>(
+    out: &mut W,
+    alloc: Global,
+    call: Call,
+    before: &[u8],
+    after: &[u8],
+) -> io::Result<()> {
+    let words = cases_lines::read_numbers(alloc, before)?;
+    let rest = cases_lines::read_numbers(alloc, after)?;
+    run(out, alloc, call, &words, &rest)
+}
+
+// A line: a heading, or a case with a colon between its parts.
+fn run_line<W: Write>(out: &mut W, alloc: Global, line: &[u8]) -> io::Result<()> {
+    let Some(first) = line.first() else {
+        return Ok(());
+    };
+    let colon = line.iter().position(|b| *b == b':');
+    let (before, after) = line.split_at(colon.unwrap_or(line.len()));
+    match *first {
+        b'#' => out.write_all(line),
+        b'p' => run_text(out, alloc, before, after),
+        name => run_numbers(out, alloc, Call::from(name), before, after),
     }
 }
 
-fn main() {
-    let mut text = io::large_buffer();
-    let n = io::read_full(STDIN_FILENO, &mut text);
-    run_lines(&text[..n]);
+// The lines of the input, of at most 65,536 bytes: what was read before a read that fails counts.
+fn run_lines(rt: &HostRuntime) -> io::Result<()> {
+    let alloc = rt.alloc();
+    let mut text = Vec::new(alloc);
+    match rt.stdin().take(65536).read_to_end(&mut text) {
+        Ok(_) | Err(_) => {}
+    }
+    let mut out = BufWriter::new(alloc, rt.stdout())?;
+    if text.last() == Some(&b'\n') {
+        text.pop();
+    } else if text.is_empty() {
+        return Ok(());
+    }
+    for line in text.split(|b| *b == b'\n') {
+        run_line(&mut out, alloc, line)?;
+        writeln!(out)?;
+    }
+    out.flush()
+}
+
+// The program ends in 0, whatever it read and whether or not it could write.
+fn main(rt: HostRuntime) {
+    match run_lines(&rt) {
+        Ok(()) | Err(_) => {}
+    }
 }

@@ -1,266 +1,141 @@
-// What the lines of cases are made of: printing, numbers and bytes read from a line, and sums over digits. It uses no call of the library.
+// What the lines of cases are made of: numbers and bytes read from a line, and what is printed of a call. It uses no call of the library.
 #![tactic(auto)]
 
-ghost use Rattle.std.specs.Prelude.{◌≤◌, ◌<◌};
+ghost use Rattle.std.specs.Prelude.{◌≡◌, ◌≤◌, length, get_or, min, IfOk};
 
-// The descriptor of standard output.
-const STDOUT_FILENO: i32 = 1;
+use std::alloc::{AllocError, Global};
+use std::fmt;
 
-// Elements of most arrays, and of those that hold any table.
+// How many numbers before and after the colon, and how many bytes of a text, are read.
 pub const SIZE: usize = 128;
 
-pub const WORDS: usize = 8200;
+// What a question's number counts in the answer of a call.
+const PLACES: u64 = 1 << 48;
 
 // ---- printing
 
-pub fn print(bytes: &[u8]) {
-    io::write_all(STDOUT_FILENO, bytes);
-}
+// The answer of a call: its value, or the number and place of the question that refuses it.
+#[derive(Clone, Copy)]
+pub struct Answered(pub u64);
 
-pub fn print_number(x: usize) {
-    io::print_decimal(STDOUT_FILENO, x as u64);
-}
-
-pub fn print_word(w: u16) {
-    print_number(table::wide(w));
-}
-
-fn print_mark(m: u8) {
-    print_number(m as usize);
-}
-
-fn print_byte(b: u8) {
-    let bytes = [b];
-    print(&bytes);
-}
-
-// The first n words.
-pub fn print_words(words: &[u16; WORDS], n: usize) {
-    print(b" words=");
-    for i in 0..least(n, WORDS) {
-        print_word(words[i]);
-        print(b",");
+impl fmt::Display for Answered {
+    fn fmt<W: fmt::Write>(&self, f: &mut fmt::Formatter<W>) -> fmt::Result {
+        let rest = self.0 % PLACES;
+        match self.0 / PLACES {
+            0 => write!(f, "taken={rest}"),
+            number => write!(f, "refused={number},{rest}"),
+        }
     }
 }
 
-// The first n marks.
-pub fn print_marks(marks: &[u8; SIZE], n: usize) {
-    print(b" marks=");
-    for i in 0..least(n, SIZE) {
-        print_mark(marks[i]);
+// Words, each with a comma behind it.
+#[derive(Clone, Copy)]
+pub struct Words<'a>(pub &'a [u16]);
+
+impl<'a> fmt::Display for Words<'a> {
+    fn fmt<W: fmt::Write>(&self, f: &mut fmt::Formatter<W>) -> fmt::Result {
+        f.write_str(" words=")?;
+        for word in self.0 {
+            write!(f, "{word},")?;
+        }
+        Ok(())
     }
 }
 
-// The first n bytes.
-pub fn print_text(text: &[u8; SIZE], n: usize) {
-    print(b" text=");
-    for i in 0..least(n, SIZE) {
-        print_byte(exchanged(text[i]));
+// Marks.
+#[derive(Clone, Copy)]
+pub struct Marks<'a>(pub &'a [u8]);
+
+impl<'a> fmt::Display for Marks<'a> {
+    fn fmt<W: fmt::Write>(&self, f: &mut fmt::Formatter<W>) -> fmt::Result {
+        f.write_str(" marks=")?;
+        for mark in self.0 {
+            write!(f, "{mark}")?;
+        }
+        Ok(())
     }
 }
 
-// The number of the question that refuses a call; none for a call that is taken.
-fn print_refusal(number: u64) {
-    if number == 0 {
-        print(b"taken=");
-        return;
+// The bytes of a text, a line feed as a slash.
+#[derive(Clone, Copy)]
+pub struct Text<'a>(pub &'a [u8]);
+
+impl<'a> fmt::Display for Text<'a> {
+    fn fmt<W: fmt::Write>(&self, f: &mut fmt::Formatter<W>) -> fmt::Result {
+        f.write_str(" text=")?;
+        for byte in self.0 {
+            write!(f, "{}", char::from(exchanged(*byte)))?;
+        }
+        Ok(())
     }
-    print(b"refused=");
-    io::print_decimal(STDOUT_FILENO, number);
-    print(b",");
-}
-
-pub fn print_answer(a: u64) {
-    print_refusal(a / 281474976710656);
-    io::print_decimal(STDOUT_FILENO, a % 281474976710656);
-}
-
-// As many of the words as were written and two more; two for a refusal.
-pub fn shown(a: u64) -> usize {
-    if a < 8198 { a as usize + 2 } else { 2 }
 }
 
 // ---- reading
 
-// The digit's value, or 10.
-fn digit(b: u8) -> usize
-    ensures { result ≤ 10 }
-{
-    if b < b'0' {
-        return 10;
-    }
-    if b'9' < b {
-        return 10;
-    }
-    (b - b'0') as usize
-}
-
-// One above the number that is being read, after a byte more; 0 where none is.
-fn more(value: usize, b: u8) -> usize {
-    let d = digit(b);
-    if 9 < d {
-        return 0;
-    }
-    if value == 0 {
-        return 1 + d;
-    }
-    if 100000 < value {
-        return value;
-    }
-    (value - 1) * 10 + d + 1
-}
-
-fn ended(value: usize, next: usize) -> usize {
-    if next == 0 { value } else { 0 }
-}
-
-fn narrow(x: usize) -> u16 {
-    if x < 65536 { x as u16 } else { 0 }
-}
-
-// The number one below the value, where there is one and room for it.
-fn put(out: &mut [u16], n: usize, value: usize) -> usize {
-    if value == 0 {
-        return n;
-    }
-    if n < out.len() {
-        out[n] = narrow(value - 1);
-        return n + 1;
-    }
-    n
-}
-
-// The numbers of a text, as far as there is room; how many.
-pub fn numbers(text: &[u8], out: &mut [u16]) -> usize {
-    let mut n: usize = 0;
-    let mut value: usize = 0;
-    for i in 0..text.len() {
-        let next = more(value, text[i]);
-        n = put(out, n, ended(value, next));
+// A number of a text, or 0 where it is above 65,535.
+fn number(digits: &[u8]) -> u16 {
+    let mut value: u16 = 0;
+    for digit in digits {
+        let Some(next) = value
+            .checked_mul(10)
+            .and_then(|v| v.checked_add(u16::from(*digit & 15)))
+        else {
+            return 0;
+        };
         value = next;
     }
-    put(out, n, value)
+    value
 }
 
-pub fn least(a: usize, b: usize) -> usize
-    ensures { (result ≤ a) × (result ≤ b) }
+// The numbers that stand in a text between other bytes, as far as they are read.
+pub fn read_numbers(alloc: Global, text: &[u8]) -> Result<Vec<u16>, AllocError>
+    ensures { IfOk result (λ found. length found.items ≤ 128) }
 {
-    if a < b { a } else { b }
+    text.split(|b| !b.is_ascii_digit())
+        .filter(|digits| !digits.is_empty())
+        .take(SIZE)
+        .map(|digits| number(digits))
+        .collect(alloc)
 }
 
-// How many elements are lent: two fewer than there are.
+// How many elements are lent: the number of the case at that place, at most two fewer than are printed.
 pub fn room(rest: &[u16], i: usize) -> usize
-    ensures { result ≤ 126 }
+    ensures { result ≡ min (get_or rest.now i 0) 126 }
 {
-    if i < rest.len() {
-        return least(table::wide(rest[i]), 126);
-    }
-    0
+    usize::from(given(rest, i)).min(SIZE - 2)
+}
+
+// A number of the case, or 0.
+pub fn given(words: &[u16], i: usize) -> u16
+    ensures { result ≡ get_or words.now i 0 }
+{
+    words.get(i).copied().unwrap_or(0)
 }
 
 // The byte that a sign of a text stands for, and a slash for a line feed.
 fn exchanged(b: u8) -> u8 {
-    if b == b'/' {
-        return 10;
-    }
-    if b == 10 {
-        return b'/';
-    }
-    if b == b'~' {
-        return 13;
-    }
-    if b == b'^' {
-        return 0;
-    }
-    if b == b'_' {
-        return 9;
-    }
-    b
-}
-
-fn set(out: &mut [u8], i: usize, b: u8) {
-    if i < out.len() {
-        out[i] = b;
+    match b {
+        b'/' => b'\n',
+        b'\n' => b'/',
+        b'~' => b'\r',
+        b'^' => 0,
+        b'_' => b'\t',
+        _ => b,
     }
 }
 
-// The bytes that the signs of a text stand for, as far as there is room; how many there are.
-pub fn exchange(text: &[u8], out: &mut [u8]) -> usize {
-    for i in 0..text.len() {
-        set(out, i, exchanged(text[i]));
-    }
-    text.len()
-}
-
-fn mark(w: u16) -> u8 {
-    if w < 256 { w as u8 } else { 0 }
-}
-
-// The numbers as marks, as far as there is room; how many there are.
-pub fn to_marks(rest: &[u16], marks: &mut [u8]) -> usize {
-    for i in 0..rest.len() {
-        set(marks, i, mark(rest[i]));
-    }
-    rest.len()
-}
-
-// ---- digits
-
-// A sum over bytes, after a byte more: 31 times as much and the byte, modulo 65,521.
-fn mixed(sum: usize, b: u8) -> usize {
-    (sum % 65521 * 31 + b as usize) % 65521
-}
-
-// A sum, after the first n bytes of a number.
-fn mixed_number(sum: usize, text: &[u8; SIZE], n: usize) -> usize {
-    let mut mix = sum;
-    for i in 0..least(n, SIZE) {
-        mix = mixed(mix, text[i]);
-    }
-    mix
-}
-
-// A number of the case, or 0.
-fn given(words: &[u16], i: usize) -> usize
-    ensures { result < 65536 }
+// The bytes that the signs of a text stand for, as far as they are read.
+pub fn read_bytes(alloc: Global, text: &[u8]) -> Result<Vec<u8>, AllocError>
+    ensures { IfOk result (λ found. length found.items ≡ min 128 (length text.now)) }
 {
-    if i < words.len() {
-        return table::wide(words[i]);
-    }
-    0
+    text.iter().take(SIZE).map(|b| exchanged(*b)).collect(alloc)
 }
 
-// The digits of a number, at the beginning; how many.
-fn put_digits(text: &mut [u8; SIZE], v: usize) -> usize
-    requires { v ≤ 65536 }
-    ensures { result ≤ 5 }
+// The numbers as marks, 0 for one that is no byte.
+pub fn read_marks(alloc: Global, rest: &[u16]) -> Result<Vec<u8>, AllocError>
+    ensures { IfOk result (λ marks. length marks.items ≡ length rest.now) }
 {
-    text_writer::put_number(text, 0, v)
-}
-
-// How many numbers, how many bytes they have, and the sum over these.
-fn print_sums(count: usize, bytes: usize, sum: usize) {
-    print(b"numbers=");
-    print_number(count);
-    print(b" bytes=");
-    print_number(bytes);
-    print(b" sum=");
-    print_number(sum);
-}
-
-// Each number is written over the one before it, which has no more digits.
-pub fn run_digits(words: &[u16]) {
-    let first = given(words, 0);
-    let count = least(given(words, 1), 65536 - first) + 1;
-    let mut text = [b'.'; SIZE];
-    let mut n: usize = 0;
-    let mut bytes: usize = 0;
-    let mut sum: usize = 0;
-    for i in 0..count {
-        n = put_digits(&mut text, first + i);
-        bytes = bytes + n;
-        sum = mixed_number(sum, &text, n);
-    }
-    print_sums(count, bytes, sum);
-    print_text(&text, n + 2);
+    rest.iter()
+        .map(|w| u8::try_from(*w).unwrap_or(0))
+        .collect(alloc)
 }

@@ -22,7 +22,7 @@ use Rattle.table.specs.Clearing.{clear_part, clear_clause, clear_from, marks_wit
 use Rattle.table.specs.Effects.{find, cleared_by, clears, marks_after, marks_after_all}
 use Rattle.table.proofs.View.{at_step_lem, view_after, length_after, after_on, after_off}
 use Rattle.table.proofs.Parts.{all_kept_one, length_all_kept, view_all_kept}
-use Rattle.answers.specs.declared.Answer.TheVariants.{Accepted}
+use Rattle.std.specs.Prelude.{Ok}
 use Rattle.reduced_table.specs.Reduced.{reduced_answer}
 use Rattle.reduced_sizes.specs.Leaves.{reduced}
 use Rattle.reduced_marks.specs.Allowed.{clearable_in, clearable_from, allowed}
@@ -162,8 +162,8 @@ list_allowed ws p (s ∷ l) ms b h o =
     list_allowed ws p l (marks_after ws ms s) (omega (arith, length_after ws ms s)) (subst (λ P. So (accepted (get_or ws 0 0) P l)) (sym (view_after ws ms p b (get_or ws 0 0) s w.0)) w.1) (step_allowed ws ms p b s w.0 o)
 
 -- The reduced table of the reducer's marks is written wherever it fits.
-pub reducer_compacts : (ws ms ls out : List ℕ) (s : ℕ) → (reduction ws ms ls).answer ≡ Accepted s → length (reduced ws (reduction ws ms ls).marks) ≤ length out
-    → reduced_answer ws (reduction ws ms ls).marks out ≡ Accepted (length (reduced ws (reduction ws ms ls).marks))
+pub reducer_compacts : (ws ms ls out : List ℕ) (s : ℕ) → (reduction ws ms ls).answer ≡ Ok s → length (reduced ws (reduction ws ms ls).marks) ≤ length out
+    → reduced_answer ws (reduction ws ms ls).marks out ≡ Ok (length (reduced ws (reduction ws ms ls).marks))
 reducer_compacts ws ms ls out s h f =
     let t = reducer_taken ws ms ls s h in
     let p = t.passed in

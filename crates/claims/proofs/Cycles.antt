@@ -4,7 +4,7 @@ use mathlib.Core.List.{List, map}
 use Prim.Native.Nat.{ℕ}
 use Rattle.semantics.specs.Lists.{bit}
 use Rattle.semantics.specs.Programs.{strip}
-use Rattle.answers.specs.declared.Answer.TheVariants.{Accepted}
+use Rattle.std.specs.Prelude.{Ok}
 use Rattle.table.specs.Questions.{Passed}
 use Rattle.table.specs.Programs.{program_of}
 use Rattle.dependency.specs.Decide.{cyclic}
@@ -16,4 +16,4 @@ use Rattle.cycle.proofs.Answered.{passed_answer}
 pub negation_aside : (ws vs : List ℕ) → Passed ws → Passed vs → map strip (program_of ws).clauses ≡ map strip (program_of vs).clauses → cycle_of ws ≡ cycle_of vs
 negation_aside ws vs p q e =
     let same = cyclic_strip (program_of ws).clauses ∙ ap cyclic e ∙ sym (cyclic_strip (program_of vs).clauses) in
-    passed_answer ws p ∙ ap (λ b. Accepted (bit b)) same ∙ sym (passed_answer vs q)
+    passed_answer ws p ∙ ap (λ b. Ok (bit b)) same ∙ sym (passed_answer vs q)

@@ -14,21 +14,20 @@ use Rattle.semantics.specs.Programs.{Program}
 use Rattle.semantics.specs.Decide.{stable_test}
 use Rattle.semantics.proofs.Tests.{not_so}
 use Rattle.answers.specs.declared.Refusal.{Refusal}
-use Rattle.table.specs.declared.Checked.TheVariants.{Refused as NoTable}
+use Rattle.std.specs.Prelude.{Ok, Err}
 use Rattle.table.specs.Questions.{Passed, table_of, on_table}
 use Rattle.table.specs.Encoding.{Within, encode}
 use Rattle.table.specs.Programs.{program_of}
 use Rattle.table.specs.View.{all_kept}
 use Rattle.table.proofs.Encoding.{passed_iff, valid_passed}
 use Rattle.table.proofs.Refused.{table_refused}
-use Rattle.step_questions.specs.declared.Verdict.TheVariants.{Fine}
 use Rattle.step_lists.specs.Lists.{steps_from, list_fits, check_list}
 use Rattle.step_lists.proofs.Walks.{verdict_on, check_made}
 use Rattle.answers.proofs.Asked.{refused_taken}
 use Rattle.table.proofs.Laws.{on_taken}
 use Rattle.reducer_results.specs.Reductions as reductions
 use Rattle.reducer_results.specs.Reductions.{Reduction, reduction}
-use Rattle.answers.specs.declared.Answer.{Answer}
+use Rattle.answers.specs.Answers.{Answer}
 use Rattle.reduced_table.specs.Reduced.{reduced_answer}
 use Rattle.reduced_sizes.specs.Leaves.{reduced}
 use Rattle.models_test.proofs.Answered as stability
@@ -36,7 +35,6 @@ use Rattle.models_list.specs.Answer.{model_words, models_answer}
 use Rattle.dependency.specs.Decide.{cyclic}
 use Rattle.cycle.proofs.Answered as cycles
 use Rattle.text_form.specs.Lists.{sorted_program, InForm}
-use Rattle.answers.specs.declared.Answer.TheVariants.{Accepted, Refused}
 use Rattle.text_form.specs.Reader.{answer_of, read_answer, table_after}
 use Rattle.text_form.specs.Writer.{text_of, write_answer, out_after}
 use Rattle.text_form.proofs.Texts.{read_form}
@@ -62,7 +60,7 @@ pub table_taken : (ws : List ℕ) → IsTaken (table_call ws) ↔ ((P : Program)
 unfolding on_table
 table_taken ws = (
   λ h. let (t, e, a) = on_taken (table_of ws) _ h.0 h.1 in (passed_iff ws).0 (valid_passed ws t e).0,
-  λ h. (0, ap (λ c. on_table Refused c (Accepted 0)) ((passed_iff ws).1 h).valid),
+  λ h. (0, ap (λ c. on_table Err c (Ok 0)) ((passed_iff ws).1 h).valid),
 )
 
 -- step k gets a yes to 12 to 16, 29 and 32 on the marks that the steps before it leave
@@ -87,16 +85,16 @@ check_taken ws ms ls = (
     front k p l f b = front_made ws ms ls k p l f (omega arith)
 
     yes : (k : ℕ) → Passed ws → length ws ≤ length ms → So (list_fits ls) → k < length ls / 4 → Fine_at ws ls (all_kept ws ms) 0 k → Yes ws ms ls k
-    yes k p l f b h = let z : 0 + k ≡ k = omega arith in rw (front k p l f b) ((none_fine ws (steps_from ws (all_kept ws ms) ls 0 k).marks ls k).1 (subst (λ i. verdict_on ws (steps_from ws (all_kept ws ms) ls 0 k).marks ls i ≡ Fine) z h))
+    yes k p l f b h = let z : 0 + k ≡ k = omega arith in rw (front k p l f b) ((none_fine ws (steps_from ws (all_kept ws ms) ls 0 k).marks ls k).1 (subst (λ i. verdict_on ws (steps_from ws (all_kept ws ms) ls 0 k).marks ls i ≡ Ok tt) z h))
 
     fine : (k : ℕ) → Passed ws → length ws ≤ length ms → So (list_fits ls) → k < length ls / 4 → Yes ws ms ls k → Fine_at ws ls (all_kept ws ms) 0 k
-    fine k p l f b h = let z : 0 + k ≡ k = omega arith in subst (λ i. verdict_on ws (steps_from ws (all_kept ws ms) ls 0 k).marks ls i ≡ Fine) (sym z) ((none_fine ws (steps_from ws (all_kept ws ms) ls 0 k).marks ls k).0 (rw (front k p l f b) at h))
+    fine k p l f b h = let z : 0 + k ≡ k = omega arith in subst (λ i. verdict_on ws (steps_from ws (all_kept ws ms) ls 0 k).marks ls i ≡ Ok tt) (sym z) ((none_fine ws (steps_from ws (all_kept ws ms) ls 0 k).marks ls k).0 (rw (front k p l f b) at h))
 
 -- 9 and 17
 pub reduce_taken : (ws ms ls : List ℕ) → IsTaken (reduce_call ws ms ls) ↔ (Passed ws × (length ws ≤ length ms) × (4 * reductions.room ws ≤ length ls))
 reduce_taken ws ms ls = go (reduction ws ms ls) (reducing.reducer_goes ws ms ls)
   where
-    go : (o : Reduction) → reducing.ReducerGoes ws ms ls o → ((k : ℕ) × (o.answer ≡ Accepted k)) ↔ (Passed ws × (length ws ≤ length ms) × (4 * reductions.room ws ≤ length ls))
+    go : (o : Reduction) → reducing.ReducerGoes ws ms ls o → ((k : ℕ) × (o.answer ≡ Ok k)) ↔ (Passed ws × (length ws ≤ length ms) × (4 * reductions.room ws ≤ length ls))
     go o (reducing.table r e) = (λ h. absurd (refused_taken _ _ h.1), λ h. absurd (not_both h.0 e))
     go o (reducing.marks p s) = (λ h. absurd (refused_taken _ _ h.1), λ h. absurd (omega (arith, h.1)))
     go o (reducing.room p l s) = (λ h. absurd (refused_taken _ _ h.1), λ h. absurd (omega (arith, h.2)))
@@ -106,7 +104,7 @@ reduce_taken ws ms ls = go (reduction ws ms ls) (reducing.reducer_goes ws ms ls)
 pub reduced_taken : (ws ms out : List ℕ) → IsTaken (reduced_call ws ms out) ↔ (Passed10 ws ms × (length (reduced ws ms) ≤ length out))
 reduced_taken ws ms out = go (reduced_answer ws ms out) (compacting.reduced_goes ws ms out)
   where
-    go : (a : Answer) → compacting.ReducedGoes ws ms out a → ((k : ℕ) × (a ≡ Accepted k)) ↔ (Passed10 ws ms × (length (reduced ws ms) ≤ length out))
+    go : (a : Answer) → compacting.ReducedGoes ws ms out a → ((k : ℕ) × (a ≡ Ok k)) ↔ (Passed10 ws ms × (length (reduced ws ms) ≤ length out))
     go a (compacting.table r e) = (λ h. absurd (refused_taken _ _ h.1), λ h. absurd (not_both h.0.passed e))
     go a (compacting.few p s) = (λ h. absurd (refused_taken _ _ h.1), λ h. absurd (omega (arith, h.0.marked)))
     go a (compacting.mark p l i f) = (λ h. absurd (refused_taken _ _ h.1), λ h. absurd (not_so f.fails (h.0.marks i (omega (arith, f.within)))))
@@ -124,7 +122,7 @@ test_taken ws set = (
 pub models_taken : (ws : List ℕ) (room : ℕ) → IsTaken (models_call ws room) ↔ (Passed ws × (get_or ws 0 0 ≤ 16) × (length (model_words ws) ≤ room))
 models_taken ws room = go (models_answer ws room) (listing.listing_goes ws room)
   where
-    go : (a : Answer) → listing.ListingGoes ws room a → ((k : ℕ) × (a ≡ Accepted k)) ↔ (Passed ws × (get_or ws 0 0 ≤ 16) × (length (model_words ws) ≤ room))
+    go : (a : Answer) → listing.ListingGoes ws room a → ((k : ℕ) × (a ≡ Ok k)) ↔ (Passed ws × (get_or ws 0 0 ≤ 16) × (length (model_words ws) ≤ room))
     go a (listing.table r e) = (λ h. absurd (refused_taken _ _ h.1), λ h. absurd (not_both h.0 e))
     go a (listing.many p s) = (λ h. absurd (refused_taken _ _ h.1), λ h. absurd (omega (arith, h.1)))
     go a (listing.short p f s) = (λ h. absurd (refused_taken _ _ h.1), λ h. absurd (omega (arith, h.2)))
@@ -149,7 +147,7 @@ read_taken ts room = (
 pub write_taken : (ws : List ℕ) (room : ℕ) → IsTaken (write_call ws room) ↔ (Passed ws × (length (text_of ws) ≤ room))
 write_taken ws room = go (write_answer ws room) (calls.writing_goes ws room)
   where
-    go : (a : Answer) → calls.WritingGoes ws room a → ((k : ℕ) × (a ≡ Accepted k)) ↔ (Passed ws × (length (text_of ws) ≤ room))
+    go : (a : Answer) → calls.WritingGoes ws room a → ((k : ℕ) × (a ≡ Ok k)) ↔ (Passed ws × (length (text_of ws) ≤ room))
     go a (calls.table r e) = (λ h. absurd (refused_taken _ _ h.1), λ h. absurd (not_both h.0 e))
     go a (calls.short p s) = (λ h. absurd (refused_taken _ _ h.1), λ h. absurd (omega (arith, h.1)))
     go a (calls.made p s) = (λ h. (p, s), λ h. (_, refl))
@@ -162,7 +160,7 @@ never e = let z : ◌≡◌ {A = ℕ} 0 1 = cc in omega arith
 number_is : {a b c d : ℕ} → refusal a b ≡ refusal c d → a ≡ c
 number_is e = cc
 
-early : (ws : List ℕ) (r : Refusal) (n place : ℕ) → 8 < n → table_of ws ≡ NoTable r → said_by (Refused r) ≡ refusal n place → ⊥
+early : (ws : List ℕ) (r : Refusal) (n place : ℕ) → 8 < n → table_of ws ≡ Err r → said_by (Err r) ≡ refusal n place → ⊥
 early ws r n place l e h = omega (arith, (table_refused ws r e).0, number_is h)
 
 -- 17 "Has the list at least 4 times (m plus all body literals) words?"
@@ -219,8 +217,8 @@ models_many ws room = go (models_answer ws room) (listing.listing_goes ws room)
 -- ---- a refused call changes no lent memory: `reducer_refused`, `reduced_refused`, `refused_marks` (a list refused at a step leaves the marks of the steps before it), `models_refused`, and
 
 -- "Every other refusal changes nothing.", of reading and writing text
-pub read_refused_unchanged : (ts table : List ℕ) (r : Refusal) → read_answer ts (length table) ≡ Refused r → table_after ts table ≡ table
+pub read_refused_unchanged : (ts table : List ℕ) (r : Refusal) → read_answer ts (length table) ≡ Err r → table_after ts table ≡ table
 read_refused_unchanged ts table r h = read_refused ts table r h
 
-pub write_refused_unchanged : (ws out : List ℕ) (r : Refusal) → write_answer ws (length out) ≡ Refused r → out_after ws out ≡ out
+pub write_refused_unchanged : (ws out : List ℕ) (r : Refusal) → write_answer ws (length out) ≡ Err r → out_after ws out ≡ out
 write_refused_unchanged ws out r h = write_refused ws out r h

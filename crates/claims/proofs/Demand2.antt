@@ -15,7 +15,7 @@ use Rattle.table.specs.Programs.{program_of}
 use Rattle.models_test.specs.Answer.{test_of}
 use Rattle.models_test.specs.Kept.{Testable}
 use Rattle.models_test.proofs.Answered.{accepted_iff}
-use Rattle.answers.specs.declared.Answer.TheVariants.{Accepted}
+use Rattle.std.specs.Prelude.{Ok}
 use Rattle.dependency.specs.Chains.{Cyclic}
 use Rattle.dependency.proofs.Reached.{cyclic_iff}
 use Rattle.cycle.specs.Answer.{cycle_of}
@@ -45,28 +45,28 @@ asked_iff ws set = (
 )
 
 -- The test says yes exactly when the set is a stable model of the table's program, over all its subsets of any kind.
-pub test_yes : (ws set : List ℕ) → (test_of ws set ≡ Accepted 1) ↔ (Asked ws set × Stable (program_of ws) (among set))
+pub test_yes : (ws set : List ℕ) → (test_of ws set ≡ Ok 1) ↔ (Asked ws set × Stable (program_of ws) (among set))
 test_yes ws set = (
   λ h. let w = (accepted_iff ws set true).0 h in ((asked_iff _ _).1 w.0, (test_iff (program_of ws) set).0 w.1),
   λ h. (accepted_iff ws set true).1 ((asked_iff _ _).0 h.0, (test_iff (program_of ws) set).1 h.1),
 )
 
 -- It says no exactly when the set is none.
-pub test_no : (ws set : List ℕ) → (test_of ws set ≡ Accepted 0) ↔ (Asked ws set × ¬ Stable (program_of ws) (among set))
+pub test_no : (ws set : List ℕ) → (test_of ws set ≡ Ok 0) ↔ (Asked ws set × ¬ Stable (program_of ws) (among set))
 test_no ws set = (
   λ h. let w = (accepted_iff ws set false).0 h in ((asked_iff _ _).1 w.0, λ s. not_so w.1 ((test_iff (program_of ws) set).1 s)),
   λ h. (accepted_iff ws set false).1 ((asked_iff _ _).0 h.0, so_false _ (λ s. h.1 ((test_iff (program_of ws) set).0 s))),
 )
 
 -- "Yes when some atom leads back to itself": the cycle answer says yes exactly then, along chains over the positive bodies of the table's clauses.
-pub cycle_yes : (ws : List ℕ) → (cycle_of ws ≡ Accepted 1) ↔ (Passed ws × Cyclic (program_of ws).clauses)
+pub cycle_yes : (ws : List ℕ) → (cycle_of ws ≡ Ok 1) ↔ (Passed ws × Cyclic (program_of ws).clauses)
 cycle_yes ws = (
   λ h. let w = (cycles.accepted_iff ws true).0 h in (w.0, (cyclic_iff (program_of ws).clauses).0 w.1),
   λ h. (cycles.accepted_iff ws true).1 (h.0, (cyclic_iff (program_of ws).clauses).1 h.1),
 )
 
 -- It says no exactly when none does.
-pub cycle_no : (ws : List ℕ) → (cycle_of ws ≡ Accepted 0) ↔ (Passed ws × ¬ Cyclic (program_of ws).clauses)
+pub cycle_no : (ws : List ℕ) → (cycle_of ws ≡ Ok 0) ↔ (Passed ws × ¬ Cyclic (program_of ws).clauses)
 cycle_no ws = (
   λ h. let w = (cycles.accepted_iff ws false).0 h in (w.0, λ l. not_so w.1 ((cyclic_iff (program_of ws).clauses).1 l)),
   λ h. (cycles.accepted_iff ws false).1 (h.0, so_false _ (λ s. h.1 ((cyclic_iff (program_of ws).clauses).0 s))),
@@ -76,7 +76,7 @@ cycle_no ws = (
 
 -- A text is read, given a table slice of 8,192 words, exactly when it has the form: lists of numbers in any order, with repeats, of a program that is within the
 -- limits once they are sorted, in at most 65,536 bytes.
-pub text_accepted_exactly : (ts table : List ℕ) → 8192 ≤ length table → ((k : ℕ) × (read_answer ts (length table) ≡ Accepted k)) ↔ ((P : Program) × InForm ts P)
+pub text_accepted_exactly : (ts table : List ℕ) → 8192 ≤ length table → ((k : ℕ) × (read_answer ts (length table) ≡ Ok k)) ↔ ((P : Program) × InForm ts P)
 text_accepted_exactly ts table big = (
   λ h. let a = accepted_reads ts table h.0 h.1 in (a.lists, a.form),
   λ h. (length (encode (sorted_program h.0)), (form_reads ts table h.0 h.1 big).0),
@@ -87,19 +87,19 @@ pub text_fits : (ws : List ℕ) → Passed ws → length (text_of ws) ≤ 65536
 text_fits ws p = omega (arith, text_short ws p)
 
 -- Reading the text written from a table gives that table, word for word; what lies past its words stays as it was.
-pub read_written : (ws out table : List ℕ) (n : ℕ) → write_answer ws (length out) ≡ Accepted n → 8192 ≤ length table
-    → (read_answer (take n (out_after ws out)) (length table) ≡ Accepted (length ws)) × (table_after (take n (out_after ws out)) table ≡ written ws table)
+pub read_written : (ws out table : List ℕ) (n : ℕ) → write_answer ws (length out) ≡ Ok n → 8192 ≤ length table
+    → (read_answer (take n (out_after ws out)) (length table) ≡ Ok (length ws)) × (table_after (take n (out_after ws out)) table ≡ written ws table)
 read_written ws out table n h big =
     let a = accepted_writes ws out n h in
     rw (a.after, take_written (text_of ws) out n a.count) (text_reads ws table a.passed big)
 
 -- A table that passes is written whenever its text fits, and 43,022 bytes are always enough.
-pub passed_written : (ws out : List ℕ) → Passed ws → 43022 ≤ length out → write_answer ws (length out) ≡ Accepted (length (text_of ws))
+pub passed_written : (ws out : List ℕ) → Passed ws → 43022 ≤ length out → write_answer ws (length out) ≡ Ok (length (text_of ws))
 passed_written ws out p big = (passed_writes ws out p (omega (arith, text_short ws p))).0
 
 -- "Demand 2's byte for byte now holds for canonical texts": writing what was read from one gives its bytes; what lies past them stays as it was.
-pub written_read : (ts table out : List ℕ) (k : ℕ) → Canonical ts → read_answer ts (length table) ≡ Accepted k → length ts ≤ length out
-    → (write_answer (take k (table_after ts table)) (length out) ≡ Accepted (length ts)) × (out_after (take k (table_after ts table)) out ≡ written ts out)
+pub written_read : (ts table out : List ℕ) (k : ℕ) → Canonical ts → read_answer ts (length table) ≡ Ok k → length ts ≤ length out
+    → (write_answer (take k (table_after ts table)) (length out) ≡ Ok (length ts)) × (out_after (take k (table_after ts table)) out ≡ written ts out)
 written_read ts table out k c h fits =
     let t = (same_bytes_exactly ts table k h).1 c in
     rw t at (passed_writes (take k (table_after ts table)) out (read_passes ts table k h) (rw t fits))

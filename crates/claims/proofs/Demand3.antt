@@ -20,8 +20,8 @@ use Rattle.table.specs.Encoding.{Within, encode}
 use Rattle.table.specs.Programs.{program_of}
 use Rattle.table.specs.View.{all_kept, zeros}
 use Rattle.table.proofs.Encoding.{encode_passes, program_encode}
-use Rattle.answers.specs.declared.Answer.{Answer}
-use Rattle.answers.specs.declared.Answer.TheVariants.{Accepted, Refused}
+use Rattle.answers.specs.Answers.{Answer}
+use Rattle.std.specs.Prelude.{Ok, Err}
 use Rattle.step_lists.specs.Lists.{list_fits, steps_from, check_list}
 use Rattle.reducer_results.specs.Reductions.{room, steps_of, Reduction, reduction}
 use Rattle.table.specs.StepWords.{words_of}
@@ -40,9 +40,9 @@ use Rattle.claims.proofs.Allowed.{reducer_compacts}
 
 -- How checking a list that is asked for its steps goes: it is accepted, or refused at a step k; then its first k steps alone are accepted, and leave the same marks.
 pub data Checking (ws ms ls : List ℕ) : Type 0 where
-  accepted : (check_list ws ms ls).answer ≡ Accepted (length ls / 4) → Checking ws ms ls
-  refused_at : (q : StepQuestion) (k : ℕ) → k < length ls / 4 → (check_list ws ms ls).answer ≡ Refused (refusal.Step q k)
-      → check_list ws ms (take (4 * k) ls) ≡ record { answer = Accepted k; marks = (check_list ws ms ls).marks } → Checking ws ms ls
+  accepted : (check_list ws ms ls).answer ≡ Ok (length ls / 4) → Checking ws ms ls
+  refused_at : (q : StepQuestion) (k : ℕ) → k < length ls / 4 → (check_list ws ms ls).answer ≡ Err (refusal.Step q k)
+      → check_list ws ms (take (4 * k) ls) ≡ record { answer = Ok k; marks = (check_list ws ms ls).marks } → Checking ws ms ls
 
 -- "Where the list is accepted, every set of atoms, of any size, is a stable model of the program as given exactly when it is one of the program as the list leaves it. Where it
 -- is refused at a step, the same holds for the program as the steps before that one leave it."
@@ -60,8 +60,8 @@ any_list P w ms ls l f =
     }
   where
     go : (ws : List ℕ) → Passed ws → length ws ≤ length ms → (a : Answer) → (check_list ws ms ls).answer ≡ a → Checking ws ms ls
-    go ws p l (Accepted s) e = accepted (e ∙ ap Accepted (accepted_marks ws ms ls s e).1)
-    go ws p l (Refused r) e =
+    go ws p l (Ok s) e = accepted (e ∙ ap Ok (accepted_marks ws ms ls s e).1)
+    go ws p l (Err r) e =
         let m = check_made ws ms ls _ p.valid l f in
         let x = subst (RefusedAt ws (all_kept ws ms) ls 0 (length ls / 4)) (sym m) (steps_refused ws ls (length ls / 4) 0 (all_kept ws ms) r (ap (λ o. o.answer) (sym m) ∙ e)) in
         refused_at x.question x.step (omega (arith, x.below)) x.is (front_made ws ms ls x.step p l f (omega (arith, x.below)) ∙ ap (steps_from ws (all_kept ws ms) ls 0) (sym (sub-zero x.step)) ∙ x.before)
@@ -78,7 +78,7 @@ own_list P ms ls s = take (4 * s) (call P ms ls).list
 -- The reduced table of the marks ms is written to the slice out, holds the program as they leave it, and has the stable models of P.
 pub record ReducedTable (P : Program) (ms out : List ℕ) : Type 0 where
   pub k : ℕ
-  pub taken : reduced_answer (encode P) ms out ≡ Accepted k
+  pub taken : reduced_answer (encode P) ms out ≡ Ok k
   pub holds : program_of (take k (reduced_out (encode P) ms out)) ≡ left_program (encode P) ms
   pub models : (M : Atoms) → Stable P M ↔ Stable (program_of (take k (reduced_out (encode P) ms out))) M
 
@@ -86,7 +86,7 @@ pub record ReducedTable (P : Program) (ms out : List ℕ) : Type 0 where
 pub record Demand3 (P : Program) (ms ls ks : List ℕ) : Type 0 where
   -- the call is taken: "Its result carries the number s of steps made"
   pub s : ℕ
-  pub taken : (call P ms ls).answer ≡ Accepted s
+  pub taken : (call P ms ls).answer ≡ Ok s
   -- "The reducer always takes the applicable step that is smallest by kind, then target, partner, atom, until none applies", but for those that slip 7 passes over; slip 8: "The reducer tries it after 8."
   pub steps : List Step
   pub order : Greedy (eligible P.atoms) (whole P.clauses) steps
@@ -94,11 +94,11 @@ pub record Demand3 (P : Program) (ms ls ks : List ℕ) : Type 0 where
   -- "later words don't change"
   pub past : drop (4 * s) (call P ms ls).list ≡ drop (4 * s) ls
   -- the list "is accepted
-  pub accepted : (check_list (encode P) ks (own_list P ms ls s)).answer ≡ Accepted s
+  pub accepted : (check_list (encode P) ks (own_list P ms ls s)).answer ≡ Ok s
   -- and leaves the same marks as the reducer did"
   pub same : take (length (encode P)) (check_list (encode P) ks (own_list P ms ls s)).marks ≡ take (length (encode P)) (call P ms ls).marks
   -- "No further step of any kind is then open: whatever four words stand behind that list as one step more, that step is refused."
-  pub further : (a b c d : ℕ) → (q : StepQuestion) × ((check_list (encode P) ks (own_list P ms ls s ++ a ∷ b ∷ c ∷ d ∷ [])).answer ≡ Refused (refusal.Step q s))
+  pub further : (a b c d : ℕ) → (q : StepQuestion) × ((check_list (encode P) ks (own_list P ms ls s ++ a ∷ b ∷ c ∷ d ∷ [])).answer ≡ Err (refusal.Step q s))
   -- slip 8: "The count reported is the number of steps written;
   pub written : s ≡ length steps
   -- without kind 9 among them it equals the marks at 0," those "among the table's words after that list is checked", which are "the clauses deleted plus the body literals dropped",
@@ -137,7 +137,7 @@ demand_3 P w ms ls ks a b c =
       table = λ out f. held out _ (reducer_compacts ws ms ls out (length l) h f) m;
     }
   where
-    held : (out : List ℕ) (k : ℕ) → reduced_answer (encode P) (call P ms ls).marks out ≡ Accepted k → ((M : Atoms) → Stable P M ↔ Stable (left_program (encode P) (call P ms ls).marks) M)
+    held : (out : List ℕ) (k : ℕ) → reduced_answer (encode P) (call P ms ls).marks out ≡ Ok k → ((M : Atoms) → Stable P M ↔ Stable (left_program (encode P) (call P ms ls).marks) M)
         → ReducedTable P (call P ms ls).marks out
     held out k h m =
         let e = ap program_of (reduced_accepted (encode P) (call P ms ls).marks out k h).words ∙ program_encode (left_program (encode P) (call P ms ls).marks) in

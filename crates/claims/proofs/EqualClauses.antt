@@ -14,15 +14,14 @@ use Rattle.rewriting.specs.Runs.{leaves}
 use Rattle.rewriting.specs.Reducer.{spares, eligible, Greedy}
 use Rattle.rewriting.proofs.Equal.{mirror_applies}
 use Rattle.rewriting.proofs.Earlier.{none_passed, greedy_passes, list_changes, end_differs}
-use Rattle.answers.specs.declared.Answer.TheVariants.{Accepted}
+use Rattle.std.specs.Prelude.{Ok}
 use Rattle.table.specs.Encoding.{Within, encode}
-use Rattle.table.specs.StepWords.{step_at, words_of}
+use Rattle.table.specs.StepWords.{kind_at, step_at, words_of}
 use Rattle.table.specs.View.{view}
-use Rattle.step_conditions.specs.declared.Step as words
 use Rattle.step_questions.specs.Questions.{step_questions}
 use Rattle.step_questions.specs.Verdicts.{condition_of, verdict_at}
-use Rattle.step_questions.proofs.Laws.{shape_kind, fine_applies}
-use Rattle.step_lists.specs.Leaves.{words_at}
+use Rattle.step_questions.proofs.Laws.{shape_all, fine_applies}
+use Rattle.step_lists.specs.Leaves.{Words, words_at, step_named}
 use Rattle.reducer_results.specs.Reductions.{room}
 use Rattle.claims.proofs.Said.{first_no}
 use Rattle.claims.proofs.Steps.{none_fine}
@@ -44,7 +43,7 @@ pub record EarlierKept (P : Program) (own : List ℕ) : Type 0 where
   -- the list of before, which takes the smallest applicable step each time, is this one exactly where no step of it is passed over
   pub changes : (old : List Step) → Greedy (applies P.atoms) (whole P.clauses) old → (old ≡ steps) ↔ So (none_passed (whole P.clauses) old)
 
-pub earlier_kept : (P : Program) → Within P → (ms ls : List ℕ) → length (encode P) ≤ length ms → 4 * room (encode P) ≤ length ls → (s : ℕ) → (call P ms ls).answer ≡ Accepted s → EarlierKept P (own_list P ms ls s)
+pub earlier_kept : (P : Program) → Within P → (ms ls : List ℕ) → length (encode P) ≤ length ms → 4 * room (encode P) ≤ length ls → (s : ℕ) → (call P ms ls).answer ≡ Ok s → EarlierKept P (own_list P ms ls s)
 earlier_kept P w ms ls a b s h =
     let d = demand_3 P w ms ls ms a b a in
     let e : d.s ≡ s = let z = sym d.taken ∙ h in cc in
@@ -60,7 +59,7 @@ earlier_kept P w ms ls a b s h =
 -- ---- the checker
 
 -- the words of a step with target and partner exchanged
-abbrev pub exchanged : words.Step → words.Step
+abbrev pub exchanged : Words → Words
 exchanged w = record { kind = w.kind; target = w.partner; partner = w.target; atom = w.atom }
 
 -- "The checker still takes either order": where target and partner of a step of kind 5 or 8 are equal as left, and the step gets a yes to every question, so does the step
@@ -73,5 +72,5 @@ either_order ws ms ls rs k x e q h =
     let n = get_or ws 0 0 in
     let P = view ws ms in
     let f = (none_fine ws ms ls k).0 h in
-    let b = shape_kind n P (words_at ls k) (condition_of P (words_at ls k)) (sym f) in
-    (none_fine ws ms rs k).1 (ap (λ w. verdict_at n P w) q ∙ applies_fine n P (exchanged (words_at ls k)) b.0 b.1 (mirror_applies n P (step_at ls k) x e (fine_applies n P (words_at ls k) (sym f))))
+    let b = (shape_all n P (kind_at ls k) (step_at ls k) (condition_of P (step_at ls k)) f).0 in
+    (none_fine ws ms rs k).1 (ap (λ (w : Words). verdict_at n P w.kind (step_named w)) q ∙ applies_fine n P (kind_at ls k) (step_named (exchanged (words_at ls k))) b (mirror_applies n P (step_at ls k) x e (fine_applies n P (kind_at ls k) (step_at ls k) f)))

@@ -25,11 +25,10 @@ use Rattle.rewriting.proofs.Exclusion.{excludes_iff, entry_removal}
 use Rattle.rewriting.proofs.Greedy.{greedy_one}
 use Rattle.rewriting.proofs.BeforeNine.{eligible_of_eight, before_greedy}
 use Rattle.table.specs.Encoding.{Within, encode}
-use Rattle.table.specs.StepWords.{step_at}
+use Rattle.table.specs.StepWords.{kind_at, step_at}
 use Rattle.table.specs.View.{view}
 use Rattle.step_questions.proofs.Laws.{fine_applies}
 use Rattle.step_lists.specs.Lists.{check_list}
-use Rattle.step_lists.specs.Leaves.{words_at}
 use Rattle.reducer_results.specs.Reductions.{room}
 use Rattle.claims.proofs.Said.{IsTaken, check_call}
 use Rattle.claims.proofs.Demand1.{check_taken}
@@ -123,7 +122,7 @@ exclusion_leaves P s k =
 pub exclusions_named : (ws ms ls : List ℕ) → IsTaken (check_call ws ms ls) → (k : ℕ) → k < length ls / 4 → (step_at ls k).kind ≡ excluded → Exclusion (get_or ws 0 0) (view ws (check_list ws ms (take (4 * k) ls)).marks) (step_at ls k)
 exclusions_named ws ms ls h k l e =
     let before = (check_list ws ms (take (4 * k) ls)).marks in
-    (exclusion_iff (get_or ws 0 0) (view ws before) (step_at ls k) e).0 (fine_applies (get_or ws 0 0) (view ws before) (words_at ls k) (sym ((none_fine ws before ls k).0 (((check_taken ws ms ls).0 h).3 k l))))
+    (exclusion_iff (get_or ws 0 0) (view ws before) (step_at ls k) e).0 (fine_applies (get_or ws 0 0) (view ws before) (kind_at ls k) (step_at ls k) ((none_fine ws before ls k).0 (((check_taken ws ms ls).0 h).3 k l)))
 
 -- ---- the reducer
 

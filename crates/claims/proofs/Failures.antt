@@ -21,7 +21,7 @@ use Rattle.rewriting.proofs.Reach.{in_no_head_iff, in_head_iff}
 use Rattle.rewriting.proofs.Effect.{asks}
 use Rattle.rewriting.proofs.Before.{eligible_before, lists_as_before}
 use Rattle.rewriting.proofs.Greedy.{greedy_one}
-use Rattle.answers.specs.declared.Answer.TheVariants.{Accepted, Refused}
+use Rattle.std.specs.Prelude.{Ok, Err}
 use Rattle.answers.specs.declared.Refusal.TheVariants as refusal
 use Rattle.answers.specs.declared.StepQuestion.TheVariants.{KindKnown, TargetKept, PartnerKept, AtomKnown, AtomMatches, AtomHeaded, ConditionHolds}
 use Rattle.answers.specs.Answers.{ask}
@@ -31,7 +31,6 @@ use Rattle.table.specs.View.{view}
 use Rattle.step_questions.specs.Questions.{kind_known, shape_questions, condition_questions, step_questions}
 use Rattle.step_questions.proofs.Laws.{fine_applies}
 use Rattle.step_lists.specs.Lists.{check_list}
-use Rattle.step_lists.specs.Leaves.{words_at}
 use Rattle.reducer_results.specs.Reductions.{room}
 use Rattle.claims.proofs.Said.{IsTaken, check_call, first_no}
 use Rattle.claims.proofs.Demand1.{check_taken}
@@ -111,7 +110,7 @@ no_32 ws ms ls k = go (kind_known (kind_at ls k)) (target_kept P s) (partner_kep
     go true true true true true true false h = let z : ◌≡◌ {A = ℕ} 0 1 = cc in absurd (omega arith)
 
 -- A list refused by 32 is refused at a loop step, on the program that the steps before it leave, whose atom is in no head there.
-pub refused_32 : (ws ms ls : List ℕ) (k : ℕ) → (check_list ws ms ls).answer ≡ Refused (refusal.Step AtomHeaded k) → ((step_at ls k).kind ≡ loop) × Headless (view ws (check_list ws ms ls).marks) (step_at ls k)
+pub refused_32 : (ws ms ls : List ℕ) (k : ℕ) → (check_list ws ms ls).answer ≡ Err (refusal.Step AtomHeaded k) → ((step_at ls k).kind ≡ loop) × Headless (view ws (check_list ws ms ls).marks) (step_at ls k)
 refused_32 ws ms ls k h =
     let (r, e) = refused_at_step ws ms ls AtomHeaded k h in
     let q : r.question ≡ AtomHeaded = let z = sym r.is ∙ h in cc in
@@ -131,7 +130,7 @@ loops_headed ws ms ls h k l e =
     let before = (check_list ws ms (take (4 * k) ls)).marks in
     let P = view ws before in
     let s = step_at ls k in
-    let g = asks (get_or ws 0 0) P s (fine_applies (get_or ws 0 0) P (words_at ls k) (sym ((none_fine ws before ls k).0 (((check_taken ws ms ls).0 h).3 k l)))) in
+    let g = asks (get_or ws 0 0) P s (fine_applies (get_or ws 0 0) P (kind_at ls k) (step_at ls k) ((none_fine ws before ls k).0 (((check_taken ws ms ls).0 h).3 k l))) in
     let w = (loops (left P) (entry P s.target).clause (entry P s.partner).clause s.atom).0 (subst (λ j. So (condition j (left P) (entry P s.target).clause (entry P s.partner).clause s.atom)) e g) in
     record { there = w.there; head = (in_head_iff (left P) s.atom).0 w.head; outside = w.outside }
 
@@ -144,7 +143,7 @@ pub record AsBefore (P : Program) (own : List ℕ) : Type 0 where
   pub only : (l : List Step) → Greedy (eligible_before P.atoms) (whole P.clauses) l → l ≡ steps
   pub words : own ≡ words_of steps
 
-pub list_as_before : (P : Program) → Within P → (ms ls : List ℕ) → length (encode P) ≤ length ms → 4 * room (encode P) ≤ length ls → (s : ℕ) → (call P ms ls).answer ≡ Accepted s → AsBefore P (own_list P ms ls s)
+pub list_as_before : (P : Program) → Within P → (ms ls : List ℕ) → length (encode P) ≤ length ms → 4 * room (encode P) ≤ length ls → (s : ℕ) → (call P ms ls).answer ≡ Ok s → AsBefore P (own_list P ms ls s)
 list_as_before P w ms ls a b s h =
     let d = demand_3 P w ms ls ms a b a in
     let g = (lists_as_before P.atoms (whole P.clauses) d.steps).0 d.order in

@@ -15,13 +15,12 @@ use Rattle.semantics.specs.Programs.{Program, Atoms, among, Stable}
 use Rattle.answers.specs.declared.CallQuestion.TheVariants.{FewAtoms, ModelsRoom}
 use Rattle.answers.specs.declared.Refusal.{Refusal}
 use Rattle.answers.specs.declared.Refusal.TheVariants.{Call}
-use Rattle.answers.specs.declared.Answer.{Answer}
-use Rattle.answers.specs.declared.Answer.TheVariants.{Accepted, Refused}
+use Rattle.answers.specs.Answers.{Answer}
+use Rattle.std.specs.Prelude.{Ok, Err}
 use Rattle.answers.specs.Answers.{ask, written, written_if}
 use Rattle.answers.proofs.Asked.{refused_taken}
 use Rattle.answers.proofs.Slices.{take_written}
-use Rattle.table.specs.declared.Checked.{Checked}
-use Rattle.table.specs.declared.Checked.TheVariants as checked
+use Rattle.table.specs.Questions.{Checked}
 use Rattle.table.specs.Questions.{Passed, table_of, on_table}
 use Rattle.table.specs.Encoding.{Within, encode}
 use Rattle.table.specs.Programs.{program_of}
@@ -43,47 +42,47 @@ use Rattle.claims.proofs.Demand3.{any_list}
 
 -- by the first question that gets a no, or with every question answered yes
 pub data ListingGoes (ws : List ℕ) (room : ℕ) : Answer → Type 0 where
-  table : (r : Refusal) → table_of ws ≡ checked.Refused r → ListingGoes ws room (Refused r)
-  many : Passed ws → 16 < get_or ws 0 0 → ListingGoes ws room (Refused (Call FewAtoms))
-  short : Passed ws → get_or ws 0 0 ≤ 16 → room < length (model_words ws) → ListingGoes ws room (Refused (Call ModelsRoom))
-  made : Passed ws → get_or ws 0 0 ≤ 16 → length (model_words ws) ≤ room → ListingGoes ws room (Accepted (length (model_words ws)))
+  table : (r : Refusal) → table_of ws ≡ Err r → ListingGoes ws room (Err r)
+  many : Passed ws → 16 < get_or ws 0 0 → ListingGoes ws room (Err (Call FewAtoms))
+  short : Passed ws → get_or ws 0 0 ≤ 16 → room < length (model_words ws) → ListingGoes ws room (Err (Call ModelsRoom))
+  made : Passed ws → get_or ws 0 0 ≤ 16 → length (model_words ws) ≤ room → ListingGoes ws room (Ok (length (model_words ws)))
 
 pub listing_goes : (ws : List ℕ) (room : ℕ) → ListingGoes ws room (models_answer ws room)
 unfolding models_answer on_table ask
 listing_goes ws room = by_table (table_of ws) refl
   where
-    by_room : Passed ws → get_or ws 0 0 ≤ 16 → (b : Bool) → leb (length (model_words ws)) room ≡ b → ListingGoes ws room (ask Refused b (Call ModelsRoom) (Accepted (length (model_words ws))))
+    by_room : Passed ws → get_or ws 0 0 ≤ 16 → (b : Bool) → leb (length (model_words ws)) room ≡ b → ListingGoes ws room (ask Err b (Call ModelsRoom) (Ok (length (model_words ws))))
     by_room p f true e = made p f (leb-true _ _ e)
     by_room p f false e = short p f (leb-false _ _ e)
 
     by_atoms : Passed ws → (b : Bool) → leb (get_or ws 0 0) 16 ≡ b
-        → ListingGoes ws room (ask Refused b (Call FewAtoms) (ask Refused (leb (length (model_words ws)) room) (Call ModelsRoom) (Accepted (length (model_words ws)))))
+        → ListingGoes ws room (ask Err b (Call FewAtoms) (ask Err (leb (length (model_words ws)) room) (Call ModelsRoom) (Ok (length (model_words ws)))))
     by_atoms p true e = by_room p (leb-true _ _ e) (leb (length (model_words ws)) room) refl
     by_atoms p false e = many p (leb-false _ _ e)
 
     by_table : (c : Checked) → table_of ws ≡ c
-        → ListingGoes ws room (on_table Refused c (ask Refused (leb (get_or ws 0 0) 16) (Call FewAtoms) (ask Refused (leb (length (model_words ws)) room) (Call ModelsRoom) (Accepted (length (model_words ws))))))
-    by_table (checked.Valid t) e = by_atoms (valid_passed ws t e).0 (leb (get_or ws 0 0) 16) refl
-    by_table (checked.Refused r) e = table r e
+        → ListingGoes ws room (on_table Err c (ask Err (leb (get_or ws 0 0) 16) (Call FewAtoms) (ask Err (leb (length (model_words ws)) room) (Call ModelsRoom) (Ok (length (model_words ws))))))
+    by_table (Ok t) e = by_atoms (valid_passed ws t e).0 (leb (get_or ws 0 0) 16) refl
+    by_table (Err r) e = table r e
 
 -- 12,870 words are always enough: "31 .. is for a slice shorter than the count", and the count is at most that.
-pub models_enough : (ws : List ℕ) (room : ℕ) → Passed ws → (program_of ws).atoms ≤ 16 → 12870 ≤ room → models_answer ws room ≡ Accepted (length (models_of (program_of ws)))
+pub models_enough : (ws : List ℕ) (room : ℕ) → Passed ws → (program_of ws).atoms ≤ 16 → 12870 ≤ room → models_answer ws room ≡ Ok (length (models_of (program_of ws)))
 unfolding models_answer on_table ask program_of
 models_enough ws room p few h = rw (p.valid, le-leb (get_or ws 0 0) 16 few, le-leb (length (model_words ws)) room (omega (arith, few_models (program_of ws) few)))
 
 -- "31 .. a slice shorter than the count, which stays unwritten": a refused call changes nothing.
-pub models_refused : (ws out : List ℕ) (r : Refusal) → models_answer ws (length out) ≡ Refused r → models_out ws out ≡ out
+pub models_refused : (ws out : List ℕ) (r : Refusal) → models_answer ws (length out) ≡ Err r → models_out ws out ≡ out
 unfolding models_out written_if
 models_refused ws out r h = rw h
 
 -- ---- what a call that is taken writes
 
-module _ (ws out : List ℕ) (k : ℕ) (h : models_answer ws (length out) ≡ Accepted k) where
+module _ (ws out : List ℕ) (k : ℕ) (h : models_answer ws (length out) ≡ Ok k) where
   taken : (Passed ws) × ((program_of ws).atoms ≤ 16) × (k ≡ length (model_words ws))
   unfolding program_of
   taken = go (models_answer ws (length out)) (listing_goes ws (length out)) h
     where
-      go : (a : Answer) → ListingGoes ws (length out) a → a ≡ Accepted k → (Passed ws) × (get_or ws 0 0 ≤ 16) × (k ≡ length (model_words ws))
+      go : (a : Answer) → ListingGoes ws (length out) a → a ≡ Ok k → (Passed ws) × (get_or ws 0 0 ≤ 16) × (k ≡ length (model_words ws))
       go a (table r e) q = absurd (refused_taken _ _ q)
       go a (many p s) q = absurd (refused_taken _ _ q)
       go a (short p f s) q = absurd (refused_taken _ _ q)
@@ -133,7 +132,7 @@ module _ (ws out : List ℕ) (k : ℕ) (h : models_answer ws (length out) ≡ Ac
   few_entries x = omega (arith, keep_shorter (set_of_word x) (below (program_of ws).atoms), length_below (program_of ws).atoms, taken.1)
 
   -- "A set is listed exactly when the test of demand 2 would say yes": the test of its atoms, ascending
-  pub listed_tested : (x : ℕ) → x < 2 ^ (program_of ws).atoms → (x ∈ words_listed) ↔ (test_of ws (entries_of (program_of ws).atoms x) ≡ Accepted 1)
+  pub listed_tested : (x : ℕ) → x < 2 ^ (program_of ws).atoms → (x ∈ words_listed) ↔ (test_of ws (entries_of (program_of ws).atoms x) ≡ Ok 1)
   listed_tested x b =
       let n = (program_of ws).atoms in
       let e = among_entries n x b in

@@ -16,18 +16,16 @@ use Rattle.answers.specs.declared.CallQuestion.TheVariants.{MarksLength, TableRo
 use Rattle.answers.specs.declared.WordQuestion.TheVariants.{MarkAllowed}
 use Rattle.answers.specs.declared.Refusal.{Refusal}
 use Rattle.answers.specs.declared.Refusal.TheVariants.{Call, Word}
-use Rattle.table.specs.declared.Walk.{Walk}
-use Rattle.table.specs.declared.Walk.TheVariants.{To, Stop}
-use Rattle.table.specs.declared.Checked.{Checked}
-use Rattle.table.specs.declared.Checked.TheVariants.{Valid, Refused as NoTable}
+use Rattle.table.specs.Questions.{Walk}
+use Rattle.std.specs.Prelude.{Ok, Err}
+use Rattle.table.specs.Questions.{Checked}
 use Rattle.answers.specs.Answers.{ask, written, written_if}
 use Rattle.answers.proofs.Slices.{take_written}
 use Rattle.table.specs.Questions.{on_walk, table_of, on_table, Passed}
 use Rattle.table.specs.Encoding.{encode}
 use Rattle.table.specs.Programs.{program_of}
 use Rattle.table.proofs.Encoding.{program_encode, valid_passed}
-use Rattle.answers.specs.declared.Answer.{Answer}
-use Rattle.answers.specs.declared.Answer.TheVariants.{Accepted, Refused}
+use Rattle.answers.specs.Answers.{Answer}
 use Rattle.reduced_table.specs.Reduced.{marked_answer, reduced_answer, reduced_out}
 use Rattle.reduced_sizes.specs.Leaves.{left_program, reduced}
 use Rattle.reduced_marks.specs.Allowed.{allowed, marks_from}
@@ -56,8 +54,8 @@ pub record First (f : ℕ → Bool) (at k i : ℕ) : Type 0 where
 
 -- what a walk over the marks has found: each allowed, or the first that isn't
 abbrev Found : (ℕ → Bool) → ℕ → ℕ → Walk → Type 0
-Found f at k (To e) = (i : ℕ) → at ≤ i → i < at + k → So (f i)
-Found f at k (Stop r) = (i : ℕ) × First f at k i × (r ≡ Word MarkAllowed i)
+Found f at k (Ok e) = (i : ℕ) → at ≤ i → i < at + k → So (f i)
+Found f at k (Err r) = (i : ℕ) × First f at k i × (r ≡ Word MarkAllowed i)
 
 marks_found : (f : ℕ → Bool) (at k : ℕ) → Found f at k (marks_from f at k)
 unfolding marks_from ask
@@ -68,14 +66,14 @@ marks_found f at (suc k) = go (f at) refl (marks_from f (at + 1) k) (marks_found
     here b q h i e = ap f e ∙ q ∙ h
 
     more : So (f at) → (w : Walk) → Found f (at + 1) k w → Found f at (suc k) w
-    more h (To e) r = λ i a b. by_cases (dec_lt at i) (λ l. r i (omega arith) (omega arith)) (λ l. here true h refl i (omega arith))
-    more h (Stop x) (i, r, q) = (
+    more h (Ok e) r = λ i a b. by_cases (dec_lt at i) (λ l. r i (omega arith) (omega arith)) (λ l. here true h refl i (omega arith))
+    more h (Err x) (i, r, q) = (
       i,
       record { from = omega (arith, r.from); within = omega (arith, r.within); fails = r.fails; before = λ j a b. by_cases (dec_lt at j) (λ l. r.before j (omega arith) b) (λ l. here true h refl j (omega arith)) },
       q,
     )
 
-    go : (t : Bool) → f at ≡ t → (w : Walk) → Found f (at + 1) k w → Found f at (suc k) (ask Stop t (Word MarkAllowed at) w)
+    go : (t : Bool) → f at ≡ t → (w : Walk) → Found f (at + 1) k w → Found f at (suc k) (ask Err t (Word MarkAllowed at) w)
     go true q w r = more q w r
     go false q w r = (at, record { from = omega arith; within = omega arith; fails = q; before = λ j a b. absurd (omega arith) }, refl)
 
@@ -95,59 +93,59 @@ pub record Passed10 (ws ms : List ℕ) : Type 0 where
 
 -- by the first question that gets a no, or with every question answered yes
 pub data ReducedGoes (ws ms out : List ℕ) : Answer → Type 0 where
-  table : (r : Refusal) → table_of ws ≡ NoTable r → ReducedGoes ws ms out (Refused r)
-  few : Passed ws → length ms < length ws → ReducedGoes ws ms out (Refused (Call MarksLength))
-  mark : Passed ws → length ws ≤ length ms → (i : ℕ) → First (allowed ws ms) 0 (length ws) i → ReducedGoes ws ms out (Refused (Word MarkAllowed i))
-  room : Passed10 ws ms → length out < length (reduced ws ms) → ReducedGoes ws ms out (Refused (Call TableRoom))
-  made : Passed10 ws ms → length (reduced ws ms) ≤ length out → ReducedGoes ws ms out (Accepted (length (reduced ws ms)))
+  table : (r : Refusal) → table_of ws ≡ Err r → ReducedGoes ws ms out (Err r)
+  few : Passed ws → length ms < length ws → ReducedGoes ws ms out (Err (Call MarksLength))
+  mark : Passed ws → length ws ≤ length ms → (i : ℕ) → First (allowed ws ms) 0 (length ws) i → ReducedGoes ws ms out (Err (Word MarkAllowed i))
+  room : Passed10 ws ms → length out < length (reduced ws ms) → ReducedGoes ws ms out (Err (Call TableRoom))
+  made : Passed10 ws ms → length (reduced ws ms) ≤ length out → ReducedGoes ws ms out (Ok (length (reduced ws ms)))
 
 pub reduced_goes : (ws ms out : List ℕ) → ReducedGoes ws ms out (reduced_answer ws ms out)
 unfolding reduced_answer on_table marked_answer on_walk ask
 reduced_goes ws ms out = by_table (table_of ws) refl
   where
     fits : Answer
-    fits = ask Refused (leb (length (reduced ws ms)) (length out)) (Call TableRoom) (Accepted (length (reduced ws ms)))
+    fits = ask Err (leb (length (reduced ws ms)) (length out)) (Call TableRoom) (Ok (length (reduced ws ms)))
 
-    by_room : Passed10 ws ms → (b : Bool) → leb (length (reduced ws ms)) (length out) ≡ b → ReducedGoes ws ms out (ask Refused b (Call TableRoom) (Accepted (length (reduced ws ms))))
+    by_room : Passed10 ws ms → (b : Bool) → leb (length (reduced ws ms)) (length out) ≡ b → ReducedGoes ws ms out (ask Err b (Call TableRoom) (Ok (length (reduced ws ms))))
     by_room y true e = made y (leb-true _ _ e)
     by_room y false e = room y (leb-false _ _ e)
 
-    by_mark : Passed ws → length ws ≤ length ms → (w : Walk) → Found (allowed ws ms) 0 (length ws) w → ReducedGoes ws ms out (on_walk Refused w (λ _. fits))
-    by_mark p l (To e) f = by_room (record { passed = p; marked = l; marks = λ i b. f i (omega arith) (omega arith) }) (leb (length (reduced ws ms)) (length out)) refl
-    by_mark p l (Stop r) (i, f, e) = subst (λ x. ReducedGoes ws ms out (Refused x)) (sym e) (mark p l i f)
+    by_mark : Passed ws → length ws ≤ length ms → (w : Walk) → Found (allowed ws ms) 0 (length ws) w → ReducedGoes ws ms out (on_walk Err w (λ _. fits))
+    by_mark p l (Ok e) f = by_room (record { passed = p; marked = l; marks = λ i b. f i (omega arith) (omega arith) }) (leb (length (reduced ws ms)) (length out)) refl
+    by_mark p l (Err r) (i, f, e) = subst (λ x. ReducedGoes ws ms out (Err x)) (sym e) (mark p l i f)
 
-    by_few : Passed ws → (b : Bool) → leb (length ws) (length ms) ≡ b → ReducedGoes ws ms out (ask Refused b (Call MarksLength) (on_walk Refused (marks_from (allowed ws ms) 0 (length ws)) (λ _. fits)))
+    by_few : Passed ws → (b : Bool) → leb (length ws) (length ms) ≡ b → ReducedGoes ws ms out (ask Err b (Call MarksLength) (on_walk Err (marks_from (allowed ws ms) 0 (length ws)) (λ _. fits)))
     by_few p true e = by_mark p (leb-true _ _ e) (marks_from (allowed ws ms) 0 (length ws)) (marks_found (allowed ws ms) 0 (length ws))
     by_few p false e = few p (leb-false _ _ e)
 
-    by_table : (c : Checked) → table_of ws ≡ c → ReducedGoes ws ms out (on_table Refused c (marked_answer ws ms out))
-    by_table (Valid t) e = by_few (valid_passed ws t e).0 (leb (length ws) (length ms)) refl
-    by_table (NoTable r) e = table r e
+    by_table : (c : Checked) → table_of ws ≡ c → ReducedGoes ws ms out (on_table Err c (marked_answer ws ms out))
+    by_table (Ok t) e = by_few (valid_passed ws t e).0 (leb (length ws) (length ms)) refl
+    by_table (Err r) e = table r e
 
 -- a table that passes is not refused
-pub not_both : {ws : List ℕ} {r : Refusal} → Passed ws → table_of ws ≡ NoTable r → ⊥
+pub not_both : {ws : List ℕ} {r : Refusal} → Passed ws → table_of ws ≡ Err r → ⊥
 not_both p e = let q = p.valid in let z : ◌≡◌ {A = ℕ} 0 1 = cc in omega arith
 
 module _ (ws ms out : List ℕ) where
   -- "(place of the first that isn't)"
-  pub reduced_mark : Passed ws → length ws ≤ length ms → (i : ℕ) → First (allowed ws ms) 0 (length ws) i → reduced_answer ws ms out ≡ Refused (Word MarkAllowed i)
+  pub reduced_mark : Passed ws → length ws ≤ length ms → (i : ℕ) → First (allowed ws ms) 0 (length ws) i → reduced_answer ws ms out ≡ Err (Word MarkAllowed i)
   reduced_mark p l i h = go (reduced_answer ws ms out) (reduced_goes ws ms out)
     where
       fails : Passed10 ws ms → ⊥
       fails y = not_so h.fails (y.marks i (omega (arith, h.within)))
 
-      go : (a : Answer) → ReducedGoes ws ms out a → a ≡ Refused (Word MarkAllowed i)
+      go : (a : Answer) → ReducedGoes ws ms out a → a ≡ Err (Word MarkAllowed i)
       go a (table r e) = absurd (not_both p e)
       go a (few q m) = absurd (omega arith)
-      go a (mark q m j f) = ap (λ x. Refused (Word MarkAllowed x)) (first_is (allowed ws ms) 0 (length ws) j i f h)
+      go a (mark q m j f) = ap (λ x. Err (Word MarkAllowed x)) (first_is (allowed ws ms) 0 (length ws) j i f h)
       go a (room y m) = absurd (fails y)
       go a (made y m) = absurd (fails y)
 
   -- A slice as long as the words is long enough.
-  pub reduced_fits : Passed10 ws ms → length (reduced ws ms) ≤ length out → reduced_answer ws ms out ≡ Accepted (length (reduced ws ms))
+  pub reduced_fits : Passed10 ws ms → length (reduced ws ms) ≤ length out → reduced_answer ws ms out ≡ Ok (length (reduced ws ms))
   reduced_fits y l = go (reduced_answer ws ms out) (reduced_goes ws ms out)
     where
-      go : (a : Answer) → ReducedGoes ws ms out a → a ≡ Accepted (length (reduced ws ms))
+      go : (a : Answer) → ReducedGoes ws ms out a → a ≡ Ok (length (reduced ws ms))
       go a (table r e) = absurd (not_both y.passed e)
       go a (few q m) = absurd (omega (arith, y.marked))
       go a (mark q m j f) = absurd (not_so f.fails (y.marks j (omega (arith, f.within))))
@@ -166,7 +164,7 @@ pub record Made (ws ms out : List ℕ) (k : ℕ) : Type 0 where
   pub past : drop k (reduced_out ws ms out) ≡ drop k out
 
 -- Accepted, the slice holds the table of the program as left, and what lies past it is as it was.
-pub reduced_accepted : (ws ms out : List ℕ) (k : ℕ) → reduced_answer ws ms out ≡ Accepted k → Made ws ms out k
+pub reduced_accepted : (ws ms out : List ℕ) (k : ℕ) → reduced_answer ws ms out ≡ Ok k → Made ws ms out k
 unfolding reduced_out written_if
 reduced_accepted ws ms out k h = go (reduced_answer ws ms out) (reduced_goes ws ms out) h
   where
@@ -181,7 +179,7 @@ reduced_accepted ws ms out k h = go (reduced_answer ws ms out) (reduced_goes ws 
           past = ap (drop k) o ∙ drop_at (reduced ws ms) (drop (length (reduced ws ms)) out) k n ∙ ap (λ i. drop i out) n;
         }
 
-    go : (a : Answer) → ReducedGoes ws ms out a → a ≡ Accepted k → Made ws ms out k
+    go : (a : Answer) → ReducedGoes ws ms out a → a ≡ Ok k → Made ws ms out k
     go a (table r e) q = let z : ◌≡◌ {A = ℕ} 0 1 = cc in absurd (omega arith)
     go a (few p m) q = let z : ◌≡◌ {A = ℕ} 0 1 = cc in absurd (omega arith)
     go a (mark p m j f) q = let z : ◌≡◌ {A = ℕ} 0 1 = cc in absurd (omega arith)
@@ -189,6 +187,6 @@ reduced_accepted ws ms out k h = go (reduced_answer ws ms out) (reduced_goes ws 
     go a (made y m) q = done y m (cc)
 
 -- Refused, the slice is as it was.
-pub reduced_refused : (ws ms out : List ℕ) (r : Refusal) → reduced_answer ws ms out ≡ Refused r → reduced_out ws ms out ≡ out
+pub reduced_refused : (ws ms out : List ℕ) (r : Refusal) → reduced_answer ws ms out ≡ Err r → reduced_out ws ms out ≡ out
 unfolding reduced_out written_if
 reduced_refused ws ms out r h = rw h

@@ -16,13 +16,12 @@ use Rattle.rewriting.proofs.Sound.{list_sound}
 use Rattle.answers.specs.declared.CallQuestion.TheVariants.{MarksLength, ListRoom}
 use Rattle.answers.specs.declared.Refusal.{Refusal}
 use Rattle.answers.specs.declared.Refusal.TheVariants.{Call}
-use Rattle.table.specs.declared.Checked.{Checked}
-use Rattle.table.specs.declared.Checked.TheVariants.{Valid, Refused as NoTable}
+use Rattle.table.specs.Questions.{Checked}
+use Rattle.std.specs.Prelude.{Ok, Err}
 use Rattle.table.specs.Questions.{Passed, table_of}
 use Rattle.table.specs.Programs.{program_of}
 use Rattle.table.specs.View.{view, zeros}
 use Rattle.table.proofs.Encoding.{valid_passed}
-use Rattle.answers.specs.declared.Answer.TheVariants.{Accepted, Refused}
 use Rattle.reducer_results.specs.Reductions as reductions
 use Rattle.reducer_results.specs.Reductions.{steps_of, Reduction, leaving_both, reduced_by_lem, reduction}
 use Rattle.table.specs.Questions.{on_table}
@@ -33,7 +32,7 @@ use Rattle.reducer_results.proofs.Taken.{reducer_taken, marks_after_lem}
 
 -- by the first question that gets a no, or with every question answered yes
 pub data ReducerGoes (ws ms ls : List ℕ) : Reduction → Type 0 where
-  table : (r : Refusal) → table_of ws ≡ NoTable r → ReducerGoes ws ms ls (leaving_both ms ls r)
+  table : (r : Refusal) → table_of ws ≡ Err r → ReducerGoes ws ms ls (leaving_both ms ls r)
   marks : Passed ws → length ms < length ws → ReducerGoes ws ms ls (leaving_both ms ls (Call MarksLength))
   room : Passed ws → length ws ≤ length ms → length ls < 4 * reductions.room ws → ReducerGoes ws ms ls (leaving_both ms ls (Call ListRoom))
   made : Passed ws → length ws ≤ length ms → 4 * reductions.room ws ≤ length ls
@@ -56,14 +55,14 @@ reducer_goes ws ms ls = by_table (table_of ws) refl
 
     by_table : (c : Checked) → table_of ws ≡ c
         → ReducerGoes ws ms ls (on_table (leaving_both ms ls) c (ask (leaving_both ms ls) (leb (length ws) (length ms)) (Call MarksLength) (ask (leaving_both ms ls) (leb (4 * reductions.room ws) (length ls)) (Call ListRoom) done)))
-    by_table (Valid t) e = by_marks (valid_passed ws t e).0 (leb (length ws) (length ms)) refl
-    by_table (NoTable r) e = table r e
+    by_table (Ok t) e = by_marks (valid_passed ws t e).0 (leb (length ws) (length ms)) refl
+    by_table (Err r) e = table r e
 
 -- "Every other refusal changes nothing."
-pub reducer_refused : (ws ms ls : List ℕ) (r : Refusal) → (reduction ws ms ls).answer ≡ Refused r → ((reduction ws ms ls).marks ≡ ms) × ((reduction ws ms ls).list ≡ ls)
+pub reducer_refused : (ws ms ls : List ℕ) (r : Refusal) → (reduction ws ms ls).answer ≡ Err r → ((reduction ws ms ls).marks ≡ ms) × ((reduction ws ms ls).list ≡ ls)
 reducer_refused ws ms ls r = go (reduction ws ms ls) (reducer_goes ws ms ls)
   where
-    go : (o : Reduction) → ReducerGoes ws ms ls o → o.answer ≡ Refused r → (o.marks ≡ ms) × (o.list ≡ ls)
+    go : (o : Reduction) → ReducerGoes ws ms ls o → o.answer ≡ Err r → (o.marks ≡ ms) × (o.list ≡ ls)
     go o (table x e) h = (refl, refl)
     go o (marks p l) h = (refl, refl)
     go o (room p l s) h = (refl, refl)
@@ -72,19 +71,19 @@ reducer_refused ws ms ls r = go (reduction ws ms ls) (reducer_goes ws ms ls)
 -- ---- what a call that is taken leaves
 
 -- slip 8: "The count reported is the number of steps written;
-pub reducer_written : (ws ms ls : List ℕ) (s : ℕ) → (reduction ws ms ls).answer ≡ Accepted s → s ≡ length (steps_of ws)
+pub reducer_written : (ws ms ls : List ℕ) (s : ℕ) → (reduction ws ms ls).answer ≡ Ok s → s ≡ length (steps_of ws)
 reducer_written ws ms ls s h = (reducer_taken ws ms ls s h).count
 
 -- without kind 9 among them it equals the marks at 0,
-pub reducer_counts : (ws ms ls : List ℕ) (s : ℕ) → (reduction ws ms ls).answer ≡ Accepted s → So (without_nine (steps_of ws)) → s ≡ zeros ws (reduction ws ms ls).marks
+pub reducer_counts : (ws ms ls : List ℕ) (s : ℕ) → (reduction ws ms ls).answer ≡ Ok s → So (without_nine (steps_of ws)) → s ≡ zeros ws (reduction ws ms ls).marks
 reducer_counts ws ms ls s h n = sym ((marks_after_lem ws ms ls s (reducer_taken ws ms ls s h)).2 n)
 
 -- and otherwise steps number at most the marks at 0."
-pub reducer_at_most : (ws ms ls : List ℕ) (s : ℕ) → (reduction ws ms ls).answer ≡ Accepted s → s ≤ zeros ws (reduction ws ms ls).marks
+pub reducer_at_most : (ws ms ls : List ℕ) (s : ℕ) → (reduction ws ms ls).answer ≡ Ok s → s ≤ zeros ws (reduction ws ms ls).marks
 reducer_at_most ws ms ls s h = (marks_after_lem ws ms ls s (reducer_taken ws ms ls s h)).1
 
 -- Every set of atoms is a stable model of the program given exactly when it is one of the program as the reducer's marks leave it.
-pub reducer_models : (ws ms ls : List ℕ) (s : ℕ) → (reduction ws ms ls).answer ≡ Accepted s → (M : Atoms)
+pub reducer_models : (ws ms ls : List ℕ) (s : ℕ) → (reduction ws ms ls).answer ≡ Ok s → (M : Atoms)
     → Stable (program_of ws) M ↔ Stable (program (get_or ws 0 0) (left (view ws (reduction ws ms ls).marks))) M
 unfolding program_of
 reducer_models ws ms ls s h M =

@@ -5,8 +5,8 @@ use mathlib.Core.Option.{Option, none, some}
 use Prim.Native.Nat.{ℕ, ◌/◌}
 use lib.ListN.{length, get_or, take, replicate}
 use Rattle.answers.specs.declared.StepQuestion.{StepQuestion}
-use Rattle.answers.specs.declared.Answer.{Answer}
-use Rattle.answers.specs.declared.Answer.TheVariants.{Accepted, Refused}
+use Rattle.answers.specs.Answers.{Answer}
+use Rattle.std.specs.Prelude.{Ok, Err}
 use Rattle.answers.specs.Refusals.{refusal_number, refusal_place}
 use Rattle.answers.specs.Answers.{written}
 use Rattle.table.specs.Questions.{table_of, on_table}
@@ -29,8 +29,8 @@ pub data Said : Type 0 where
 
 -- "The first no gives its number. The place is 0 unless named."
 abbrev pub said_by : Answer → Said
-said_by (Accepted k) = value k
-said_by (Refused r) = refusal (refusal_number r) (refusal_place r)
+said_by (Ok k) = value k
+said_by (Err r) = refusal (refusal_number r) (refusal_place r)
 
 -- a call with what is lent to it: words, then marks, a list of steps or a slice; listing all stable models, reading and writing text, the length of the slice
 pub data Call : Type 0 where
@@ -46,7 +46,7 @@ pub data Call : Type 0 where
 
 -- by the definitions that the exports' contracts cite
 abbrev pub answered : Call → Answer
-answered (table_call ws) = on_table Refused (table_of ws) (Accepted 0)
+answered (table_call ws) = on_table Err (table_of ws) (Ok 0)
 answered (check_call ws ms ls) = (check_list ws ms ls).answer
 answered (reduce_call ws ms ls) = (reduction ws ms ls).answer
 answered (reduced_call ws ms out) = reduced_answer ws ms out
@@ -60,7 +60,7 @@ abbrev pub says : Call → Said
 says c = said_by (answered c)
 
 abbrev pub IsTaken : Call → Type 0
-IsTaken c = (k : ℕ) × (answered c ≡ Accepted k)
+IsTaken c = (k : ℕ) × (answered c ≡ Ok k)
 
 -- ---- steps of a list
 
@@ -87,16 +87,16 @@ reduced64 ws = reduction ws (replicate (length ws) 0) (replicate 64 0)
 
 abbrev pub Says : Example → Type 0
 Says (row c s) = says c ≡ s
-Says (writes ws l) = ((reduced64 ws).answer ≡ Accepted (length l / 4)) × ((reduced64 ws).list ≡ written l (replicate 64 0))
+Says (writes ws l) = ((reduced64 ws).answer ≡ Ok (length l / 4)) × ((reduced64 ws).list ≡ written l (replicate 64 0))
 -- into a slice of six words, at first all 9
-Says (lists ws l) = (models_answer ws 6 ≡ Accepted (length l)) × (models_out ws (replicate 6 9) ≡ written l (replicate 6 9))
+Says (lists ws l) = (models_answer ws 6 ≡ Ok (length l)) × (models_out ws (replicate 6 9) ≡ written l (replicate 6 9))
 -- into a slice of 64 bytes, at first all dots
-Says (texts ws bs) = (write_answer ws 64 ≡ Accepted (length bs)) × (out_after ws (replicate 64 46) ≡ written bs (replicate 64 46))
+Says (texts ws bs) = (write_answer ws 64 ≡ Ok (length bs)) × (out_after ws (replicate 64 46) ≡ written bs (replicate 64 46))
 Says (digits_are v bs) = digits v ≡ bs
 -- from marks that are all 7
 Says (checked ws ls s ms) = (said_by (check_list ws (replicate (length ws) 7) ls).answer ≡ s) × ((check_list ws (replicate (length ws) 7) ls).marks ≡ ms)
 -- into a slice of 8,192 words, at first all 7
-Says (reads_as ts ws) = (read_answer ts 8192 ≡ Accepted (length ws)) × (take (length ws) (table_after ts (replicate 8192 7)) ≡ ws)
+Says (reads_as ts ws) = (read_answer ts 8192 ≡ Ok (length ws)) × (take (length ws) (table_after ts (replicate 8192 7)) ≡ ws)
 
 abbrev pub AllSay : List Example → Type 0
 AllSay [] = Unit {0}

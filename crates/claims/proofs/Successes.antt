@@ -20,7 +20,6 @@ use Rattle.table.specs.View.{view}
 use Rattle.step_questions.specs.Questions.{kind_known, shape_questions, condition_questions, step_questions}
 use Rattle.step_questions.proofs.Laws.{fine_applies}
 use Rattle.step_lists.specs.Lists.{check_list}
-use Rattle.step_lists.specs.Leaves.{words_at}
 use Rattle.claims.proofs.Said.{IsTaken, check_call, first_no}
 use Rattle.claims.proofs.Demand1.{check_taken}
 use Rattle.claims.proofs.Steps.{none_fine, first_exactly}
@@ -45,7 +44,7 @@ pub successes_named : (ws ms ls : List ℕ) → IsTaken (check_call ws ms ls) �
 successes_named ws ms ls h k l e =
     let y = ((check_taken ws ms ls).0 h).3 k l in
     let before = (check_list ws ms (take (4 * k) ls)).marks in
-    success_named (get_or ws 0 0) (view ws before) (step_at ls k) e (fine_applies (get_or ws 0 0) (view ws before) (words_at ls k) (sym ((none_fine ws before ls k).0 y)))
+    success_named (get_or ws 0 0) (view ws before) (step_at ls k) e (fine_applies (get_or ws 0 0) (view ws before) (kind_at ls k) (step_at ls k) ((none_fine ws before ls k).0 y))
 
 -- "Refusal 29 comes after 15, for kind 3 only, where the partner's head as left is one atom and the word differs from it": of a step that 12 to 15 let through,
 -- 29 is the first no exactly there.

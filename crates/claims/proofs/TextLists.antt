@@ -9,7 +9,7 @@ use Rattle.semantics.specs.Lists.{◌∈◌, ascending}
 use Rattle.semantics.specs.Programs.{Program}
 use Rattle.sorting.specs.Sorting.{sorted}
 use Rattle.sorting.proofs.Sorted.{sorted_ascends, sorted_iff, sorted_is}
-use Rattle.answers.specs.declared.Answer.TheVariants.{Accepted, Refused}
+use Rattle.std.specs.Prelude.{Ok, Err}
 use Rattle.answers.specs.declared.Refusal.{Refusal}
 use Rattle.answers.specs.Refusals.{refusal_number}
 use Rattle.answers.specs.Answers.{written}
@@ -37,7 +37,7 @@ no_other_kept = sorted_is
 
 -- "Reading a list sorts it and keeps each atom once": the answer and the slice are those of the sorted lists; what lies past their words stays as it was.
 pub read_sorted : (ts table : List ℕ) (P : Program) → InForm ts P → 8192 ≤ length table
-    → (read_answer ts (length table) ≡ Accepted (length (encode (sorted_program P)))) × (table_after ts table ≡ written (encode (sorted_program P)) table)
+    → (read_answer ts (length table) ≡ Ok (length (encode (sorted_program P)))) × (table_after ts table ≡ written (encode (sorted_program P)) table)
 read_sorted = form_reads
 
 -- The bytes of a text give its lists.
@@ -45,7 +45,7 @@ pub lists_given : (ts : List ℕ) (P Q : Program) → InForm ts P → InForm ts 
 lists_given = unique.lists_unique
 
 -- "question 7 is never met from text"
-pub never_seven : (ts : List ℕ) (room : ℕ) (r : Refusal) → read_answer ts room ≡ Refused r → refusal_number r ≢ 7
+pub never_seven : (ts : List ℕ) (room : ℕ) (r : Refusal) → read_answer ts room ≡ Err r → refusal_number r ≢ 7
 never_seven = near.never_seven
 
 -- ---- canonical texts
@@ -62,7 +62,7 @@ canonical_exactly ts = (
 )
 
 -- The text of what was read is the text that was read exactly where that is canonical.
-pub same_bytes_exactly : (ts table : List ℕ) (k : ℕ) → read_answer ts (length table) ≡ Accepted k → (text_of (take k (table_after ts table)) ≡ ts) ↔ Canonical ts
+pub same_bytes_exactly : (ts table : List ℕ) (k : ℕ) → read_answer ts (length table) ≡ Ok k → (text_of (take k (table_after ts table)) ≡ ts) ↔ Canonical ts
 same_bytes_exactly ts table k h = (
   λ e. subst Canonical e (written_canonical (take k (table_after ts table)) (calls.read_passes ts table k h)),
   λ c.
@@ -74,11 +74,11 @@ same_bytes_exactly ts table k h = (
 -- ---- "Two accepted texts give the same table exactly when the writer gives one text for both."
 
 -- the bytes that writing a table leaves are its text
-bytes_written : (ws out : List ℕ) (n : ℕ) → write_answer ws (length out) ≡ Accepted n → take n (out_after ws out) ≡ text_of ws
+bytes_written : (ws out : List ℕ) (n : ℕ) → write_answer ws (length out) ≡ Ok n → take n (out_after ws out) ≡ text_of ws
 bytes_written ws out n h = let a = accepted_writes ws out n h in ap (take n) a.after ∙ take_written (text_of ws) out n a.count
 
-pub one_text_exactly : (ts us table table' out out' : List ℕ) (k l m n : ℕ) → read_answer ts (length table) ≡ Accepted k → read_answer us (length table') ≡ Accepted l
-    → write_answer (take k (table_after ts table)) (length out) ≡ Accepted m → write_answer (take l (table_after us table')) (length out') ≡ Accepted n
+pub one_text_exactly : (ts us table table' out out' : List ℕ) (k l m n : ℕ) → read_answer ts (length table) ≡ Ok k → read_answer us (length table') ≡ Ok l
+    → write_answer (take k (table_after ts table)) (length out) ≡ Ok m → write_answer (take l (table_after us table')) (length out') ≡ Ok n
     → (take k (table_after ts table) ≡ take l (table_after us table')) ↔ (take m (out_after (take k (table_after ts table)) out) ≡ take n (out_after (take l (table_after us table')) out'))
 one_text_exactly ts us table table' out out' k l m n g h v w =
     let s = bytes_written (take k (table_after ts table)) out m v in
@@ -86,7 +86,7 @@ one_text_exactly ts us table table' out out' k l m n g h v w =
     (λ e. s ∙ ap text_of e ∙ sym t, λ e. text_same _ _ (calls.read_passes ts table k g) (calls.read_passes us table' l h) (sym s ∙ e ∙ t))
 
 -- They give the same table exactly when their lists are the same once sorted.
-pub one_table_exactly : (ts us table table' : List ℕ) (k l : ℕ) (P Q : Program) → InForm ts P → InForm us Q → read_answer ts (length table) ≡ Accepted k → read_answer us (length table') ≡ Accepted l
+pub one_table_exactly : (ts us table table' : List ℕ) (k l : ℕ) (P Q : Program) → InForm ts P → InForm us Q → read_answer ts (length table) ≡ Ok k → read_answer us (length table') ≡ Ok l
     → (take k (table_after ts table) ≡ take l (table_after us table')) ↔ (sorted_program P ≡ sorted_program Q)
 one_table_exactly ts us table table' k l P Q f g h i =
     let a = accepted_reads ts table k h in

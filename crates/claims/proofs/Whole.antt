@@ -25,22 +25,19 @@ use Rattle.table.specs.Effects.{marks_after, marks_after_all}
 use Rattle.table.proofs.Stands.{past, word_at}
 use Rattle.table.proofs.View.{view_after, view_after_all, length_after}
 use Rattle.table.proofs.Parts.{all_kept_one, view_all_kept, length_all_kept}
-use Rattle.step_conditions.specs.declared.Step as words
-use Rattle.step_conditions.specs.Known.{step_of}
-use Rattle.answers.specs.declared.Answer.{Answer}
-use Rattle.answers.specs.declared.Answer.TheVariants.{Accepted, Refused}
+use Rattle.answers.specs.Answers.{Answer}
+use Rattle.std.specs.Prelude.{Ok, Err}
 use Rattle.reducer_results.specs.Reductions.{steps_of, reduction}
 use Rattle.table.specs.StepWords.{words_of}
 use Rattle.reducer_results.proofs.Taken.{reducer_taken, steps_greedy, steps_accepted, steps_few, zeros_all_kept, length_words, length_after_all}
-use Rattle.step_questions.specs.declared.Verdict.{Verdict}
-use Rattle.step_questions.specs.declared.Verdict.TheVariants.{Fine, No}
+use Rattle.step_questions.specs.Verdicts.{Verdict}
 use Rattle.step_lists.specs.Lists.{leaving, steps_from, list_fits, check_list}
-use Rattle.table.specs.StepWords.{step_at}
+use Rattle.table.specs.StepWords.{kind_at, step_at}
 use Rattle.answers.specs.Answers.{ask}
-use Rattle.step_questions.specs.Questions.{shape_questions, condition_questions, step_questions}
+use Rattle.step_questions.specs.Questions.{kind_known, shape_questions, condition_questions, step_questions}
 use Rattle.step_questions.specs.Verdicts.{verdict_at}
-use Rattle.step_questions.proofs.Laws.{on_verdict, known_kind, fine_applies}
-use Rattle.step_lists.specs.Leaves.{words_at}
+use Rattle.step_questions.proofs.Laws.{on_verdict, kind_has_number, fine_applies}
+use Rattle.step_lists.specs.Leaves.{Words, words_at, step_named}
 use Rattle.step_lists.proofs.Walks.{verdict_on, steps_verdict, check_made}
 use Rattle.answers.proofs.Slices.{take_written}
 use Rattle.claims.proofs.Lists.{marks_past_table}
@@ -49,10 +46,10 @@ use Rattle.claims.proofs.Agree.{after_all_agree}
 
 -- ---- a step as four words
 
-abbrev words_step : Step → words.Step
+abbrev words_step : Step → Words
 words_step s = record { kind = number s.kind; target = s.target; partner = s.partner; atom = s.atom }
 
-step_words : (s : Step) → step_of (words_step s) ≡ s
+step_words : (s : Step) → step_named (words_step s) ≡ s
 step_words s = ap (λ k. step k s.target s.partner s.atom) (kind_of_number s.kind)
 
 step_at_lem : (ls r : List ℕ) (k : ℕ) (s : Step) (l : List Step) → drop (4 * k) ls ≡ words_of (s ∷ l) ++ r → words_at ls k ≡ words_step s
@@ -72,14 +69,14 @@ next_words ls r k s l e =
     ap (λ i. drop i ls) f ∙ past ls (number s.kind ∷ s.target ∷ s.partner ∷ s.atom ∷ []) (words_of l ++ r) (4 * k) e
 
 -- a step that applies gets a yes to every question
-pub applies_fine : (n : ℕ) (P : Marked) (w : words.Step) → 1 ≤ w.kind → w.kind ≤ 9 → So (applies n P (step_of w)) → verdict_at n P w ≡ Fine
+pub applies_fine : (n : ℕ) (P : Marked) (k : ℕ) (s : Step) → kind_known k ≡ true → So (applies n P s) → verdict_at n P k s ≡ Ok tt
 unfolding step_questions shape_questions condition_questions ask applies
-applies_fine n P w a b h =
+applies_fine n P k s e h =
     let v = simp and_iff at h in
-    rw (known_kind w.kind a b, v.0, v.1.0, v.1.1.0, condition_matches P (step_of w) v.1.1.1, condition_headed P (step_of w) v.1.1.1, v.1.1.1)
+    rw (e, v.0, v.1.0, v.1.1.0, condition_matches P s v.1.1.1, condition_headed P s v.1.1.1, v.1.1.1)
 
-step_fine : (n : ℕ) (P : Marked) (s : Step) → So (applies n P s) → verdict_at n P (words_step s) ≡ Fine
-step_fine n P s h = let b = number_bounds s.kind in applies_fine n P (words_step s) b.0 b.1 (subst (λ u. So (applies n P u)) (sym (step_words s)) h)
+step_fine : (n : ℕ) (P : Marked) (s : Step) → So (applies n P s) → verdict_at n P (number s.kind) s ≡ Ok tt
+step_fine n P s h = applies_fine n P (number s.kind) s (kind_has_number s.kind) h
 
 -- ---- the steps of a list, one after the other
 
@@ -90,11 +87,11 @@ unfolding on_verdict
 step_made ws ms ls k x s q h =
     let n = get_or ws 0 0 in
     steps_verdict ws ms ls k x
-    ∙ ap (on_verdict (λ x. leaving ms (refusal.Step x k)) (steps_from ws (marks_after ws ms (step_at ls k)) ls (k + 1) x)) (ap (verdict_at n (view ws ms)) q ∙ step_fine n (view ws ms) s h)
-    ∙ ap (λ u. steps_from ws (marks_after ws ms u) ls (k + 1) x) (ap step_of q ∙ step_words s)
+    ∙ ap (on_verdict (λ x. leaving ms (refusal.Step x k)) (steps_from ws (marks_after ws ms (step_at ls k)) ls (k + 1) x)) (ap (λ (w : Words). verdict_at n (view ws ms) w.kind (step_named w)) q ∙ ap (verdict_at n (view ws ms) (number s.kind)) (step_words s) ∙ step_fine n (view ws ms) s h)
+    ∙ ap (λ u. steps_from ws (marks_after ws ms u) ls (k + 1) x) (ap step_named q ∙ step_words s)
 
 -- a step that is refused
-step_refused : (ws ms ls : List ℕ) (k : ℕ) (q : StepQuestion) → verdict_on ws ms ls k ≡ No q → steps_from ws ms ls k 1 ≡ record { answer = Refused (refusal.Step q k); marks = ms }
+step_refused : (ws ms ls : List ℕ) (k : ℕ) (q : StepQuestion) → verdict_on ws ms ls k ≡ Err q → steps_from ws ms ls k 1 ≡ record { answer = Err (refusal.Step q k); marks = ms }
 unfolding on_verdict
 step_refused ws ms ls k q e = steps_verdict ws ms ls k 0 ∙ ap (on_verdict (λ x. leaving ms (refusal.Step x k)) (steps_from ws (marks_after ws ms (step_at ls k)) ls (k + 1) 0)) e
 
@@ -147,13 +144,13 @@ module _ (ws ms : List ℕ) (p : Passed ws) (l : length ws ≤ length ms) where
       ∙ ap (λ i. steps_from ws marks_left ls i x) z
 
   -- "Checked with marks that pass 9, it is accepted", with the number of its steps, and leaves the reducer's marks
-  pub list_accepted : check_list ws ms (words_of (steps_of ws)) ≡ record { answer = Accepted (length (steps_of ws)); marks = marks_left }
+  pub list_accepted : check_list ws ms (words_of (steps_of ws)) ≡ record { answer = Ok (length (steps_of ws)); marks = marks_left }
   unfolding steps_from
   list_accepted = ap (check_list ws ms) (sym (append-nil (words_of (steps_of ws)))) ∙ behind [] 0 refl (omega arith)
 
   -- "and with any four words behind it, it is refused at step s", and leaves the same marks
   pub further_refused : (a b c d : ℕ)
-      → (q : StepQuestion) × (check_list ws ms (words_of (steps_of ws) ++ a ∷ b ∷ c ∷ d ∷ []) ≡ record { answer = Refused (refusal.Step q (length (steps_of ws))); marks = marks_left })
+      → (q : StepQuestion) × (check_list ws ms (words_of (steps_of ws) ++ a ∷ b ∷ c ∷ d ∷ []) ≡ record { answer = Err (refusal.Step q (length (steps_of ws))); marks = marks_left })
   further_refused a b c d =
       let ls = words_of (steps_of ws) ++ a ∷ b ∷ c ∷ d ∷ [] in
       let k = length (steps_of ws) in
@@ -172,9 +169,9 @@ module _ (ws ms : List ℕ) (p : Passed ws) (l : length ws ≤ length ms) where
       ls : List ℕ
       ls = words_of (steps_of ws) ++ a ∷ b ∷ c ∷ d ∷ []
 
-      no : (v : Verdict) → verdict_on ws marks_left ls (length (steps_of ws)) ≡ v → (q : StepQuestion) × (verdict_on ws marks_left ls (length (steps_of ws)) ≡ No q)
-      no Fine e = absurd (none_open (step_at ls (length (steps_of ws))) (fine_applies (get_or ws 0 0) (view ws marks_left) (words_at ls (length (steps_of ws))) (sym e)))
-      no (No q) e = (q, e)
+      no : (v : Verdict) → verdict_on ws marks_left ls (length (steps_of ws)) ≡ v → (q : StepQuestion) × (verdict_on ws marks_left ls (length (steps_of ws)) ≡ Err q)
+      no (Ok u) e = absurd (none_open (step_at ls (length (steps_of ws))) (fine_applies (get_or ws 0 0) (view ws marks_left) (kind_at ls (length (steps_of ws))) (step_at ls (length (steps_of ws))) e))
+      no (Err q) e = (q, e)
 
 -- the marks of the table's words that the reducer's list leaves don't depend on the marks before
 left_agree : (ws ks ms : List ℕ) → Passed ws → length ws ≤ length ks → length ws ≤ length ms
@@ -199,17 +196,17 @@ zeros_left ws ms p l =
 -- ---- the reducer's call, and the checker's on its list
 
 -- the reducer's list: "the 4s words of a call that passes 9 and 17"
-pub list_words_lem : (ws ms ls : List ℕ) (s : ℕ) → (reduction ws ms ls).answer ≡ Accepted s → take (4 * s) (reduction ws ms ls).list ≡ words_of (steps_of ws)
+pub list_words_lem : (ws ms ls : List ℕ) (s : ℕ) → (reduction ws ms ls).answer ≡ Ok s → take (4 * s) (reduction ws ms ls).list ≡ words_of (steps_of ws)
 list_words_lem ws ms ls s h =
     let t = reducer_taken ws ms ls s h in
     rw t.list (take_written (words_of (steps_of ws)) ls (4 * s) (omega (arith, length_words (steps_of ws), t.count)))
 
-module _ (ws ms ls ks : List ℕ) (s : ℕ) (h : (reduction ws ms ls).answer ≡ Accepted s) (l : length ws ≤ length ks) where
+module _ (ws ms ls ks : List ℕ) (s : ℕ) (h : (reduction ws ms ls).answer ≡ Ok s) (l : length ws ≤ length ks) where
   -- The reducer's list is accepted with any marks that pass 9, with its number of steps,
-  pub reducer_accepted : (check_list ws ks (take (4 * s) (reduction ws ms ls).list)).answer ≡ Accepted s
+  pub reducer_accepted : (check_list ws ks (take (4 * s) (reduction ws ms ls).list)).answer ≡ Ok s
   reducer_accepted =
       let t = reducer_taken ws ms ls s h in
-      ap (λ x. (check_list ws ks x).answer) (list_words_lem ws ms ls s h) ∙ ap (λ o. o.answer) (list_accepted ws ks t.passed l) ∙ ap Accepted (sym t.count)
+      ap (λ x. (check_list ws ks x).answer) (list_words_lem ws ms ls s h) ∙ ap (λ o. o.answer) (list_accepted ws ks t.passed l) ∙ ap Ok (sym t.count)
 
   -- and leaves the marks of the table's words as the reducer did.
   pub same_marks : take (length ws) (check_list ws ks (take (4 * s) (reduction ws ms ls).list)).marks ≡ take (length ws) (reduction ws ms ls).marks
@@ -233,11 +230,11 @@ module _ (ws ms ls ks : List ℕ) (s : ℕ) (h : (reduction ws ms ls).answer ≡
   checked_at_most = let t = reducer_taken ws ms ls s h in omega (arith, t.count, checked_zeros, (zeros_left ws ks t.passed l).0)
 
   -- With any four words behind it, it is refused at step s.
-  pub reducer_further : (a b c d : ℕ) → (q : StepQuestion) × ((check_list ws ks (take (4 * s) (reduction ws ms ls).list ++ a ∷ b ∷ c ∷ d ∷ [])).answer ≡ Refused (refusal.Step q s))
+  pub reducer_further : (a b c d : ℕ) → (q : StepQuestion) × ((check_list ws ks (take (4 * s) (reduction ws ms ls).list ++ a ∷ b ∷ c ∷ d ∷ [])).answer ≡ Err (refusal.Step q s))
   reducer_further a b c d =
       let t = reducer_taken ws ms ls s h in
       let r = further_refused ws ks t.passed l a b c d in
-      (r.0, ap (λ x. (check_list ws ks (x ++ a ∷ b ∷ c ∷ d ∷ [])).answer) (list_words_lem ws ms ls s h) ∙ ap (λ o. o.answer) r.1 ∙ ap (λ k. Refused (refusal.Step r.0 k)) (sym t.count))
+      (r.0, ap (λ x. (check_list ws ks (x ++ a ∷ b ∷ c ∷ d ∷ [])).answer) (list_words_lem ws ms ls s h) ∙ ap (λ o. o.answer) r.1 ∙ ap (λ k. Err (refusal.Step r.0 k)) (sym t.count))
 
 -- ---- what lies past the table and past the list
 
@@ -246,13 +243,13 @@ pub reducer_marks_past : (ws ms ls : List ℕ) → drop (length ws) (reduction w
 reducer_marks_past ws ms ls = go (reduction ws ms ls).answer refl
   where
     go : (a : Answer) → (reduction ws ms ls).answer ≡ a → drop (length ws) (reduction ws ms ls).marks ≡ drop (length ws) ms
-    go (Refused r) e = ap (drop (length ws)) (reducer_refused ws ms ls r e).0
-    go (Accepted s) e =
+    go (Err r) e = ap (drop (length ws)) (reducer_refused ws ms ls r e).0
+    go (Ok s) e =
         let t = reducer_taken ws ms ls s e in
         ap (drop (length ws)) t.marks ∙ sym (ap (λ o. drop (length ws) o.marks) (list_accepted ws ms t.passed t.marked)) ∙ marks_past_table ws ms (words_of (steps_of ws))
 
 -- "the list's first 4s words are written, later words don't change"
-pub reducer_list_past : (ws ms ls : List ℕ) (s : ℕ) → (reduction ws ms ls).answer ≡ Accepted s → drop (4 * s) (reduction ws ms ls).list ≡ drop (4 * s) ls
+pub reducer_list_past : (ws ms ls : List ℕ) (s : ℕ) → (reduction ws ms ls).answer ≡ Ok s → drop (4 * s) (reduction ws ms ls).list ≡ drop (4 * s) ls
 reducer_list_past ws ms ls s h =
     let t = reducer_taken ws ms ls s h in
     let w = words_of (steps_of ws) in

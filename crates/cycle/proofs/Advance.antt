@@ -9,7 +9,8 @@ use Rattle.table.proofs.Encoding.{passed_limits}
 use Rattle.step_parts.specs.declared.Part.TheVariants.{Head}
 use Rattle.step_parts.specs.Parts.{Stands, owner_at, Latest}
 use Rattle.step_parts.proofs.Index.{stands_small}
-use Rattle.cycle.specs.declared.Move.{Move}
+use Rattle.std.specs.Prelude.{Option, Result}
+use Rattle.cycle.specs.declared.search.Cycle.{Cycle}
 use Rattle.cycle.specs.Search.{none, numbered, Search, Looked, met, over, on, Nearer, moved, Explored}
 use Rattle.cycle.proofs.Moves.{atoms, top_below, finish, stands, pass_clause, b_below, cycle_found, left_some, pass_atom, follow}
 
@@ -63,7 +64,7 @@ module _ {ws index cur state left parent : List ℕ} {t : ℕ} (s : Search ws in
           pub left_at : 0 < get_or left c 0
           left_at = rw c_here (left_some s x n' low b is_b)
 
-          pub look_at : {state' left' parent' : List ℕ} {r : Move} → Looked state left parent state' left' parent' t c b r → moved ws index cur state left parent cur state' left' parent' r
+          pub look_at : {state' left' parent' : List ℕ} {r : Result (Option ℕ) Cycle} → Looked state left parent state' left' parent' t c b r → moved ws index cur state left parent cur state' left' parent' r
           look_at (met q) = cycle_found s x n' low b is_b q
           look_at (over q e f g) = rw (e, f, g, c_here) (pass_atom s x n' low b is_b q)
           look_at (on u v e f g) = rw (e, f, g) (follow s x n' low b is_b u v)

@@ -2,13 +2,15 @@
 use Prim.Native.Nat.{ℕ, ◌+◌, ◌-◌, ◌≤◌, ◌<◌}
 use mathlib.Core.Path.{◌≡◌, refl, sym, ap, subst, ◌∙◌}
 use mathlib.Core.Logic.{◌≢◌, inl}
-use mathlib.Core.Bool.{Bool, true, false}
+use mathlib.Core.Bool.{false}
 use mathlib.Core.List.Memᴰ
 use mathlib.Core.List.{List, []}
 use native.Mathlib.Omega.{arith}
 use lib.ListN.{length, get_or, set, take}
 use lib.Seq.{get_or-set_same}
 use borrow.Author.Count.{below_more}
+use Rattle.std.specs.Prelude.{Result, Ok, Err}
+use Rattle.cycle.specs.declared.search.Cycle.{Cycle}
 use Rattle.semantics.specs.Lists.{◌∈◌}
 use Rattle.semantics.proofs.Tests.{so_false}
 use Rattle.table.specs.Questions.{Passed}
@@ -77,10 +79,10 @@ module _ {ws index cur state left parent : List ℕ} where
       pub visit_search : Search ws index cur (set state i 1) left (set parent i none) a
       visit_search = subst (Search ws index cur (set state i 1) left (set parent i none)) e visit_begin.explored.search
 
-      pub visit_end : (cur' state' left' parent' : List ℕ) (r : Bool) → explored ws index cur (set state i 1) left (set parent i none) cur' state' left' parent' r
+      pub visit_end : (cur' state' left' parent' : List ℕ) (r : Result (Unit {0}) Cycle) → explored ws index cur (set state i 1) left (set parent i none) cur' state' left' parent' r
           → visited ws index cur state left parent cur' state' left' parent' a r
-      visit_end cur' state' left' parent' true x = x
-      visit_end cur' state' left' parent' false x =
+      visit_end cur' state' left' parent' (Err e) x = x
+      visit_end cur' state' left' parent' (Ok u) x =
           let h : i < length state = omega (arith, atom_fits, s.states) in
           let d : get_or state' i 0 ≢ 1 = idle x.search i (omega arith) in
           let z : get_or state' i 0 ≡ 0 = omega (arith, x.falls i, get_or-set_same state i 1 0 h) in

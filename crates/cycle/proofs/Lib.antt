@@ -5,3 +5,4 @@ pub mod Moves
 pub mod Advance
 pub mod Ended
 pub mod Answered
+pub mod Trails

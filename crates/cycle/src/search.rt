@@ -1,145 +1,137 @@
-// The search for a cycle: one chain is followed as far as it goes, then back. An atom's state is 2 where it was not met, 1 where it is
-// on the chain that is followed, 0 where every chain from it ends. Each head word and each word of a positive body is passed once.
-ghost use Rattle.std.specs.Prelude.{◌≤◌, ◌<◌, ◌≡◌, ◌≢◌, length, get_or};
+// The search for a cycle: one chain is followed as far as it goes, then back. Each head word and each word of a positive body is passed once.
+// `as u16`: a place is below 8,192, which is proved; `try_from` would have an error that cannot come.
+ghost use Rattle.std.specs.Prelude.{◌≡◌, ◌<◌, get_or, is_err};
 ghost use Rattle.table.specs.Programs.{program_of};
 ghost use Rattle.table.specs.Questions.{Passed};
-ghost use Rattle.step_parts.specs.Parts.{Placed};
 ghost use Rattle.dependency.specs.Decide.{cyclic};
-ghost use Rattle.cycle.specs.Search.{none, Search, Looked, moved, explored, visited, AtLast, SearchReady};
 
-use super::Move;
-use step_parts::Part;
+use step_parts::{INDEX, Indexed, Part};
 
-// No atom: the chain that is followed is empty.
-pub const NONE: u16 = 65535;
-
-// At the atom t, whose clause c has the atom b next in its positive body.
-fn look(t: u16, c: usize, b: u16, state: &mut [u16], left: &mut [u16], parent: &mut [u16]) -> Move
-    requires { (b < length state.old) × ((b < length parent.old) × ((c < length left.old) × (0 < get_or left.old c 0))) }
-    ensures { Looked state.old left.old parent.old state.new left.new parent.new t c b result }
-{
-    let i = table::wide(b);
-    let s = state[i];
-    if s == 1 {
-        return Move::Cycle;
-    }
-    if s == 0 {
-        let k = left[c];
-        left[c] = k - 1;
-        return Move::At(t);
-    }
-    state[i] = 1;
-    parent[i] = t;
-    Move::At(b)
+// Where an atom is in the search.
+#[derive(Clone, Copy)]
+pub enum State {
+    // It was not met.
+    Unmet,
+    // It is on the chain that is followed.
+    OnChain,
+    // Every chain from it ends.
+    Ended,
 }
 
-// One move from the atom t, the last of the chain that is followed.
-fn advance(
-    words: &[u16],
-    index: &[u16],
-    t: u16,
-    cur: &mut [u16],
-    state: &mut [u16],
-    left: &mut [u16],
-    parent: &mut [u16],
-) -> Move
-    requires { (Search words.now index.now cur.old state.old left.old parent.old t) × (t ≢ none) }
-    ensures { moved words.now index.now cur.old state.old left.old parent.old cur.new state.new left.new parent.new result }
-{
-    let a = table::wide(t);
-    let w = table::wide(cur[a]);
-    if w == 0 {
-        state[a] = 0;
-        return Move::At(parent[a]);
-    }
-    let c = step_parts::owner(words, index, w);
-    let i = 8192 - table::wide(left[c]);
-    let pos = table_clauses::pos_of(words, step_parts::first_word(words, index, c));
-    if pos.len() <= i {
-        cur[a] = step_parts::place_before(words, index, w) as u16;
-        return Move::At(t);
-    }
-    look(t, c, pos[i], state, left, parent)
+// Some atom leads back to itself.
+#[derive(Clone, Copy)]
+pub struct Cycle;
+
+// How far the search has come: for each atom the place in a head at which it is, its state, and the atom before it on the chain that is followed; for
+// each clause, 8,192 less the atoms of its positive body that end.
+#[derive(Drop)]
+pub struct Trail {
+    places: [u16; 1024],
+    states: [State; 1024],
+    parents: [Option<u16>; 1024],
+    left: [u16; 2048],
 }
 
-// All moves from the atom t on, until the chain is empty or a cycle is found.
-fn explore(
-    words: &[u16],
-    index: &[u16],
-    root: u16,
-    cur: &mut [u16],
-    state: &mut [u16],
-    left: &mut [u16],
-    parent: &mut [u16],
-) -> bool
-    requires { Search words.now index.now cur.old state.old left.old parent.old root }
-    ensures { explored words.now index.now cur.old state.old left.old parent.old cur.new state.new left.new parent.new result }
-{
-    let mut t = root;
-    while t != NONE {
-        match advance(words, index, t, cur, state, left, parent) {
-            Move::At(u) => {
-                t = u;
+impl Trail {
+    ghost use Rattle.cycle.specs.Search.{none, At, Start, MovedTo, ExploredTo, VisitedTo, LookedAt};
+    ghost use Rattle.step_parts.specs.Reading.{atom_count};
+
+    // Nothing is searched: each atom is at its last place in a head.
+    fn new(table: &Indexed) -> Trail
+        ensures { Start table.now result }
+    {
+        let mut places = [0u16; 1024];
+        // By the atom's number: the places past the table's atoms stay 0.
+        for atom in 0..table.words[0] {
+            places[usize::from(atom)] = table.last_place(Part::Head, atom) as u16;
+        }
+        Trail {
+            places,
+            states: [State::Unmet; 1024],
+            parents: [None; 1024],
+            left: [8192; 2048],
+        }
+    }
+
+    // At the last atom of the chain, whose clause has the atom `next` in its positive body.
+    fn look(&mut self, last: u16, clause: usize, next: u16) -> Result<Option<u16>, Cycle>
+        requires next { next < 1024 }
+        requires clause { clause < 2048 }
+        requires left { 0 < get_or self.old.left clause 0 }
+        ensures { LookedAt self.old self.new last clause next result }
+    {
+        let i = usize::from(next);
+        match self.states[i] {
+            State::OnChain => Err(Cycle),
+            State::Ended => {
+                self.left[clause] -= 1;
+                Ok(Some(last))
             }
-            Move::Cycle => {
-                return true;
+            State::Unmet => {
+                self.states[i] = State::OnChain;
+                self.parents[i] = Some(last);
+                Ok(Some(next))
             }
         }
     }
-    false
-}
 
-// The search from the atom a, if it does not end already.
-fn visit(
-    words: &[u16],
-    index: &[u16],
-    a: u16,
-    cur: &mut [u16],
-    state: &mut [u16],
-    left: &mut [u16],
-    parent: &mut [u16],
-) -> bool
-    requires { (Search words.now index.now cur.old state.old left.old parent.old none) × (a < get_or words.now 0 0) }
-    ensures { visited words.now index.now cur.old state.old left.old parent.old cur.new state.new left.new parent.new a result }
-{
-    let i = table::wide(a);
-    if state[i] == 0 {
-        return false;
-    }
-    state[i] = 1;
-    parent[i] = NONE;
-    explore(words, index, a, cur, state, left, parent)
-}
-
-// The search from every atom.
-fn sweep(
-    words: &[u16],
-    index: &[u16],
-    cur: &mut [u16],
-    state: &mut [u16],
-    left: &mut [u16],
-    parent: &mut [u16],
-) -> bool
-    requires { SearchReady words.now index.now cur.old state.old left.old parent.old }
-    ensures { result ≡ cyclic (program_of words.now).clauses }
-{
-    let atoms = words[0];
-    for a in 0..atoms {
-        if visit(words, index, a, cur, state, left, parent) {
-            return true;
+    // One move from the last atom of the chain that is followed; the last atom then, if there is one.
+    fn advance(&mut self, table: &Indexed, last: u16) -> Result<Option<u16>, Cycle>
+        requires { At table.now self.old last }
+        ensures { MovedTo table.now self.old self.new result }
+    {
+        let a = usize::from(last);
+        let place = usize::from(self.places[a]);
+        if place == 0 {
+            self.states[a] = State::Ended;
+            return Ok(self.parents[a]);
         }
+        let clause = table.owner(place);
+        let passed = 8192 - usize::from(self.left[clause]);
+        let pos = table_clauses::pos_of(table.words, table.first_word(clause));
+        if pos.len() <= passed {
+            self.places[a] = table.place_before(place) as u16;
+            return Ok(Some(last));
+        }
+        self.look(last, clause, pos[passed])
     }
-    false
-}
 
-// Each atom is at its last place in a head.
-fn begin(words: &[u16], index: &[u16], cur: &mut [u16])
-    requires { (Placed words.now index.now) × (1024 ≤ length cur.old) }
-    ensures { AtLast words.now index.now cur.new (get_or words.now 0 0) }
-{
-    let atoms = words[0];
-    for a in 0..atoms {
-        cur[table::wide(a)] = step_parts::last_place(words, index, Part::Head, a) as u16;
+    // All moves from the atom on, until the chain is empty or a cycle is found.
+    fn explore(&mut self, table: &Indexed, root: u16) -> Result<(), Cycle>
+        requires { At table.now self.old root }
+        ensures { ExploredTo table.now self.old self.new result }
+    {
+        let mut last = Some(root);
+        while let Some(atom) = last {
+            last = self.advance(table, atom)?;
+        }
+        Ok(())
+    }
+
+    // The search from the atom, if it does not end already.
+    fn visit(&mut self, table: &Indexed, atom: u16) -> Result<(), Cycle>
+        requires idle { At table.now self.old none }
+        requires below { atom < atom_count table.now }
+        ensures { VisitedTo table.now self.old self.new atom result }
+    {
+        let i = usize::from(atom);
+        if let State::Ended = self.states[i] {
+            return Ok(());
+        }
+        self.states[i] = State::OnChain;
+        self.parents[i] = None;
+        self.explore(table, atom)
+    }
+
+    // The search from every atom.
+    fn sweep(&mut self, table: &Indexed) -> Result<(), Cycle>
+        requires { Start table.now self.old }
+        ensures { is_err result ≡ cyclic (program_of table.now.words.now).clauses }
+    {
+        for atom in 0..table.words[0] {
+            self.visit(table, atom)?;
+        }
+        Ok(())
     }
 }
 
@@ -148,12 +140,7 @@ pub fn find_cycle(words: &[u16]) -> bool
     requires { Passed words.now }
     ensures { result ≡ cyclic (program_of words.now).clauses }
 {
-    let mut index = [0u16; step_parts::INDEX];
-    step_parts::build_index(words, &mut index);
-    let mut cur = [0u16; 1024];
-    begin(words, &index, &mut cur);
-    let mut state = [2u16; 1024];
-    let mut left = [8192u16; 2048];
-    let mut parent = [0u16; 1024];
-    sweep(words, &index, &mut cur, &mut state, &mut left, &mut parent)
+    let mut index = [0u16; INDEX];
+    let table = Indexed::new(words, &mut index);
+    Trail::new(&table).sweep(&table).is_err()
 }

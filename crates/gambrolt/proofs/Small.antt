@@ -12,7 +12,7 @@ use Rattle.semantics.proofs.Tests.{and_iff, bit_bound}
 use Rattle.answers.specs.declared.CallQuestion.TheVariants.{MarksLength, ListLength, ListRoom, TableRoom, TextRoom, FewAtoms, ModelsRoom}
 use Rattle.answers.specs.declared.EntryQuestion.TheVariants.{EntryBelow, EntryAscending}
 use Rattle.answers.specs.declared.Refusal.TheVariants.{Call, Entry, Step}
-use Rattle.answers.specs.declared.Answer.TheVariants.{Accepted, Refused}
+use Rattle.std.specs.Prelude.{Ok, Err}
 use Rattle.answers.specs.Refusals.{refusal_place}
 use Rattle.answers.specs.Answers.{ask, Small}
 use Rattle.answers.proofs.Asked.{ask_part, small_ask}
@@ -56,7 +56,7 @@ pub models_small : (ws : List ℕ) (room : ℕ) → Small (models_answer ws room
 unfolding models_answer program_of
 models_small ws room = small_table ws _ (λ p.
     small_ask (leb (get_or ws 0 0) 16) (Call FewAtoms) _ (omega arith) (λ t.
-    small_ask (leb (length (model_words ws)) room) (Call ModelsRoom) (Accepted (length (model_words ws))) (omega arith) (λ _. omega (arith, few_models (program_of ws) (leb-true (get_or ws 0 0) 16 t)))))
+    small_ask (leb (length (model_words ws)) room) (Call ModelsRoom) (Ok (length (model_words ws))) (omega arith) (λ _. omega (arith, few_models (program_of ws) (leb-true (get_or ws 0 0) 16 t)))))
 
 pub cycle_small : (ws : List ℕ) → Small (cycle_of ws)
 unfolding cycle_of
@@ -76,7 +76,7 @@ reduced_small ws ms out = small_table ws _ (λ p.
     let k : length (reduced ws ms) ≤ 8192 = (left_within ws ms p).few_words in
     small_ask (leb (length ws) (length ms)) (Call MarksLength) _ (omega arith) (λ _.
     small_walk 8192 (omega arith) (marks_from (allowed ws ms) 0 (length ws)) _ (marks_near (allowed ws ms) 0 (length ws) 8192 (omega arith)) (λ e.
-    small_ask (leb (length (reduced ws ms)) (length out)) (Call TableRoom) (Accepted (length (reduced ws ms))) (omega arith) (λ _. omega arith))))
+    small_ask (leb (length (reduced ws ms)) (length out)) (Call TableRoom) (Ok (length (reduced ws ms))) (omega arith) (λ _. omega arith))))
 
 -- ---- lists of steps
 
@@ -88,12 +88,12 @@ steps_small ws ls ms k (suc left) h =
     (steps_small ws ls (marks_after ws ms (step_at ls k)) (k + 1) left (omega arith))
 
 check_answer : (ws ms ls : List ℕ) → (check_list ws ms ls).answer
-    ≡ on_table Refused (table_of ws) (ask Refused (leb (length ws) (length ms)) (Call MarksLength) (ask Refused (list_fits ls) (Call ListLength) (steps_from ws (all_kept ws ms) ls 0 (length ls / 4)).answer))
+    ≡ on_table Err (table_of ws) (ask Err (leb (length ws) (length ms)) (Call MarksLength) (ask Err (list_fits ls) (Call ListLength) (steps_from ws (all_kept ws ms) ls 0 (length ls / 4)).answer))
 unfolding check_list
 check_answer ws ms ls =
     table_part (λ x. x.answer) (leaving ms) (table_of ws) _
-    ∙ ap (on_table Refused (table_of ws)) (ask_part (λ x. x.answer) (leaving ms) (leb (length ws) (length ms)) (Call MarksLength) _
-    ∙ ap (ask Refused (leb (length ws) (length ms)) (Call MarksLength)) (ask_part (λ x. x.answer) (leaving ms) (list_fits ls) (Call ListLength) _))
+    ∙ ap (on_table Err (table_of ws)) (ask_part (λ x. x.answer) (leaving ms) (leb (length ws) (length ms)) (Call MarksLength) _
+    ∙ ap (ask Err (leb (length ws) (length ms)) (Call MarksLength)) (ask_part (λ x. x.answer) (leaving ms) (list_fits ls) (Call ListLength) _))
 
 pub check_small : (ws ms ls : List ℕ) → Small (check_list ws ms ls).answer
 check_small ws ms ls = subst Small (sym (check_answer ws ms ls)) (small_table ws _ (λ p.
@@ -105,10 +105,10 @@ check_small ws ms ls = subst Small (sym (check_answer ws ms ls)) (small_table ws
 pub reduce_small : (ws ms ls : List ℕ) → Small (reduction ws ms ls).answer
 reduce_small ws ms ls = subst Small (sym (reduction_answer ws ms ls)) (small_table ws _ (λ p.
     small_ask (leb (length ws) (length ms)) (Call MarksLength) _ (omega arith) (λ _.
-    small_ask (leb (4 * room ws) (length ls)) (Call ListRoom) (Accepted (length (steps_of ws))) (omega arith) (λ _. omega (arith, room_few ws p, steps_room ws p)))))
+    small_ask (leb (4 * room ws) (length ls)) (Call ListRoom) (Ok (length (steps_of ws))) (omega arith) (λ _. omega (arith, room_few ws p, steps_room ws p)))))
 
 -- ---- writing a text
 
 pub write_small : (ws : List ℕ) (room : ℕ) → Small (write_answer ws room)
 unfolding write_answer
-write_small ws room = small_table ws _ (λ p. small_ask (leb (length (text_of ws)) room) (Call TextRoom) (Accepted (length (text_of ws))) (omega arith) (λ _. omega (arith, text_short ws p)))
+write_small ws room = small_table ws _ (λ p. small_ask (leb (length (text_of ws)) room) (Call TextRoom) (Ok (length (text_of ws))) (omega arith) (λ _. omega (arith, text_short ws p)))

@@ -1,8 +1,7 @@
 // The library's calls: numbers and slices in, one number out. The crate `gambrolt_c` exports each to C.
 #![tactic(auto)]
 
-ghost use Rattle.std.specs.Prelude.{◌≡◌, length};
-ghost use Rattle.answers.specs.declared.Answer.TheVariants.{Accepted, Refused};
+ghost use Rattle.std.specs.Prelude.{◌≡◌, Ok, Err, length};
 ghost use Rattle.answers.specs.Answers.{answer_code};
 ghost use Rattle.table.specs.Questions.{table_of, on_table};
 ghost use Rattle.step_lists.specs.Lists.{check_list};
@@ -14,14 +13,12 @@ ghost use Rattle.models_list.specs.Answer.{models_answer, models_out};
 ghost use Rattle.text_form.specs.Reader.{read_answer, table_after};
 ghost use Rattle.text_form.specs.Writer.{write_answer, out_after};
 
-use table::Checked;
-
 // Questions 1 to 8.
 pub fn gambrolt_check_table(words: &[u16]) -> u64
-    ensures { result ≡ answer_code (on_table Refused (table_of words.now) (Accepted 0)) }
+    ensures { result ≡ answer_code (on_table Err (table_of words.now) (Ok 0)) }
 {
     let checked = table_questions::check_table(words);
-    let Checked::Refused(r) = checked else {
+    let Err(r) = checked else {
         return 0;
     };
     answers::refusal_code(r)

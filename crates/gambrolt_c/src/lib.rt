@@ -1,8 +1,7 @@
 // The library for C: each call of the crate `gambrolt` under its own name and with its clauses, which include/gambrolt.h declares.
 #![tactic(auto)]
 
-ghost use Rattle.std.specs.Prelude.{◌≡◌, length};
-ghost use Rattle.answers.specs.declared.Answer.TheVariants.{Accepted, Refused};
+ghost use Rattle.std.specs.Prelude.{◌≡◌, Ok, Err, length};
 ghost use Rattle.answers.specs.Answers.{answer_code};
 ghost use Rattle.table.specs.Questions.{table_of, on_table};
 ghost use Rattle.step_lists.specs.Lists.{check_list};
@@ -17,7 +16,7 @@ ghost use Rattle.text_form.specs.Writer.{write_answer, out_after};
 // Questions 1 to 8.
 #[unsafe(no_mangle)]
 pub extern "C" fn gambrolt_check_table(words: &[u16]) -> u64
-    ensures { result ≡ answer_code (on_table Refused (table_of words.now) (Accepted 0)) }
+    ensures { result ≡ answer_code (on_table Err (table_of words.now) (Ok 0)) }
 {
     gambrolt::gambrolt_check_table(words)
 }

@@ -1,60 +1,43 @@
--- The masks of a table's clauses, one clause more at a time: they ask what the clauses so far ask.
-use Prim.Native.Nat.{ℕ, ◌+◌, ◌≤◌, ◌<◌}
-use mathlib.Core.Path.{◌≡◌, ap₂, ◌∙◌}
-use mathlib.Core.List.{List}
-use mathlib.Core.Bool.{◌&&◌}
+-- The masks of a table's clauses, one clause more at a time.
+use Prim.Native.Nat.{ℕ, ◌+◌, ◌-◌, ◌≤◌, ◌<◌}
+use mathlib.Core.Path.{◌≡◌, sym, ap, ◌∙◌}
+use mathlib.Core.List.{List, [], ◌∷◌, ◌++◌, map, append-nil}
 use native.Mathlib.Omega.{arith}
-use native.Mathlib.Numerals.{add-one}
-use lib.ListN.{get_or, set, length-set}
-use lib.Seq.{get_or-set_same, get_or-set_other}
+use lib.ListN.{length, get_or, take, set, length-set}
+use Rattle.std.proofs.Common.{append_assoc}
+use Rattle.std.proofs.lemmas.List.{take_more_set}
 use Rattle.table.specs.Questions.{Passed}
 use Rattle.table.specs.Places.{next_at}
-use Rattle.table.specs.Programs.{clause_of, program_of}
+use Rattle.table.specs.Programs.{clause_of, clauses_of, program_of}
 use Rattle.table.proofs.Encoding.{passed_limits}
-use Rattle.table.proofs.Walks.{Along, along_start, along_next, AskedTo, asked_start, asked_next, asked_end}
-use Rattle.models_masks.specs.Masks.{all_below}
-use Rattle.models_masks.proofs.Search.{all_below_ext}
-use Rattle.models_list.specs.Masks.{part_mask, reduct_holds, reduct_modelled, clause_asks, MasksFit, Masked}
-
--- with one clause more
-module _ (hs ps ns : List ℕ) (k h p q : ℕ) (f : MasksFit hs ps ns (k + 1)) where
-  reduct_more : (m x : ℕ) → reduct_modelled (set hs k h) (set ps k p) (set ns k q) (k + 1) m x ≡ (reduct_holds h p q m x && reduct_modelled hs ps ns k m x)
-  unfolding reduct_modelled all_below
-  reduct_more m x =
-      let same : reduct_holds (get_or (set hs k h) k 0) (get_or (set ps k p) k 0) (get_or (set ns k q) k 0) m x ≡ reduct_holds h p q m x =
-      rw (get_or-set_same hs k h 0 (omega (arith, f.head)), get_or-set_same ps k p 0 (omega (arith, f.pos)), get_or-set_same ns k q 0 (omega (arith, f.neg))) in
-      let other : (i : ℕ) → i < k → reduct_holds (get_or (set hs k h) i 0) (get_or (set ps k p) i 0) (get_or (set ns k q) i 0) m x ≡ reduct_holds (get_or hs i 0) (get_or ps i 0) (get_or ns i 0) m x =
-      λ i l. let d : ¬ (i ≡ k) = λ e. omega arith in rw (get_or-set_other hs k i h 0 d, get_or-set_other ps k i p 0 d, get_or-set_other ns k i q 0 d) in
-      rw (add-one k) (ap₂ (λ a b. a && b) same (all_below_ext _ _ k other))
+use Rattle.table.proofs.Walks.{Along, along_start, along_next, clauses_all, clauses_more, clauses_none}
+use Rattle.models_list.specs.declared.masks.Masks.{Masks}
+use Rattle.models_list.specs.Masks.{masks_of}
 
 -- k clauses have their masks, and the next is at `at`
-pub record Filling (ws hs ps ns : List ℕ) (k at : ℕ) : Type 0 where
+pub record Filling (ws : List ℕ) (cs : List Masks) (k at : ℕ) : Type 0 where
   pub along : Along ws k at
-  pub fit : MasksFit hs ps ns 2048
-  pub asks : (m x : ℕ) → AskedTo (λ c. clause_asks m x c) ws k at (reduct_modelled hs ps ns k m x)
+  pub room : 2048 ≤ length cs
+  pub masked : take k cs ++ map masks_of (clauses_of ws (get_or ws 1 0 - k) at) ≡ map masks_of (program_of ws).clauses
 
-module _ (ws hs ps ns : List ℕ) where
-  pub filling_start : MasksFit hs ps ns 2048 → Filling ws hs ps ns 0 2
-  unfolding reduct_modelled all_below
-  filling_start f = record { along = along_start ws; fit = f; asks = λ m x. asked_start (λ c. clause_asks m x c) ws }
+module _ (ws : List ℕ) (cs : List Masks) where
+  pub filling_start : 2048 ≤ length cs → Filling ws cs 0 2
+  filling_start l = record { along = along_start ws; room = l; masked = ap (map masks_of) (clauses_all ws) }
 
-  module _ (k at : ℕ) (pass : Passed ws) (g : Filling ws hs ps ns k at) where
-    pub filling_next : k < get_or ws 1 0 → (h p q : ℕ) → h ≡ part_mask (clause_of ws at).head → p ≡ part_mask (clause_of ws at).pos → q ≡ part_mask (clause_of ws at).neg
-        → Filling ws (set hs k h) (set ps k p) (set ns k q) (k + 1) (next_at ws at)
-    filling_next l h p q a b c =
+  module _ (k at : ℕ) (pass : Passed ws) (g : Filling ws cs k at) where
+    pub filling_next : k < get_or ws 1 0 → (c : Masks) → c ≡ masks_of (clause_of ws at) → Filling ws (set cs k c) (k + 1) (next_at ws at)
+    filling_next l c e =
         let few = (passed_limits ws pass).few_clauses in
-        let f : MasksFit hs ps ns (k + 1) = record { head = omega (arith, g.fit.head); pos = omega (arith, g.fit.pos); neg = omega (arith, g.fit.neg) } in
+        let here : k < length cs = omega (arith, g.room) in
+        let later = map masks_of (clauses_of ws (get_or ws 1 0 - (k + 1)) (next_at ws at)) in
+        let same : c ∷ later ≡ map masks_of (clauses_of ws (get_or ws 1 0 - k) at) = ap (λ x. x ∷ later) e ∙ ap (map masks_of) (sym (clauses_more ws k (get_or ws 1 0) at l)) in
         record {
           along = along_next ws k at l g.along;
-          fit = record { head = rw (length-set hs k h) g.fit.head; pos = rw (length-set ps k p) g.fit.pos; neg = rw (length-set ns k q) g.fit.neg };
-          asks = λ m x. asked_next (λ c. clause_asks m x c) ws k at (reduct_modelled hs ps ns k m x) (g.asks m x) l _ (reduct_more hs ps ns k h p q f m x ∙ rw (a, b, c));
+          room = rw (length-set cs k c) g.room;
+          masked = ap (λ x. x ++ later) (take_more_set cs k c here) ∙ append_assoc (take k cs) (c ∷ []) later ∙ ap (λ x. take k cs ++ x) same ∙ g.masked;
         }
 
-    pub filling_end : (n : ℕ) → n ≡ get_or ws 1 0 → n ≤ k → Masked (program_of ws).clauses hs ps ns n
+    pub filling_end : (n : ℕ) → n ≡ get_or ws 1 0 → n ≤ k → take n cs ≡ map masks_of (program_of ws).clauses
     filling_end n e l =
-        let few = (passed_limits ws pass).few_clauses in
-        let i : k ≡ n = omega (arith, g.along.most) in
-        record {
-          fit = record { head = omega (arith, g.fit.head); pos = omega (arith, g.fit.pos); neg = omega (arith, g.fit.neg) };
-          asks = λ m x. rw (← i) (asked_end (λ c. clause_asks m x c) ws k at (reduct_modelled hs ps ns k m x) (g.asks m x) (omega arith));
-        }
+        let i : n ≡ k = omega (arith, g.along.most) in
+        ap (λ n. take n cs) i ∙ sym (append-nil (take k cs)) ∙ ap (λ x. take k cs ++ map masks_of x) (sym (clauses_none ws k (get_or ws 1 0) at (omega arith))) ∙ g.masked

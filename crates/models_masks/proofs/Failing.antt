@@ -1,19 +1,26 @@
 -- Clauses that a set fails: asked by one test, found by the first, and kept apart.
-use Prim.Native.Nat.{ℕ, ◌+◌, ◌-◌, ◌≤◌, ◌<◌}
-use mathlib.Core.Path.{◌≡◌, refl, sym, ap, ap₂, ◌∙◌}
-use mathlib.Core.List.{List}
-use mathlib.Core.Bool.{Bool, true, false, not, ◌&&◌, ◌||◌, So}
+use Prim.Native.Nat.{ℕ, ◌-◌, ◌≤◌, ◌<◌}
+use mathlib.Core.Path.{◌≡◌, refl, sym, ap, ap₂, subst, ◌∙◌}
+use mathlib.Core.List.Memᴰ
+use mathlib.Core.List.{List, [], ◌∷◌, ◌++◌}
+use mathlib.Core.Bool.{Bool, true, false, not, cond, ◌&&◌, ◌||◌, So}
+use Rattle.std.proofs.Common.{Option, None, Some, Bor}
+use Rattle.std.specs.Option.{MatchOption, option_map}
+use Rattle.std.specs.List.{find, list_all}
 use native.Mathlib.Omega.{arith}
-use lib.Arith.{lt_of_le-ne}
-use lib.Bits.{bit_and, bit_or, and_le_l, and_le_r, or_add_and, or_zero_l}
+use native.Mathlib.Nat.{le_refl}
+use lib.Bits.{bit_and, bit_or, and_le_l, and_le_r, and_self, or_add_and, or_zero_l}
 use lib.Dec.{eqb}
-use lib.ListN.{length, get_or, set, length-set}
-use borrow.Author.Tests.{eqb-true, eqb-false, eq-eqb}
-use Rattle.semantics.proofs.Tests.{and_iff, so_ext, so_false, not_so}
-use Rattle.models_masks.specs.Masks.{all_below, inside, holds, modelled}
-use Rattle.models_masks.specs.Failed.{FirstFailed, KeptFailed}
-use Rattle.models_masks.proofs.Search.{all_below_iff, all_below_end, all_below_lost}
-use Rattle.models_masks.proofs.Models.{modelled_more}
+use borrow.Author.Tests.{eqb-true, eq-eqb}
+use Rattle.semantics.specs.Lists.{◌∈◌}
+use Rattle.semantics.proofs.Tests.{and_iff, all_iff, so_ext, so_false, not_so}
+use Rattle.models_masks.specs.declared.Rule.{Rule}
+use Rattle.models_masks.specs.Masks.{inside, holds, modelled, minimal}
+use Rattle.models_masks.specs.Failed.{Fails}
+use Rattle.models_masks.proofs.Lists.{all_list}
+use Rattle.models_masks.proofs.Bits.{and_again}
+use Rattle.models_masks.proofs.Models.{modelled_behind}
+use Rattle.models_masks.proofs.Subsets.{FailFrom, fail_start, fail_next, found, none_found}
 
 -- ---- one test
 
@@ -40,44 +47,78 @@ holds_word body head x = ap not (or_zero (body - bit_and body x) (bit_and head x
 
 -- ---- the first clause that fails
 
-module _ (bs hs : List ℕ) (n x r : ℕ) (f : FirstFailed bs hs n x r) where
-  pub failed_none : r ≡ n → modelled bs hs n x ≡ true
-  unfolding modelled
-  failed_none e = all_below_end _ n r (omega arith) f.before
+find_says : {A : Type 0} (p : A → Bool) (l : List A) → MatchOption (find (λ y. not (p y)) l) (list_all p l ≡ true) (λ y. (y ∈ l) × (p y ≡ false))
+find_says p [] = refl
+find_says {A} p (x ∷ l) = go (p x) (find (λ y. not (p y)) l) refl (find_says p l)
+  where
+    go : (t : Bool) (o : Option A) → p x ≡ t → MatchOption o (list_all p l ≡ true) (λ y. (y ∈ l) × (p y ≡ false)) → MatchOption (cond (not t) (Some x) o) ((t && list_all p l) ≡ true) (λ y. (y ∈ x ∷ l) × (p y ≡ false))
+    go true None e h = h
+    go true (Some y) e h = (Memᴰ.tail h.0, h.1)
+    go false o e h = (Memᴰ.head refl, e)
 
-  pub failed_some : ¬ (r ≡ n) → modelled bs hs n x ≡ false
-  unfolding modelled
-  failed_some d = let l = lt_of_le-ne f.most d in all_below_lost _ n r l (f.fails l)
+abbrev holds_at : ℕ → Rule → Bool
+holds_at x q = holds q.body q.head x
 
-  -- none fails exactly where the set satisfies all
-  pub failed_all : eqb r n ≡ modelled bs hs n x
-  failed_all = go (eqb r n) refl
-    where
-      go : (t : Bool) → eqb r n ≡ t → t ≡ modelled bs hs n x
-      go true e = sym (failed_none (eqb-true r n e))
-      go false e = sym (failed_some (eqb-false r n e))
+pub first_one : (rules : List Rule) (x : ℕ) (r : Option (Bor Rule)) → option_map (λ (q : Bor Rule). q.now) r ≡ find (λ (q : Rule). not (holds q.body q.head x)) rules
+    → MatchOption r (modelled rules x ≡ true) (λ q. Fails rules q.now x)
+unfolding modelled
+first_one rules x r e = go r (subst (λ o. MatchOption o (list_all (holds_at x) rules ≡ true) (λ q. (q ∈ rules) × (holds_at x q ≡ false))) (sym e) (find_says (holds_at x) rules))
+  where
+    go : (r : Option (Bor Rule)) → MatchOption (option_map (λ (q : Bor Rule). q.now) r) (list_all (holds_at x) rules ≡ true) (λ q. (q ∈ rules) × (holds_at x q ≡ false))
+        → MatchOption r (list_all (holds_at x) rules ≡ true) (λ q. Fails rules q.now x)
+    go None h = h
+    go (Some q) h = record { one = h.0; fails = h.1 }
 
 -- ---- clauses kept apart
 
 -- a set that satisfies all clauses satisfies those kept apart
-abbrev pub Among : List ℕ → List ℕ → ℕ → List ℕ → List ℕ → ℕ → Type 0
-Among bs hs n fb fh t = (y : ℕ) → So (modelled bs hs n y) → So (modelled fb fh t y)
+abbrev pub Among : List Rule → List Rule → Type 0
+Among rules kept = (y : ℕ) → So (modelled rules y) → So (modelled kept y)
 
-pub among_none : (bs hs : List ℕ) (n : ℕ) (fb fh : List ℕ) → Among bs hs n fb fh 0
-unfolding modelled all_below
-among_none bs hs n fb fh y h = refl
+pub among_none : (rules : List Rule) → Among rules []
+unfolding modelled
+among_none rules y h = refl
 
-module _ (bs hs : List ℕ) (n : ℕ) (fb fh : List ℕ) (t : ℕ) (g : Among bs hs n fb fh t) where
-  pub among_fails : (x : ℕ) → modelled fb fh t x ≡ false → modelled bs hs n x ≡ false
-  among_fails x e = so_false _ (λ h. not_so e (g x h))
+module _ (rules kept : List Rule) (g : Among rules kept) where
+  pub among_fails : (x : ℕ) (l : List Rule) (b : Bool) → l ≡ kept → b ≡ modelled l x → b ≡ false → modelled rules x ≡ false
+  among_fails x l b e q d = so_false _ (λ h. not_so (ap (λ k. modelled k x) (sym e) ∙ sym q ∙ d) (g x h))
 
-  pub among_more : (i : ℕ) → i < n → (fb' fh' : List ℕ) (r : ℕ) → KeptFailed (get_or bs i 0) (get_or hs i 0) fb fh t fb' fh' r → Among bs hs n fb' fh' r
+  pub among_more : (rule : Rule) → rule ∈ rules → Among rules (kept ++ rule ∷ [])
   unfolding modelled
-  among_more i l fb' fh' r k y h = k.asks y ((all_below_iff _ n).0 h i l) (g y h)
+  among_more rule m y h =
+      let p : Rule → Bool = λ r. holds r.body r.head y in
+      modelled_behind kept rule y ∙ (and_iff _ _).1 ((all_iff p rules).0 (sym (all_list _ _ (λ r. refl) rules) ∙ h) rule m, g y h)
 
--- one more, or none
-pub kept_none : (b h : ℕ) (fb fh : List ℕ) (t : ℕ) → t ≤ length fb → KeptFailed b h fb fh t fb fh t
-kept_none b h fb fh t l = record { most = l; asks = λ y p q. q }
+pub failed_some : (rules : List Rule) (rule : Rule) (x : ℕ) → Fails rules rule x → modelled rules x ≡ false
+unfolding modelled
+failed_some rules rule x f = so_false _ (λ h. not_so f.fails ((all_iff (λ (r : Rule). holds r.body r.head x) rules).0 (sym (all_list _ _ (λ r. refl) rules) ∙ h) rule f.one))
 
-pub kept_one : (b h : ℕ) (fb fh : List ℕ) (t : ℕ) → t < length fb → t < length fh → KeptFailed b h fb fh t (set fb t b) (set fh t h) (t + 1)
-kept_one b h fb fh t l k = record { most = rw (length-set fb t b) (omega arith); asks = λ y p q. modelled_more fb fh t b h y l k ∙ (and_iff _ _).1 (p, q) }
+-- ---- the search
+
+-- no subset of m from x on satisfies the clauses, and those kept apart are among them
+pub record Searched (rules kept : List Rule) (m x : ℕ) : Type 0 where
+  pub subset : bit_and x m ≡ x
+  pub most : x ≤ m
+  pub fail : FailFrom (modelled rules) m x
+  pub among : Among rules kept
+
+pub searched_start : (rules : List Rule) (m : ℕ) → Searched rules [] m m
+searched_start rules m = record { subset = and_self m; most = le_refl m; fail = fail_start (modelled rules) m 0; among = among_none rules }
+
+module _ (rules kept : List Rule) (m x : ℕ) (s : Searched rules kept m x) where
+  -- one of the clauses more is kept, or none
+  pub searched_next : modelled rules (bit_and (x - 1) m) ≡ false → (kept' : List Rule) → Among rules kept' → Searched rules kept' m (bit_and (x - 1) m)
+  searched_next e kept' a = record {
+    subset = and_again (x - 1) m;
+    most = omega (arith, and_le_l (x - 1) m, s.most);
+    fail = fail_next (modelled rules) m x s.subset s.fail e;
+    among = a;
+  }
+
+  pub searched_found : 0 < x → modelled rules (bit_and (x - 1) m) ≡ true → minimal rules m ≡ false
+  unfolding minimal
+  searched_found p e = found (modelled rules) m x p s.most e
+
+  pub searched_end : x ≤ 0 → minimal rules m ≡ true
+  unfolding minimal
+  searched_end h = none_found (modelled rules) m x h s.fail

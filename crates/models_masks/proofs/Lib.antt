@@ -1,3 +1,4 @@
+pub mod Lists
 pub mod Search
 pub mod Bits
 pub mod Subsets

@@ -1,36 +1,46 @@
 -- What masks over a list of atoms say of clauses and of sets: a clause's two masks hold of a set's mask exactly when the set satisfies the
 -- clause, and a test of masks that asks what the clauses ask finds the stable models.
 use Prim.Native.Nat.{ℕ, ◌+◌, ◌<◌}
-use mathlib.Core.Path.{◌≡◌, sym, subst, ap₂, ◌∙◌}
+use mathlib.Core.Path.{◌≡◌, refl, sym, ap, subst, ◌∙◌}
 use mathlib.Core.Logic.{◌↔◌}
-use mathlib.Core.List.{List}
-use mathlib.Core.Bool.{Bool, not, ◌&&◌, So}
+use mathlib.Core.List.{List, [], ◌∷◌, ◌++◌}
+use mathlib.Core.Bool.{Bool, true, false, not, ◌&&◌, So}
 use native.Mathlib.Omega.{arith}
-use native.Mathlib.Numerals.{add-one}
 use lib.Arith.{lt_of_le-ne}
 use lib.Bits.{bit_and}
 use lib.Dec.{eqb}
-use lib.ListN.{length, set}
-use lib.Seq.{get_or-set_same, get_or-set_other}
+use lib.ListN.{length, take, set}
+use Rattle.std.specs.List.{list_all}
+use Rattle.std.proofs.lemmas.List.{take-set, take_more_set}
+use Rattle.std.proofs.lemmas.List.Folds.{list_all-append}
 use Rattle.semantics.specs.Lists.{◌∈◌, ascending}
 use Rattle.semantics.specs.Programs.{Clause, Program, Atoms, among, Subset, Stable}
 use Rattle.semantics.proofs.Tests.{and_iff, not_iff, or_iff, any_iff, mem_iff, so_by}
 use Rattle.semantics.proofs.Models.{All, Any, Models, stable_iff}
+use Rattle.models_masks.specs.declared.Rule.{Rule}
 use Rattle.models_masks.specs.Masks.{mask_of, all_below, inside, holds, modelled}
-use Rattle.models_masks.proofs.Search.{all_below_iff, all_below_ext}
+use Rattle.models_masks.proofs.Search.{all_below_iff}
 use Rattle.models_masks.proofs.Bits.{mask_inj, mask_bound, mask_le, inside_iff, apart_iff, bits_in, bits_in_sub, mask_of_bits}
 
 -- what stands behind the first n clauses is not asked
-pub modelled_front : (bs hs : List ℕ) (n b h x : ℕ) → modelled (set bs n b) (set hs n h) n x ≡ modelled bs hs n x
-unfolding modelled
-modelled_front bs hs n b h x =
-    all_below_ext _ _ n (λ i q. ap₂ (λ u v. holds u v x) (get_or-set_other bs n i b 0 (λ e. omega arith)) (get_or-set_other hs n i h 0 (λ e. omega arith)))
+pub modelled_front : (rules : List Rule) (n : ℕ) (rule : Rule) (x : ℕ) → modelled (take n (set rules n rule)) x ≡ modelled (take n rules) x
+modelled_front rules n rule x = rw (take-set rules n rule)
 
--- one clause more
-pub modelled_more : (bs hs : List ℕ) (n b h x : ℕ) → n < length bs → n < length hs → modelled (set bs n b) (set hs n h) (n + 1) x ≡ (holds b h x && modelled bs hs n x)
-unfolding modelled all_below
-modelled_more bs hs n b h x l k =
-    rw (add-one n) (ap₂ (λ p q. p && q) (ap₂ (λ u v. holds u v x) (get_or-set_same bs n b 0 l) (get_or-set_same hs n h 0 k)) (modelled_front bs hs n b h x))
+-- one clause more, behind the others
+pub modelled_behind : (rules : List Rule) (rule : Rule) (x : ℕ) → modelled (rules ++ rule ∷ []) x ≡ (holds rule.body rule.head x && modelled rules x)
+unfolding modelled
+modelled_behind rules rule x =
+    let p : Rule → Bool = λ r. holds r.body r.head x in
+    list_all-append p rules (rule ∷ []) ∙ last (list_all p rules) (p rule)
+  where
+    last : (a b : Bool) → (a && (b && true)) ≡ (b && a)
+    last true true = refl
+    last true false = refl
+    last false true = refl
+    last false false = refl
+
+pub modelled_more : (rules : List Rule) (n : ℕ) (rule : Rule) (x : ℕ) → n < length rules → modelled (take (n + 1) (set rules n rule)) x ≡ (holds rule.body rule.head x && modelled (take n rules) x)
+modelled_more rules n rule x l = ap (λ l. modelled l x) (take_more_set rules n rule l) ∙ modelled_behind (take n rules) rule x
 
 -- a clause's masks, for a clause whose positive body is within the list, and a set within the list
 pub masks_iff : (s : List ℕ) (Y : Atoms) → Subset Y (among s) → (c : Clause) → ((a : ℕ) → a ∈ c.pos → a ∈ s)

@@ -1,10 +1,11 @@
 -- Sets of at most 16 atoms as masks: bit i of a number is set where the list's i-th atom is in the set. Clauses as two masks,
 -- of the positive body and of the head, and a set's minimality among its subsets, on masks.
-use Rattle.std.specs.Prelude.{Bool, true, not, ◌&&◌, ◌||◌, List, [], ◌∷◌, ℕ, zero, suc, ◌+◌, ◌*◌, eqb, get_or}
+use Rattle.std.specs.Prelude.{Bool, true, not, ◌&&◌, ◌||◌, List, [], ◌∷◌, ℕ, zero, suc, ◌+◌, ◌*◌, eqb}
+use Rattle.std.specs.List.{list_all}
 use Rattle.std.specs.Int.Bits.{bit_and}
 use Rattle.semantics.specs.Lists.{bit, any, within}
-use Rattle.semantics.specs.Programs.{Clause, Atoms}
-use Rattle.semantics.specs.Programs.{among}
+use Rattle.semantics.specs.Programs.{Clause, Atoms, among}
+use Rattle.models_masks.specs.declared.Rule.{Rule}
 
 -- the mask of a set over a list of atoms, lowest bit first
 unfoldable pub mask_of : List ℕ → Atoms → ℕ
@@ -24,15 +25,15 @@ inside x m = eqb (bit_and x m) x
 unfoldable pub holds : ℕ → ℕ → ℕ → Bool
 holds body head x = not (inside body x) || not (eqb (bit_and head x) 0)
 
--- x satisfies the first n clauses
-unfoldable pub modelled : List ℕ → List ℕ → ℕ → ℕ → Bool
-unfolding all_below holds
-modelled bodies heads n x = all_below (λ i. holds (get_or bodies i 0) (get_or heads i 0) x) n
+-- x satisfies the clauses
+unfoldable pub modelled : List Rule → ℕ → Bool
+unfolding holds
+modelled rules x = list_all (λ rule. holds rule.body rule.head x) rules
 
 -- no subset of m but m itself satisfies the clauses: such a subset is a number below m
-unfoldable pub minimal : List ℕ → List ℕ → ℕ → ℕ → Bool
+unfoldable pub minimal : List Rule → ℕ → Bool
 unfolding all_below modelled
-minimal bodies heads n m = all_below (λ x. not (inside x m && modelled bodies heads n x)) m
+minimal rules m = all_below (λ x. not (inside x m && modelled rules x)) m
 
 -- the reduct by the set keeps the clause, and its positive body is within the set
 abbrev pub enters : List ℕ → Clause → Bool

@@ -1,20 +1,33 @@
 // A set of at most 16 atoms as a mask, and clauses as two masks: whether a set satisfies the clauses, and whether no subset does.
 #![tactic(auto)]
 
-ghost use Rattle.std.specs.Prelude.{◌≡◌, ◌&&◌, ◌≤◌, length};
-ghost use Rattle.semantics.specs.Lists.{bit};
+ghost use Rattle.std.specs.Prelude.{◌≡◌, ◌&&◌, ◌≤◌, true, length, MatchOption};
 ghost use Rattle.semantics.specs.Programs.{among};
 ghost use Rattle.models_masks.specs.Masks as masks;
-ghost use Rattle.models_masks.specs.Failed.{FirstFailed, KeptFailed};
+ghost use Rattle.models_masks.specs.Failed.{Fails};
+
+use upto::UpTo;
 
 pub mod parts;
+pub mod upto;
 
+// How many atoms a set can have.
 pub const MAX_SET: usize = 16;
 
-fn one_if(b: bool) -> u16
-    ensures { result ≡ bit b }
-{
-    if b { 1 } else { 0 }
+// A clause over a list of at most 16 atoms, as the masks of its positive body and of its head.
+#[derive(Clone, Copy)]
+pub struct Rule {
+    pub body: u16,
+    pub head: u16,
+}
+
+impl Rule {
+    // Whether the set x satisfies the clause: an atom of the body is missing, or one of the head is there.
+    fn holds(&self, x: u16) -> bool
+        ensures { result ≡ masks.holds self.now.body self.now.head x }
+    {
+        ((self.body - (self.body & x)) | (self.head & x)) != 0
+    }
 }
 
 // The mask over the set of those of its atoms that are in the part.
@@ -23,102 +36,53 @@ pub fn mask_of(set: &[u16], part: &[u16]) -> u16
     ensures { result ≡ masks.mask_of set.now (among part.now) }
 {
     let mut mask: u16 = 0;
-    let mut i = set.len();
-    while 0 < i {
-        i -= 1;
-        mask = mask * 2 + one_if(parts::has(part, set[i]));
+    for atom in set.iter().rev() {
+        mask = mask * 2 + u16::from(part.contains(atom));
     }
     mask
 }
 
-// Whether the set x satisfies the clause: an atom of the body is missing, or one of the head is there.
-fn holds(body: u16, head: u16, x: u16) -> bool
-    ensures { result ≡ masks.holds body head x }
+// Whether the set x satisfies the clauses.
+pub fn modelled(rules: &[Rule], x: u16) -> bool
+    ensures { result ≡ masks.modelled rules.now x }
 {
-    ((body - (body & x)) | (head & x)) != 0
+    rules.iter().all(|rule| rule.holds(x))
 }
 
-// The first of n clauses that the set x fails; n where it fails none.
-fn first_failed(bodies: &[u16], heads: &[u16], n: usize, x: u16) -> usize
-    requires { (n ≤ length bodies.now) × (n ≤ length heads.now) }
-    ensures { FirstFailed bodies.now heads.now n x result }
+// The first clause that the set x fails.
+fn first_failed(rules: &[Rule], x: u16) -> Option<&Rule>
+    ensures { MatchOption result (masks.modelled rules.now x ≡ true) (λ rule. Fails rules.now rule.now x) }
 {
-    for i in 0..n {
-        if !holds(bodies[i], heads[i], x) {
-            return i;
-        }
-    }
-    n
+    rules.iter().find(|rule| !rule.holds(x))
 }
 
-// Whether the set x satisfies the first n clauses.
-pub fn modelled(bodies: &[u16], heads: &[u16], n: usize, x: u16) -> bool
-    requires { (n ≤ length bodies.now) × (n ≤ length heads.now) }
-    ensures { result ≡ masks.modelled bodies.now heads.now n x }
-{
-    first_failed(bodies, heads, n, x) == n
-}
-
-// A clause behind the first t, where there is room for it; how many there are then.
-fn keep_failed(body: u16, head: u16, bodies: &mut [u16], heads: &mut [u16], t: usize) -> usize
-    requires { (t ≤ length bodies.old) × (length heads.old ≡ length bodies.old) }
-    ensures { KeptFailed body head bodies.old heads.old t bodies.new heads.new result }
-{
-    if bodies.len() <= t {
-        return t;
-    }
-    bodies[t] = body;
-    heads[t] = head;
-    t + 1
-}
-
-// Whether no proper subset of the set m satisfies the first n clauses: all subsets, from the largest number down. A clause that one subset fails is likely to be
+// Whether no proper subset of the set m satisfies the clauses: all subsets, from the largest number down. A clause that one subset fails is likely to be
 // failed by the next, so those that were failed are kept apart and asked first.
-fn no_subset(
-    bodies: &[u16],
-    heads: &[u16],
-    n: usize,
-    m: u16,
-    bodies1: &mut [u16],
-    heads1: &mut [u16],
-) -> bool
-    requires { (n ≤ length bodies.now) × ((n ≤ length heads.now) × (length heads1.old ≡ length bodies1.old)) }
-    ensures { result ≡ masks.minimal bodies.now heads.now n m }
+pub fn minimal(rules: &[Rule], m: u16) -> bool
+    ensures { result ≡ masks.minimal rules.now m }
 {
-    let mut t: usize = 0;
+    let mut failed: UpTo<Rule, 64> = UpTo::new(Rule { body: 0, head: 0 });
     let mut x = m;
+    // `while`: from one subset to the next below is a step on bits, which no range takes.
     while 0 < x {
         x = (x - 1) & m;
-        if !modelled(bodies1, heads1, t, x) {
+        if !modelled(failed.as_slice(), x) {
             continue;
         }
-        let i = first_failed(bodies, heads, n, x);
-        if i == n {
+        let Some(rule) = first_failed(rules, x) else {
             return false;
+        };
+        if failed.is_full() {
+            continue;
         }
-        t = keep_failed(bodies[i], heads[i], bodies1, heads1, t);
+        failed.push(*rule);
     }
     true
 }
 
-// Whether no proper subset of the set m satisfies the first n clauses.
-pub fn minimal(bodies: &[u16], heads: &[u16], n: usize, m: u16) -> bool
-    requires { (n ≤ length bodies.now) × (n ≤ length heads.now) }
-    ensures { result ≡ masks.minimal bodies.now heads.now n m }
+// Whether the set m satisfies the clauses, and no proper subset does.
+pub fn stable(rules: &[Rule], m: u16) -> bool
+    ensures { result ≡ (masks.modelled rules.now m && masks.minimal rules.now m) }
 {
-    let mut bodies1 = [0u16; 64];
-    let mut heads1 = [0u16; 64];
-    no_subset(bodies, heads, n, m, &mut bodies1, &mut heads1)
-}
-
-// Whether the set m satisfies the first n clauses, and no proper subset does.
-pub fn stable(bodies: &[u16], heads: &[u16], n: usize, m: u16) -> bool
-    requires { (n ≤ length bodies.now) × (n ≤ length heads.now) }
-    ensures { result ≡ (masks.modelled bodies.now heads.now n m && masks.minimal bodies.now heads.now n m) }
-{
-    if modelled(bodies, heads, n, m) {
-        minimal(bodies, heads, n, m)
-    } else {
-        false
-    }
+    modelled(rules, m) && minimal(rules, m)
 }

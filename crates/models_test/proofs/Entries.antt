@@ -9,8 +9,8 @@ use lib.Seq.{take-length}
 use borrow.Author.Tests.{le-leb, leb-true}
 use Rattle.answers.specs.declared.EntryQuestion.TheVariants.{EntryBelow, EntryAscending}
 use Rattle.answers.specs.declared.Refusal.TheVariants.{Entry}
-use Rattle.table.specs.declared.Walk.{Walk}
-use Rattle.table.specs.declared.Walk.TheVariants.{To}
+use Rattle.table.specs.Questions.{Walk}
+use Rattle.std.specs.Prelude.{Ok}
 use Rattle.answers.specs.Answers.{ask}
 use Rattle.table.specs.Encoding.{Ordered}
 use Rattle.table.proofs.Laws.{ask_inv}
@@ -22,7 +22,7 @@ pub set_on : (set : List ℕ) (n : ℕ) (w : Walk) → length set ≤ 16 → w �
 unfolding set_of ask
 set_on set n w l q = rw (le-leb (length set) 16 l) q
 
-pub set_iff : (set : List ℕ) (n : ℕ) → ((e : ℕ) × (set_of set n ≡ To e)) ↔ ((length set ≤ 16) × Ordered n set)
+pub set_iff : (set : List ℕ) (n : ℕ) → ((e : ℕ) × (set_of set n ≡ Ok e)) ↔ ((length set ≤ 16) × Ordered n set)
 unfolding set_of
 set_iff set n = (
   λ h.
@@ -31,7 +31,7 @@ set_iff set n = (
       (leb-true (length set) 16 t, (rising_iff n set).0 (subst (Rising n 0) (take-length set) r)),
   λ h. (
     length set,
-    sym (set_on set n (To (length set)) h.0
-        (sym (atoms_of (Entry EntryBelow) (Entry EntryAscending) set set [] n 0 (sym (append-nil set)) h.1 ∙ ap To (zero-add (length set))))),
+    sym (set_on set n (Ok (length set)) h.0
+        (sym (atoms_of (Entry EntryBelow) (Entry EntryAscending) set set [] n 0 (sym (append-nil set)) h.1 ∙ ap Ok (zero-add (length set))))),
   ),
 )

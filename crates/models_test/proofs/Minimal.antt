@@ -12,6 +12,7 @@ use Rattle.semantics.proofs.Tests.{and_iff, not_iff, or_iff, all_iff, any_iff, m
 use Rattle.semantics.proofs.Models.{Any, Holds, Models}
 use Rattle.semantics.proofs.Decide.{test_iff}
 use Rattle.table.specs.Programs.{program_of}
+use Rattle.models_masks.specs.declared.Rule.{Rule}
 use Rattle.models_masks.specs.Masks.{mask_of, modelled, minimal, enters, clause_holds}
 use Rattle.models_test.specs.Kept.{Filled, Testable}
 use Rattle.models_masks.proofs.Models.{masks_iff, stable_masks}
@@ -41,13 +42,13 @@ module _ (s : List ℕ) (Y : Atoms) (sub : Subset Y (among s)) where
   )
 
 -- the masks' answer is that of the test over all sublists
-pub test_masks : (ws s bs hs : List ℕ) (n : ℕ) → Testable ws s → Filled ws s bs hs n → (m : ℕ) → m ≡ mask_of s (among s)
-    → (modelled bs hs n m && minimal bs hs n m) ≡ stable_test (program_of ws) s
+pub test_masks : (ws s : List ℕ) (rules : List Rule) → Testable ws s → Filled ws s rules → (m : ℕ) → m ≡ mask_of s (among s)
+    → (modelled rules m && minimal rules m) ≡ stable_test (program_of ws) s
 unfolding minimal program_of
-test_masks ws s bs hs n t f m e =
+test_masks ws s rules t f m e =
     let P = program_of ws in
-    let i = stable_masks P s (among s) (modelled bs hs n) t.ordered.ascends (λ a k. k) (λ a k. t.ordered.below a ((mem_iff _ _).0 k)) (λ Y sub. (
-      λ h. (models_masks s Y sub P.clauses).0 (sym (f.asks (mask_of s Y)) ∙ h),
-      λ h. f.asks (mask_of s Y) ∙ (models_masks s Y sub P.clauses).1 h,
+    let i = stable_masks P s (among s) (modelled rules) t.ordered.ascends (λ a k. k) (λ a k. t.ordered.below a ((mem_iff _ _).0 k)) (λ Y sub. (
+      λ h. (models_masks s Y sub P.clauses).0 (sym (f (mask_of s Y)) ∙ h),
+      λ h. f (mask_of s Y) ∙ (models_masks s Y sub P.clauses).1 h,
     )) in
     rw e (so_ext _ _ (λ h. (test_iff P s).1 (i.0 h)) (λ h. i.1 ((test_iff P s).0 h)))

@@ -5,30 +5,27 @@ ghost use Rattle.std.specs.Prelude.{◌≡◌};
 ghost use Rattle.models_test.specs.Answer.{set_of, test_of};
 
 use answers::{Answer, CallQuestion, EntryQuestion, Refusal};
-use table::{Checked, Walk};
 
 mod kept;
 
 // Questions 19 to 21.
-pub fn check_set(set: &[u16], atoms: u16) -> Walk
+pub fn check_set(set: &[u16], atoms: u16) -> Result<usize, Refusal>
     ensures { result ≡ set_of set.now atoms }
 {
-    let len = set.len();
-    if models_masks::MAX_SET < len {
-        return Walk::Stop(Refusal::Call(CallQuestion::SetLength));
+    if models_masks::MAX_SET < set.len() {
+        return Err(Refusal::Call(CallQuestion::SetLength));
     }
     let mut low: u16 = 0;
-    for i in 0..len {
-        let a = set[i];
-        if atoms <= a {
-            return Walk::Stop(Refusal::Entry(EntryQuestion::EntryBelow, i));
+    for (i, a) in set.iter().enumerate() {
+        if atoms <= *a {
+            return Err(Refusal::Entry(EntryQuestion::EntryBelow, i));
         }
-        if a < low {
-            return Walk::Stop(Refusal::Entry(EntryQuestion::EntryAscending, i));
+        if *a < low {
+            return Err(Refusal::Entry(EntryQuestion::EntryAscending, i));
         }
-        low = a + 1;
+        low = *a + 1;
     }
-    Walk::To(len)
+    Ok(set.len())
 }
 
 // Questions 1 to 8 and 19 to 21, then the test.
@@ -36,18 +33,9 @@ pub fn test_set(words: &[u16], set: &[u16]) -> Answer
     ensures { result ≡ test_of words.now set.now }
 {
     let checked = table_questions::check_table(words);
-    let Checked::Valid(t) = checked else {
-        let Checked::Refused(r) = checked else {
-            return Answer::Accepted(0);
-        };
-        return Answer::Refused(r);
+    let Ok(table) = checked else {
+        return checked.map(|_| 0);
     };
-    let entries = check_set(set, t.atoms);
-    let Walk::To(_) = entries else {
-        let Walk::Stop(r) = entries else {
-            return Answer::Accepted(0);
-        };
-        return Answer::Refused(r);
-    };
-    Answer::Accepted(answers::one_if(kept::is_stable(words, set)))
+    check_set(set, table.atoms)?;
+    Ok(usize::from(kept::is_stable(words, set)))
 }

@@ -9,8 +9,8 @@ use Rattle.table.specs.Questions.{Passed}
 use Rattle.table.proofs.Encoding.{passed_limits}
 use Rattle.reduced_sizes.specs.Leaves.{reduced}
 use Rattle.reduced_marks.specs.Spans.{MarksReady}
-use Rattle.answers.specs.declared.Answer.{Answer}
-use Rattle.answers.specs.declared.Answer.TheVariants.{Accepted, Refused}
+use Rattle.answers.specs.Answers.{Answer}
+use Rattle.std.specs.Prelude.{Ok, Err}
 use Rattle.reducer_results.specs.Reductions.{steps_of, reduction}
 use Rattle.reducer_results.specs.Answered.{Answered}
 use Rattle.reducer_results.proofs.Taken.{reducer_taken, lengths_kept}
@@ -33,15 +33,15 @@ list_room : length list₀ ≡ 32768
 list_room = length-replicate {A = ℕ} 32768 0
 
 module _ (ws ms ls : List ℕ) (r : Answer) (p : Passed ws) (a : Answered ws marks₀ list₀ ms ls r) where
-  took : r ≡ Accepted (length (steps_of ws))
+  took : r ≡ Ok (length (steps_of ws))
   took = a.answer ∙ always_reduced ws p
 
   -- the call is never refused
-  pub never_refused : (x : Refusal) → r ≡ Refused x → ⊥
+  pub never_refused : (x : Refusal) → r ≡ Err x → ⊥
   never_refused x e = let q = took in let z : ◌≡◌ {A = ℕ} 0 1 = cc in omega arith
 
-  module _ (s : ℕ) (e : r ≡ Accepted s) where
-    said : (reduction ws marks₀ list₀).answer ≡ Accepted s
+  module _ (s : ℕ) (e : r ≡ Ok s) where
+    said : (reduction ws marks₀ list₀).answer ≡ Ok s
     said = sym a.answer ∙ e
 
     pub marks_ready : MarksReady ws ms
@@ -60,8 +60,8 @@ module _ (ws ms ls : List ℕ) (r : Answer) (p : Passed ws) (a : Answered ws mar
     pub text_few : length (text_of (reduced ws ms)) ≤ 43022
     text_few = rw a.marks (left_short ws marks₀ list₀ s said)
 
-    pub both_puts : (w w1 w2 : List ℕ) (n k : ℕ) → Puts w w1 0 n (text_of (reduced ws ms)) → Puts w1 w2 n k (list_lines ls s) → Puts w w2 0 k (reduced_text ws)
-    both_puts w w1 w2 n k x y = subst (Puts w w2 0 k) whole_text (puts_then w w1 w2 0 n k (text_of (reduced ws ms)) (list_lines ls s) x y)
+    pub both_puts : (w w1 w2 : List ℕ) (at n k : ℕ) → Puts w w1 at n (text_of (reduced ws ms)) → Puts w1 w2 n k (list_lines ls s) → Puts w w2 at k (reduced_text ws)
+    both_puts w w1 w2 at n k x y = subst (Puts w w2 at k) whole_text (puts_then w w1 w2 at n k (text_of (reduced ws ms)) (list_lines ls s) x y)
       where
         whole_text : text_of (reduced ws ms) ++ list_lines ls s ≡ reduced_text ws
         whole_text = ap (λ m. text_of (reduced ws m) ++ list_lines ls s) a.marks ∙ ap (λ x. text_of (reduced ws (reduction_of ws).marks) ++ list_lines x s) a.list ∙ sym (reduced_text_lem ws s said)

@@ -8,8 +8,8 @@ use lib.ListN.{length, take, drop, replicate, length-replicate}
 use Rattle.rewriting.specs.Steps.{Step}
 use Rattle.rewriting.proofs.Rows.{number_bounds}
 use Rattle.answers.specs.declared.Refusal.{Refusal}
-use Rattle.answers.specs.declared.Answer.{Answer}
-use Rattle.answers.specs.declared.Answer.TheVariants.{Accepted, Refused}
+use Rattle.answers.specs.Answers.{Answer}
+use Rattle.std.specs.Prelude.{Ok, Err}
 use Rattle.answers.specs.Refusals.{refusal_number, refusal_place}
 use Rattle.table.specs.Questions.{Passed}
 use Rattle.table.specs.Places.{cut}
@@ -44,15 +44,15 @@ module _ (d : ℕ → List ℕ) where
   refusal_by r = line_text refused_key (commas_by d (refusal_number r ∷ refusal_place r ∷ []))
 
   abbrev reduced_lines_by : List ℕ → Answer → List ℕ → List ℕ → List ℕ
-  reduced_lines_by ws (Accepted s) ms ls = render_by d (program_of (reduced ws ms)) ++ list_lines_by ls s
-  reduced_lines_by ws (Refused r) ms ls = refusal_by r
+  reduced_lines_by ws (Ok s) ms ls = render_by d (program_of (reduced ws ms)) ++ list_lines_by ls s
+  reduced_lines_by ws (Err r) ms ls = refusal_by r
 
   abbrev reduced_by : List ℕ → List ℕ
   reduced_by ws = reduced_lines_by ws (reduction_of ws).answer (reduction_of ws).marks (reduction_of ws).list
 
   abbrev printed_by : Answer → List ℕ → List ℕ
-  printed_by (Accepted k) table = reduced_by (take k table)
-  printed_by (Refused r) table = refusal_by r
+  printed_by (Ok k) table = reduced_by (take k table)
+  printed_by (Err r) table = refusal_by r
 
   abbrev pub output_by : List ℕ → List ℕ
   output_by ts = printed_by (read_answer ts 8192) (table_after ts (replicate 8192 0))
@@ -123,8 +123,8 @@ module _ (d : ℕ → List ℕ) (same : Agrees d) where
   output_by_lem ts = go (read_answer ts 8192) refl
     where
       go : (a : Answer) → read_answer ts 8192 ≡ a → printed_by d a (table_after ts (replicate 8192 0)) ≡ printed a (table_after ts (replicate 8192 0))
-      go (Accepted k) h = reduced_by_lem (take k (table_after ts (replicate 8192 0))) (read_passed ts k h)
-      go (Refused r) h = refusal_by_lem r (refused_small ts 8192 r h)
+      go (Ok k) h = reduced_by_lem (take k (table_after ts (replicate 8192 0))) (read_passed ts k h)
+      go (Err r) h = refusal_by_lem r (refused_small ts 8192 r h)
 
 -- So it is as it was before.
 pub output_before : (ts : List ℕ) → output_by digits_before ts ≡ output_of ts

@@ -10,15 +10,15 @@ use lib.Seq.{length-take-le}
 use borrow.Author.Tests.{lt-leb}
 use Rattle.answers.specs.declared.CallQuestion.TheVariants.{TextLength}
 use Rattle.answers.specs.declared.Refusal.TheVariants.{Call}
-use Rattle.answers.specs.declared.Answer.{Answer}
-use Rattle.answers.specs.declared.Answer.TheVariants.{Refused}
+use Rattle.answers.specs.Answers.{Answer}
+use Rattle.std.specs.Prelude.{Err}
 use Rattle.text_form.specs.Reader.{read_text, read_answer, table_after}
 use Rattle.answers.specs.Answers.{ask}
 use Rattle.reduce_filter.specs.Output.{refusal_text, printed, output_of}
 use Rattle.reduce_filter.specs.Input.{input_bytes}
 
 -- "22 Are there at most 65,536 bytes?"
-too_long : (ts : List ℕ) → 65536 < length ts → read_answer ts 8192 ≡ Refused (Call TextLength)
+too_long : (ts : List ℕ) → 65536 < length ts → read_answer ts 8192 ≡ Err (Call TextLength)
 unfolding read_answer read_text ask
 too_long ts h = rw (lt-leb (length ts) 65536 h)
 

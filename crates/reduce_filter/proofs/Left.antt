@@ -1,9 +1,8 @@
 -- The reduced table in a local array, and its text.
-use Prim.Native.Nat.{ℕ, ◌-◌, ◌≤◌}
+use Prim.Native.Nat.{ℕ, ◌≤◌}
 use mathlib.Core.Path.{◌≡◌, sym, ap, subst, ◌∙◌}
 use mathlib.Core.List.{List}
 use native.Mathlib.Omega.{arith}
-use native.Mathlib.Nat.{sub-zero}
 use lib.ListN.{length, take, replicate, length-replicate}
 use lib.Seq.{sets, length-sets}
 use Rattle.table.specs.Questions.{Passed}
@@ -22,14 +21,14 @@ module _ (ws ms new : List ℕ) (k : ℕ) (r : MarksReady ws ms) (h : new ≡ se
   pub left_inside : k ≤ length new
   left_inside = rw h (omega (arith, few, length-sets (replicate 8192 0) 0 (reduced ws ms)))
 
-  front : take (k - 0) new ≡ reduced ws ms
-  front = ap (λ i. take i new) (sub-zero k) ∙ ap (take k) (h ∙ sets_written (reduced ws ms) (replicate 8192 0) few) ∙ take_written (reduced ws ms) (replicate 8192 0) k e
+  front : take k new ≡ reduced ws ms
+  front = ap (take k) (h ∙ sets_written (reduced ws ms) (replicate 8192 0) few) ∙ take_written (reduced ws ms) (replicate 8192 0) k e
 
-  pub left_passed : Passed (take (k - 0) new)
+  pub left_passed : Passed (take k new)
   left_passed = subst Passed (sym front) (reduced_passes ws ms r.passed)
 
-  pub left_short : length (text_of (take (k - 0) new)) ≤ 43022
-  left_short = text_short (take (k - 0) new) left_passed
+  pub left_short : length (text_of (take k new)) ≤ 43022
+  left_short = text_short (take k new) left_passed
 
-  pub left_puts : (w w1 : List ℕ) (at to : ℕ) → Puts w w1 at to (text_of (take (k - 0) new)) → Puts w w1 at to (text_of (reduced ws ms))
+  pub left_puts : (w w1 : List ℕ) (at to : ℕ) → Puts w w1 at to (text_of (take k new)) → Puts w w1 at to (text_of (reduced ws ms))
   left_puts w w1 at to p = subst (Puts w w1 at to) (ap text_of front) p

@@ -8,7 +8,7 @@ use Rattle.table.specs.Questions.{Passed}
 use Rattle.table.proofs.Encoding.{passed_limits}
 use Rattle.reduced_sizes.specs.Leaves.{reduced}
 use Rattle.reduced_sizes.proofs.Limits.{reduced_passes}
-use Rattle.answers.specs.declared.Answer.TheVariants.{Accepted}
+use Rattle.std.specs.Prelude.{Ok}
 use Rattle.reducer_results.specs.Reductions.{steps_of, reduction}
 use Rattle.reducer_results.proofs.Room.{room_few}
 use Rattle.reducer_results.proofs.Taken.{reducer_taken, always_taken, steps_room, length_words}
@@ -23,15 +23,15 @@ use Rattle.reduce_filter.proofs.Bounds.{pair_length, steps_short}
 use Rattle.reduce_filter.proofs.Steps.{steps_text, list_lines_lem}
 
 -- The program's own marks and list are long enough for every table.
-pub always_reduced : (ws : List ℕ) → Passed ws → (reduction_of ws).answer ≡ Accepted (length (steps_of ws))
+pub always_reduced : (ws : List ℕ) → Passed ws → (reduction_of ws).answer ≡ Ok (length (steps_of ws))
 always_reduced ws p = always_taken ws (replicate 8192 0) (replicate 32768 0) p (omega (arith, (passed_limits ws p).short, length-replicate {A = ℕ} 8192 0)) (omega (arith, room_few ws p, length-replicate {A = ℕ} 32768 0))
 
 -- The reduced program, then the steps.
-pub reduced_text_lem : (ws : List ℕ) (s : ℕ) → (reduction_of ws).answer ≡ Accepted s → reduced_text ws ≡ text_of (reduced ws (reduction_of ws).marks) ++ list_lines (reduction_of ws).list s
+pub reduced_text_lem : (ws : List ℕ) (s : ℕ) → (reduction_of ws).answer ≡ Ok s → reduced_text ws ≡ text_of (reduced ws (reduction_of ws).marks) ++ list_lines (reduction_of ws).list s
 unfolding reduced_text
 reduced_text_lem ws s h = ap (λ a. reduced_lines ws a (reduction_of ws).marks (reduction_of ws).list) h
 
-module _ (ws ms ls : List ℕ) (s : ℕ) (h : (reduction ws ms ls).answer ≡ Accepted s) where
+module _ (ws ms ls : List ℕ) (s : ℕ) (h : (reduction ws ms ls).answer ≡ Ok s) where
   list_text : list_lines (reduction ws ms ls).list s ≡ line_text steps_key (digits (length (steps_of ws))) ++ steps_text (steps_of ws)
   list_text =
       let t = reducer_taken ws ms ls s h in

@@ -1,16 +1,15 @@
 -- From what the reader's call leaves to the whole output.
-use mathlib.Core.Path.{◌≡◌, sym, ap, subst, ◌∙◌}
+use mathlib.Core.Path.{◌≡◌, sym, ap, subst, subst₂, ◌∙◌}
 use mathlib.Core.List.{List}
-use Prim.Native.Nat.{ℕ, ◌-◌, ◌≤◌}
+use Prim.Native.Nat.{ℕ, ◌≤◌}
 use native.Mathlib.Omega.{arith}
-use native.Mathlib.Nat.{sub-zero}
 use lib.ListN.{length, length-append, take, drop, replicate, length-replicate}
 use Rattle.semantics.specs.Programs.{Program}
 use Rattle.answers.specs.declared.Refusal.{Refusal}
 use Rattle.table.specs.Questions.{Passed}
 use Rattle.table.specs.Encoding.{encode}
-use Rattle.answers.specs.declared.Answer.{Answer}
-use Rattle.answers.specs.declared.Answer.TheVariants.{Accepted, Refused}
+use Rattle.answers.specs.Answers.{Answer}
+use Rattle.std.specs.Prelude.{Ok, Err}
 use Rattle.answers.specs.Refusals.{refusal_number, refusal_place}
 use Rattle.answers.specs.Answers.{written, Small}
 use Rattle.answers.proofs.Numbers.{number_range}
@@ -37,10 +36,10 @@ said_of ts a h = subst (λ n. read_answer ts n ≡ a) blank_long h
 -- ---- a text that is read
 
 -- its words pass questions 1 to 8
-pub read_passed : (ts : List ℕ) (k : ℕ) → read_answer ts 8192 ≡ Accepted k → Passed (take k (table_after ts blank))
-read_passed ts k h = read_passes ts blank k (subst (λ n. read_answer ts n ≡ Accepted k) (sym blank_long) h)
+pub read_passed : (ts : List ℕ) (k : ℕ) → read_answer ts 8192 ≡ Ok k → Passed (take k (table_after ts blank))
+read_passed ts k h = read_passes ts blank k (subst (λ n. read_answer ts n ≡ Ok k) (sym blank_long) h)
 
-module _ (ts new : List ℕ) (k : ℕ) (h : read_answer ts (length blank) ≡ Accepted k) (e : new ≡ table_after ts blank) where
+module _ (ts new : List ℕ) (k : ℕ) (h : read_answer ts (length blank) ≡ Ok k) (e : new ≡ table_after ts blank) where
   abbrev the_program : Program
   the_program = sorted_program (accepted_reads ts blank k h).lists
 
@@ -52,30 +51,32 @@ module _ (ts new : List ℕ) (k : ℕ) (h : read_answer ts (length blank) ≡ Ac
       let a = accepted_reads ts blank k h in
       rw words_are (omega (arith, length-append (encode the_program) (drop (length (encode the_program)) blank), a.count))
 
-  pub words_passed : Passed (take (k - 0) new)
-  words_passed = rw (sub-zero k, e) (read_passed ts k (said_of ts (Accepted k) h))
+  pub words_passed : Passed (take k new)
+  words_passed = rw e (read_passed ts k (said_of ts (Ok k) h))
 
-  pub words_output : reduced_text (take (k - 0) new) ≡ output_of ts
+  pub words_output : reduced_text (take k new) ≡ output_of ts
   unfolding output_of
-  words_output = ap (λ i. reduced_text (take i new)) (sub-zero k) ∙ ap (λ t. reduced_text (take k t)) e ∙ sym (ap (λ a. printed a (table_after ts blank)) (said_of ts (Accepted k) h))
+  words_output = ap (λ t. reduced_text (take k t)) e ∙ sym (ap (λ a. printed a (table_after ts blank)) (said_of ts (Ok k) h))
 
 -- ---- a text that is refused
 
 -- its number and place are numbers that can be written
-pub refused_small : (ts : List ℕ) (room : ℕ) (r : Refusal) → read_answer ts room ≡ Refused r → (refusal_number r ≤ 65536) × (refusal_place r ≤ 65536)
+pub refused_small : (ts : List ℕ) (room : ℕ) (r : Refusal) → read_answer ts room ≡ Err r → (refusal_number r ≤ 65536) × (refusal_place r ≤ 65536)
 refused_small ts room r h = (omega (arith, (number_range r).1), subst Small h (read_small ts room))
 
-pub refused_output : (ts : List ℕ) (r : Refusal) → read_answer ts (length blank) ≡ Refused r → refusal_text r ≡ output_of ts
+pub refused_output : (ts : List ℕ) (r : Refusal) → read_answer ts (length blank) ≡ Err r → refusal_text r ≡ output_of ts
 unfolding output_of
-refused_output ts r h = sym (ap (λ a. printed a (table_after ts blank)) (said_of ts (Refused r) h))
+refused_output ts r h = sym (ap (λ a. printed a (table_after ts blank)) (said_of ts (Err r) h))
 
 -- ---- the output in the slice
 
-pub puts_prints : (ts old new bs : List ℕ) (r : Printed) (a : Answer) → read_answer ts (length blank) ≡ a → r.refused ≡ is_refused a
-    → output_bytes ≤ length old → length bs ≤ 223170 → bs ≡ output_of ts → Puts old new 0 r.bytes bs → Prints ts old new r
-puts_prints ts old new bs r a h q l b e p = record {
-  count = omega (arith, p.next, ap length e);
-  bytes = p.holds ∙ sets_written bs old (omega arith) ∙ ap (λ t. written t old) e;
-  fits = omega (arith, p.next);
-  refused = q ∙ ap is_refused (sym (said_of ts a h));
-}
+pub puts_prints : (ts old w new bs : List ℕ) (at : ℕ) (lent : List ℕ) (r : Printed) (a : Answer) → read_answer ts (length blank) ≡ a → r.refused ≡ is_refused a
+    → output_bytes ≤ length old → length bs ≤ 223170 → bs ≡ output_of ts → lent ≡ old → at ≡ 0 → Puts lent w at r.bytes bs → new ≡ w → Prints ts old new r
+puts_prints ts old w new bs at lent r a h q l b e s z p n =
+    let first : Puts old w 0 r.bytes bs = subst₂ (λ x i. Puts x w i r.bytes bs) s z p in
+    record {
+      count = omega (arith, first.next, ap length e);
+      bytes = n ∙ first.holds ∙ sets_written bs old (omega arith) ∙ ap (λ t. written t old) e;
+      fits = omega (arith, first.next);
+      refused = q ∙ ap is_refused (sym (said_of ts a h));
+    }

@@ -9,9 +9,9 @@ use Rattle.table.specs.Encoding.{encode}
 use Rattle.table.proofs.Encoding.{encode_passes}
 use Rattle.reduced_sizes.specs.Leaves.{reduced}
 use Rattle.reduced_sizes.proofs.Limits.{reduced_passes}
-use Rattle.answers.specs.declared.Answer.TheVariants.{Accepted}
+use Rattle.std.specs.Prelude.{Ok}
 use Rattle.reducer_results.specs.Reductions.{steps_of}
-use Rattle.answers.specs.declared.Answer.{Answer}
+use Rattle.answers.specs.Answers.{Answer}
 use Rattle.text_form.specs.Render.{render}
 use Rattle.text_form.specs.Lists.{sorted_program, InForm}
 use Rattle.answers.specs.Answers.{written}
@@ -28,11 +28,11 @@ reduced_table P = reduced (encode P) (reduction_of (encode P)).marks
 
 pub record ReadsBack (ts : List ℕ) (P : Program) (table : List ℕ) : Type 0 where
   pub s : ℕ
-  pub taken : (reduction_of (encode P)).answer ≡ Accepted s
+  pub taken : (reduction_of (encode P)).answer ≡ Ok s
   -- "prints the reduced program, then steps= with the count, then one line a step"
   pub output : output_of ts ≡ text_of (reduced_table P) ++ list_lines (reduction_of (encode P)).list s
   -- the printed program is read as the reduced table
-  pub reads : read_answer (text_of (reduced_table P)) (length table) ≡ Accepted (length (reduced_table P))
+  pub reads : read_answer (text_of (reduced_table P)) (length table) ≡ Ok (length (reduced_table P))
   pub after : table_after (text_of (reduced_table P)) table ≡ written (reduced_table P) table
 
 -- For every text of the form, its lists sorted, and every slice of 8,192 words to read what is printed into again.
@@ -44,7 +44,7 @@ printed_reads ts P f table big =
     let blank : List ℕ = replicate 8192 0 in
     let long : length blank ≡ 8192 = length-replicate {A = ℕ} 8192 0 in
     let (a, b) = form_reads ts blank P f (omega arith) in
-    let said : read_answer ts 8192 ≡ Accepted (length ws) = subst (λ n. read_answer ts n ≡ Accepted (length ws)) long a in
+    let said : read_answer ts 8192 ≡ Ok (length ws) = subst (λ n. read_answer ts n ≡ Ok (length ws)) long a in
     let h = always_reduced ws p in
     let back = text_reads (reduced_table (sorted_program P)) table (reduced_passes ws (reduction_of ws).marks p) big in
     record {

@@ -1,12 +1,11 @@
 -- What the program prints for what it reads, after document 01, "The text and its program": by the definitions of the calls that read a text, reduce a table, give the reduced
 -- table and write a text.
-use Rattle.std.specs.Prelude.{ℕ, zero, suc, ◌+◌, ◌≤◌, ◌≡◌, Bool, true, false, List, [], ◌∷◌, ◌++◌, length, take, replicate}
+use Rattle.std.specs.Prelude.{ℕ, zero, suc, ◌+◌, ◌≤◌, ◌≡◌, Bool, true, false, List, [], ◌∷◌, ◌++◌, length, take, replicate, Ok, Err}
 use Rattle.answers.specs.declared.Refusal.{Refusal}
 use Rattle.answers.specs.Refusals.{refusal_number, refusal_place}
 use Rattle.table.specs.Places.{cut}
 use Rattle.reduced_sizes.specs.Leaves.{reduced}
-use Rattle.answers.specs.declared.Answer.{Answer}
-use Rattle.answers.specs.declared.Answer.TheVariants.{Accepted, Refused}
+use Rattle.answers.specs.Answers.{Answer}
 use Rattle.reducer_results.specs.Reductions.{Reduction, reduction}
 use Rattle.text_form.specs.Digits.{digits, commas}
 use Rattle.text_form.specs.Render.{line_text}
@@ -49,16 +48,16 @@ reduction_of ws = reduction ws (replicate 8192 0) (replicate 32768 0)
 
 -- "prints the reduced program, then steps= with the count, then one line a step", for a table's words and what the reducer's call answers and leaves
 abbrev pub reduced_lines : List ℕ → Answer → List ℕ → List ℕ → List ℕ
-reduced_lines ws (Accepted s) ms ls = text_of (reduced ws ms) ++ list_lines ls s
-reduced_lines ws (Refused r) ms ls = refusal_text r
+reduced_lines ws (Ok s) ms ls = text_of (reduced ws ms) ++ list_lines ls s
+reduced_lines ws (Err r) ms ls = refusal_text r
 
 unfoldable pub reduced_text : List ℕ → List ℕ
 reduced_text ws = reduced_lines ws (reduction_of ws).answer (reduction_of ws).marks (reduction_of ws).list
 
 -- for what reading the text answers, and the table slice afterwards
 abbrev pub printed : Answer → List ℕ → List ℕ
-printed (Accepted k) table = reduced_text (take k table)
-printed (Refused r) table = refusal_text r
+printed (Ok k) table = reduced_text (take k table)
+printed (Err r) table = refusal_text r
 
 -- the whole output for an input
 unfoldable pub output_of : List ℕ → List ℕ
@@ -67,8 +66,8 @@ output_of ts = printed (read_answer ts 8192) (table_after ts (replicate 8192 0))
 
 -- whether the input is refused
 abbrev pub is_refused : Answer → Bool
-is_refused (Accepted k) = false
-is_refused (Refused r) = true
+is_refused (Ok k) = false
+is_refused (Err r) = true
 
 -- bytes that are enough for every output
 abbrev pub output_bytes : ℕ

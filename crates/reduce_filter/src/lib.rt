@@ -2,19 +2,18 @@
 #![tactic(auto)]
 
 ghost use Rattle.std.specs.Prelude.{◌≡◌, [], ◌∷◌, ◌+◌, ◌*◌, ◌≤◌, length};
-ghost use Rattle.table.specs.Places.{cut};
 ghost use Rattle.text_form.specs.Digits.{commas};
 ghost use Rattle.text_form.specs.Writer.{text_of};
-ghost use Rattle.text_form.specs.Stored.{Puts};
-ghost use Rattle.text_form.specs.Render.{line_text};
+ghost use Rattle.text_writer.specs.Outputs.{HasRoom, Writes};
 ghost use Rattle.reduced_sizes.specs.Leaves.{reduced};
 ghost use Rattle.reduced_marks.specs.Spans.{MarksReady};
+ghost use Rattle.answers.specs.Refusals.{refusal_place};
 ghost use Rattle.table.specs.Questions.{Passed};
-ghost use Rattle.reduce_filter.specs.Output.{step_key, step_lines, list_lines, refused_text, reduced_text, output_bytes, Prints};
+ghost use Rattle.reduce_filter.specs.Output.{step_lines, list_lines, refusal_text, reduced_text, output_bytes, Prints};
 ghost use Rattle.reduce_filter.specs.Input.{input_bytes};
 
-use answers::Answer;
-use text_writer::{put_bytes, put_line, put_next, put_number, put_number_line, put_text};
+use answers::Refusal;
+use text_writer::Output;
 
 // One byte more than a text may have, and bytes that are enough for every output.
 pub const INPUT_BYTES: usize = 65537;
@@ -34,88 +33,92 @@ pub fn output_buffer() -> [u8; OUTPUT_BYTES]
     [0; OUTPUT_BYTES]
 }
 
-// The number of bytes printed, and whether the input was refused.
+// The number of bytes printed, and whether the input was refused. No Result: a refusal prints bytes too, which `Prints` counts in both cases.
 #[derive(Clone, Copy)]
 pub struct Printed {
     pub bytes: usize,
     pub refused: bool,
 }
 
-// Two numbers joined by a comma; the place past them.
-fn put_pair(out: &mut [u8], at: usize, a: usize, b: usize) -> usize
-    requires { ((a ≤ 65536) × (b ≤ 65536)) × (at + length (commas (a ∷ b ∷ [])) ≤ length out.old) }
-    ensures { Puts out.old out.new at result (commas (a ∷ b ∷ [])) }
+// Two numbers joined by a comma.
+fn put_pair(output: &mut Output<'_>, a: usize, b: usize)
+    requires first { a ≤ 65536 }
+    requires second { b ≤ 65536 }
+    requires room { HasRoom output.old (commas (a ∷ b ∷ [])) }
+    ensures same_reference { output.new.bytes.ghost_name ≡ output.old.bytes.ghost_name }
+    ensures written { Writes output.old output.new (commas (a ∷ b ∷ [])) }
 {
-    let n = put_number(out, at, a);
-    put_next(out, n, b)
+    output.put_number(a);
+    output.put_next(b);
 }
 
-// The line of a refusal, which is the whole output; the number of its bytes.
-fn put_refused(out: &mut [u8], number: usize, place: usize) -> usize
-    requires { ((number ≤ 65536) × (place ≤ 65536)) × (length (refused_text number place) ≤ length out.old) }
-    ensures { Puts out.old out.new 0 result (refused_text number place) }
+// The line of a refusal: its number and place.
+fn put_refused(output: &mut Output<'_>, refusal: Refusal)
+    requires near { refusal_place refusal ≤ 65536 }
+    requires room { HasRoom output.old (refusal_text refusal) }
+    ensures same_reference { output.new.bytes.ghost_name ≡ output.old.bytes.ghost_name }
+    ensures written { Writes output.old output.new (refusal_text refusal) }
 {
-    let a = put_bytes(out, 0, b"refused=");
-    let b = put_pair(out, a, number, place);
-    put_bytes(out, b, b"\n")
+    // The cast loses nothing, which the check proves.
+    let number = answers::refusal_number(refusal);
+    output.put_bytes(b"refused=");
+    put_pair(output, number as usize, answers::refusal_place(refusal));
+    output.put_bytes(b"\n");
 }
 
-// The line of the step whose first word is at `from`; the place past it.
-fn put_step(out: &mut [u8], at: usize, list: &[u16], from: usize) -> usize
-    requires { (from + 4 ≤ length list.now) × (at + length (line_text step_key (commas (cut list.now from 4))) ≤ length out.old) }
-    ensures { Puts out.old out.new at result (line_text step_key (commas (cut list.now from 4))) }
+// A line for each of the first s steps of the list.
+fn put_steps(output: &mut Output<'_>, list: &[u16], s: usize)
+    requires inside { 4 * s ≤ length list.now }
+    requires room { HasRoom output.old (step_lines list.now 0 s) }
+    ensures same_reference { output.new.bytes.ghost_name ≡ output.old.bytes.ghost_name }
+    ensures written { Writes output.old output.new (step_lines list.now 0 s) }
 {
-    let end = from + 4;
-    put_line(out, at, b"step=", &list[from..end])
-}
-
-// A line for each of the first s steps of the list; the place past them.
-fn put_steps(out: &mut [u8], at: usize, list: &[u16], s: usize) -> usize
-    requires { (4 * s ≤ length list.now) × (at + length (step_lines list.now 0 s) ≤ length out.old) }
-    ensures { Puts out.old out.new at result (step_lines list.now 0 s) }
-{
-    let mut n = at;
-    let mut from: usize = 0;
-    for k in 0..s {
-        n = put_step(out, n, list, from);
-        from += 4;
+    for step in list[..4 * s].chunks_exact(4) {
+        output.put_line(b"step=", step);
     }
-    n
 }
 
-// The count of steps, and a line for each; the place past them.
-fn put_list(out: &mut [u8], at: usize, list: &[u16], s: usize) -> usize
-    requires { ((s ≤ 65536) × (4 * s ≤ length list.now)) × (at + length (list_lines list.now s) ≤ length out.old) }
-    ensures { Puts out.old out.new at result (list_lines list.now s) }
+// The count of steps, and a line for each.
+fn put_list(output: &mut Output<'_>, list: &[u16], s: usize)
+    requires few { s ≤ 65536 }
+    requires inside { 4 * s ≤ length list.now }
+    requires room { HasRoom output.old (list_lines list.now s) }
+    ensures same_reference { output.new.bytes.ghost_name ≡ output.old.bytes.ghost_name }
+    ensures written { Writes output.old output.new (list_lines list.now s) }
 {
-    let n = put_number_line(out, at, b"steps=", s);
-    put_steps(out, n, list, s)
+    output.put_number_line(b"steps=", s);
+    put_steps(output, list, s);
 }
 
-// The text of the reduced table; the number of its bytes.
-fn put_left(out: &mut [u8], words: &[u16], marks: &[u8]) -> usize
-    requires { (MarksReady words.now marks.now) × (43022 ≤ length out.old) }
-    ensures { Puts out.old out.new 0 result (text_of (reduced words.now marks.now)) }
+// The text of the reduced table.
+fn put_left(output: &mut Output<'_>, words: &[u16], marks: &[u8])
+    requires ready { MarksReady words.now marks.now }
+    requires room { output.old.len + 43022 ≤ length output.old.bytes.now }
+    ensures same_reference { output.new.bytes.ghost_name ≡ output.old.bytes.ghost_name }
+    ensures written { Writes output.old output.new (text_of (reduced words.now marks.now)) }
 {
     let mut reduced = [0u16; 8192];
     let k = reduced_sizes::left_size(words, marks);
     reduced_copying::write_reduced(words, marks, &mut reduced);
-    put_text(out, &reduced[0..k])
+    output.put_text(&reduced[..k]);
 }
 
-// The output for a table that passed questions 1 to 8: its program reduced, and the steps; the number of its bytes.
-fn put_reduced(out: &mut [u8], words: &[u16]) -> usize
-    requires { (Passed words.now) × (output_bytes ≤ length out.old) }
-    ensures { Puts out.old out.new 0 result (reduced_text words.now) }
+// The output for a table that passed questions 1 to 8: its program reduced, and the steps.
+fn put_reduced(output: &mut Output<'_>, words: &[u16])
+    requires passed { Passed words.now }
+    requires room { output.old.len + 223170 ≤ length output.old.bytes.now }
+    ensures same_reference { output.new.bytes.ghost_name ≡ output.old.bytes.ghost_name }
+    ensures written { Writes output.old output.new (reduced_text words.now) }
 {
     let mut marks = [0u8; 8192];
     let mut list = [0u16; 32768];
     let answer = reducer::reduce_table(words, &mut marks, &mut list);
-    let Answer::Accepted(s) = answer else {
-        return 0;
+    let Ok(s) = answer else {
+        // Never: the marks and the list have room for every table.
+        return;
     };
-    let n = put_left(out, words, &marks);
-    put_list(out, n, &list, s)
+    put_left(output, words, &marks);
+    put_list(output, &list, s);
 }
 
 // The whole output for an input; the number of its bytes.
@@ -124,20 +127,19 @@ pub fn filter_text(text: &[u8], out: &mut [u8]) -> Printed
     ensures { Prints text.now out.old out.new result }
 {
     let mut words = [0u16; 8192];
-    let answer = text_reader::read_text(text, &mut words);
-    match answer {
-        Answer::Accepted(n) => {
-            let bytes = put_reduced(out, &words[0..n]);
+    let mut output = Output::new(out);
+    match text_reader::read_text(text, &mut words) {
+        Ok(n) => {
+            put_reduced(&mut output, &words[..n]);
             Printed {
-                bytes,
+                bytes: output.len,
                 refused: false,
             }
         }
-        Answer::Refused(r) => {
-            let number = answers::refusal_number(r);
-            let bytes = put_refused(out, number as usize, answers::refusal_place(r));
+        Err(refusal) => {
+            put_refused(&mut output, refusal);
             Printed {
-                bytes,
+                bytes: output.len,
                 refused: true,
             }
         }

@@ -9,6 +9,7 @@ ghost use Rattle.reduce_streams.specs.Streams.{text_read, status_of};
 use std::io;
 use std::io::{Read, Write};
 
+// A loop by hand: a read may give fewer bytes than there is room for, and `read_exact` doesn't tell how many came before the end.
 // Reads until the slice is full or the input ends; how many bytes. An error where a read fails.
 fn read_input<R: Read>(input: &mut R, text: &mut [u8]) -> io::Result<usize>
     ensures bound { IfOk result (λ n. n ≤ length text.new) }

@@ -1,69 +1,69 @@
-// What the marks leave of a table's program, copied as a table of its own.
+// What the marks leave of a table's program, copied as a table of its own. The words come one behind the other: `to` is the place of the next, and
+// each function gives the place past what it wrote; slices from there on would be cut anew in each caller, and say no more.
 #![tactic(auto)]
 
-ghost use Rattle.std.specs.Prelude.{◌≡◌, [], ◌∷◌, ◌+◌, ◌-◌, ◌≤◌, ◌<◌, length};
+ghost use Rattle.std.specs.Prelude.{◌≡◌, ◌+◌, ◌≤◌, length};
 ghost use Rattle.std.proofs.lemmas.List.Edits.{sets};
 ghost use Rattle.rewriting.specs.Marked.{left};
 ghost use Rattle.table.specs.Encoding.{clause_words, clauses_words};
-ghost use Rattle.table.specs.View.{part, entry_at, view};
+ghost use Rattle.table.specs.Slices.{kept_of};
+ghost use Rattle.table.specs.View.{entry_at, view};
 ghost use Rattle.reduced_sizes.specs.Leaves.{reduced};
-ghost use Rattle.reduced_sizes.specs.Parts.{kept_from, entry_words, ClauseRoom, Fits};
+ghost use Rattle.reduced_sizes.specs.Parts.{counts, entry_words, ClauseRoom, Fits};
 ghost use Rattle.reduced_marks.specs.Spans.{ClauseFits};
 
-// The words from `at` up to `end` whose mark is 1, written from `to` on; the place past them.
-fn copy_part(
-    words: &[u16],
-    marks: &[u8],
-    at: usize,
-    end: usize,
-    out: &mut [u16],
-    to: usize,
-) -> usize
-    requires { (at ≤ end) × ((end ≤ length words.now) × ((end ≤ length marks.now) × (to + length (part words.now marks.now at (end - at)) ≤ length out.old))) }
-    ensures { (result ≡ to + length (part words.now marks.now at (end - at))) × (out.new ≡ sets out.old to (part words.now marks.now at (end - at))) }
+// The words whose mark is 1, written from `to` on; the place past them.
+fn copy_part(words: &[u16], marks: &[u8], out: &mut [u16], to: usize) -> usize
+    requires { to + length (kept_of words.now marks.now) ≤ length out.old }
+    ensures place { result ≡ to + length (kept_of words.now marks.now) }
+    ensures written { out.new ≡ sets out.old to (kept_of words.now marks.now) }
 {
     let mut n = to;
-    for i in at..end {
-        let mark = marks[i];
-        if mark != 1 {
+    for (word, mark) in words.iter().zip(marks) {
+        if *mark != 1 {
             continue;
         }
-        out[n] = words[i];
+        out[n] = *word;
         n += 1;
     }
     n
 }
 
-// The three counts of a clause as left, whose parts run from `a` to `b`, from `b` to `c` and from `c` to `d`.
-fn write_counts(marks: &[u8], a: usize, b: usize, c: usize, d: usize, out: &mut [u16], to: usize)
-    requires { (a ≤ b) × ((b ≤ c) × ((c ≤ d) × ((d ≤ length marks.now) × ((d - a < 65536) × (to + 3 ≤ length out.old))))) }
-    ensures { out.new ≡ sets out.old to (kept_from marks.now a (b - a) ∷ kept_from marks.now b (c - b) ∷ kept_from marks.now c (d - c) ∷ []) }
+// The three counts of a clause as left, written from `to` on.
+fn write_counts(words: &[u16], marks: &[u8], at: usize, out: &mut [u16], to: usize)
+    requires fits { ClauseFits words.now marks.now at }
+    requires room { to + 3 ≤ length out.old }
+    ensures { out.new ≡ sets out.old to (counts (entry_at words.now marks.now at).clause) }
 {
-    out[to] = reduced_sizes::kept_in(marks, a, b);
-    out[to + 1] = reduced_sizes::kept_in(marks, b, c);
-    out[to + 2] = reduced_sizes::kept_in(marks, c, d);
+    let head = at + 3;
+    let pos = head + usize::from(words[at]);
+    let neg = pos + usize::from(words[at + 1]);
+    let end = neg + usize::from(words[at + 2]);
+    out[to] = reduced_sizes::kept_in(&marks[head..pos]);
+    out[to + 1] = reduced_sizes::kept_in(&marks[pos..neg]);
+    out[to + 2] = reduced_sizes::kept_in(&marks[neg..end]);
 }
 
 // The words of a clause that is kept, written from `to` on; the place past them.
 fn copy_clause(words: &[u16], marks: &[u8], at: usize, out: &mut [u16], to: usize) -> usize
-    requires { ClauseFits words.now marks.now at × (to + length (clause_words (entry_at words.now marks.now at).clause) ≤ length out.old) }
-    ensures { (result ≡ to + length (clause_words (entry_at words.now marks.now at).clause)) × (out.new ≡ sets out.old to (clause_words (entry_at words.now marks.now at).clause)) }
+    requires fits { ClauseFits words.now marks.now at }
+    requires room { to + length (clause_words (entry_at words.now marks.now at).clause) ≤ length out.old }
+    ensures place { result ≡ to + length (clause_words (entry_at words.now marks.now at).clause) }
+    ensures written { out.new ≡ sets out.old to (clause_words (entry_at words.now marks.now at).clause) }
 {
-    let a = at + 3;
-    let b = a + table::wide(words[at]);
-    let c = b + table::wide(words[at + 1]);
-    let d = c + table::wide(words[at + 2]);
-    write_counts(marks, a, b, c, d, out, to);
-    copy_part(words, marks, a, d, out, to + 3)
+    let atoms = at + 3;
+    let end = table::next_clause(words, at);
+    write_counts(words, marks, at, out, to);
+    copy_part(&words[atoms..end], &marks[atoms..end], out, to + 3)
 }
 
 // The words of a clause as left, written from `to` on; the place past them.
 fn copy_entry(words: &[u16], marks: &[u8], at: usize, out: &mut [u16], to: usize) -> usize
     requires { ClauseRoom words.now marks.now out.old at to }
-    ensures { (result ≡ to + length (entry_words (entry_at words.now marks.now at))) × (out.new ≡ sets out.old to (entry_words (entry_at words.now marks.now at))) }
+    ensures place { result ≡ to + length (entry_words (entry_at words.now marks.now at)) }
+    ensures written { out.new ≡ sets out.old to (entry_words (entry_at words.now marks.now at)) }
 {
-    let first = marks[at];
-    if first != 1 {
+    if marks[at] != 1 {
         return to;
     }
     copy_clause(words, marks, at, out, to)
@@ -74,10 +74,9 @@ fn copy_clauses(words: &[u16], marks: &[u8], out: &mut [u16])
     requires { Fits words.now marks.now out.old }
     ensures { out.new ≡ sets out.old 2 (clauses_words (left (view words.now marks.now))) }
 {
-    let clauses = words[1];
     let mut at: usize = 2;
     let mut to: usize = 2;
-    for k in 0..clauses {
+    for k in 0..words[1] {
         to = copy_entry(words, marks, at, out, to);
         at = table::next_clause(words, at);
     }

@@ -1,9 +1,8 @@
 -- Question 10: the marks that are allowed, and the first that is not.
-use Rattle.std.specs.Prelude.{Bool, false, ◌&&◌, ◌||◌, List, ℕ, zero, suc, ◌+◌, eqb, ltb, leb, get_or}
+use Rattle.std.specs.Prelude.{Bool, false, ◌&&◌, ◌||◌, List, ℕ, zero, suc, ◌+◌, eqb, ltb, leb, get_or, Ok, Err}
 use Rattle.answers.specs.declared.WordQuestion.TheVariants.{MarkAllowed}
 use Rattle.answers.specs.declared.Refusal.TheVariants.{Word}
-use Rattle.table.specs.declared.Walk.{Walk}
-use Rattle.table.specs.declared.Walk.TheVariants.{To, Stop}
+use Rattle.table.specs.Questions.{Walk}
 use Rattle.answers.specs.Answers.{ask}
 use Rattle.table.specs.Places.{head_at, next_at}
 
@@ -26,5 +25,5 @@ allowed ws ms = allowed_where (clearable_from ws (get_or ws 1 0) 2) ms
 
 -- "(place of the first that isn't)": the test is asked of `left` words from `at`
 unfoldable pub marks_from : (ℕ → Bool) → ℕ → ℕ → Walk
-marks_from f at zero = To at
-marks_from f at (suc left) = ask Stop (f at) (Word MarkAllowed at) (marks_from f (at + 1) left)
+marks_from f at zero = Ok at
+marks_from f at (suc left) = ask Err (f at) (Word MarkAllowed at) (marks_from f (at + 1) left)

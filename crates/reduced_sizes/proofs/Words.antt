@@ -1,5 +1,5 @@
 -- Laws of the reduced table's words: one mark, one clause, all clauses.
-use mathlib.Core.Path.{◌≡◌, refl, sym, ap, ◌∙◌}
+use mathlib.Core.Path.{◌≡◌, refl, sym, ap, ap₂, ◌∙◌}
 use mathlib.Core.Logic.{by_cases}
 use mathlib.Core.Bool.{Bool, true, false, cond}
 use mathlib.Core.List.{List, [], ◌∷◌, ◌++◌}
@@ -8,18 +8,20 @@ use native.Mathlib.Omega.{arith}
 use native.Mathlib.Decide.{ℕ_discrete}
 use native.Mathlib.Numerals.{add-one}
 use lib.Dec.{eqb}
-use lib.ListN.{length, get_or, length-append}
-use lib.Seq.{sets}
+use lib.ListN.{length, get_or, take, drop, length-append}
+use lib.Seq.{sets, drop-cons}
+use Rattle.std.specs.List.{count_by}
+use Rattle.std.proofs.lemmas.List.Sums.{sum_by-cons}
 use borrow.Author.Tests.{eq-eqb, ne_eqb}
 use Rattle.semantics.specs.Lists.{bit}
 use Rattle.semantics.proofs.Tests.{bit_bound}
 use Rattle.rewriting.specs.Marked.{Entry, Marked, left}
 use Rattle.table.proofs.Slices.{sets_append}
 use Rattle.table.specs.Encoding.{clause_words, clauses_words}
-use Rattle.table.specs.Places.{head_at, pos_at, neg_at, next_at}
+use Rattle.table.specs.Places.{head_at, next_at}
 use Rattle.table.specs.View.{part, entry_at, entries_from}
 use Rattle.table.proofs.Laws.{one_left}
-use Rattle.reduced_sizes.specs.Parts.{kept_from, entry_words}
+use Rattle.reduced_sizes.specs.Parts.{kept_from, counts, entry_words}
 
 -- ---- one mark
 
@@ -45,18 +47,18 @@ length_part ws ms at (suc k) = go (eqb (get_or ms at 0) 1) (length_part ws ms (s
     go true r = omega arith
     go false r = omega arith
 
-module _ (ms : List ℕ) (i e : ℕ) (h : i < e) where
-  pub kept_yes : get_or ms i 0 ≡ 1 → kept_from ms i (e - i) ≡ 1 + kept_from ms (i + 1) (e - (i + 1))
-  unfolding kept_from
-  kept_yes q = rw (one_left i e h, eq-eqb _ _ q, add-one)
-
-  pub kept_no : (get_or ms i 0 ≡ 1 → ⊥) → kept_from ms i (e - i) ≡ kept_from ms (i + 1) (e - (i + 1))
-  unfolding kept_from
-  kept_no q = rw (one_left i e h, ne_eqb _ _ q, add-one) (omega arith)
-
-pub kept_end : (ms : List ℕ) (i e : ℕ) → e ≤ i → kept_from ms i (e - i) ≡ 0
+-- the marks between two places, counted as a list
+kept_slice : (ms : List ℕ) (at k : ℕ) → at + k ≤ length ms → count_by (λ m. eqb m 1) (take k (drop at ms)) ≡ kept_from ms at k
 unfolding kept_from
-kept_end ms i e h = let z : e - i ≡ 0 = omega arith in rw z
+kept_slice ms at zero h = refl
+kept_slice ms at (suc k) h = rw (drop-cons ms at 0 (omega arith)) (sum_by-cons (λ m. cond (eqb m 1) 1 0) (get_or ms at 0) (take k (drop (suc at) ms)) ∙ ap₂ (λ a b. a + b) (one (eqb (get_or ms at 0) 1)) (kept_slice ms (suc at) k (omega arith)))
+  where
+    one : (t : Bool) → cond t 1 0 ≡ bit t
+    one true = refl
+    one false = refl
+
+pub kept_between : (ms : List ℕ) (a b : ℕ) → a ≤ b → b ≤ length ms → count_by (λ m. eqb m 1) (take (b - a) (drop a ms)) ≡ kept_from ms a (b - a)
+kept_between ms a b h l = kept_slice ms a (b - a) (omega arith)
 
 pub kept_le : (ms : List ℕ) (at k : ℕ) → kept_from ms at k ≤ k
 unfolding kept_from
@@ -91,38 +93,41 @@ module _ (ws ms : List ℕ) (at : ℕ) where
   unfolding entry_words entry_at
   entry_kept q = rw (eq-eqb _ _ q)
 
--- the counts and the rest of a clause whose parts run from a to b, from b to c and from c to d
-pub clause_words_lem : (ws ms : List ℕ) (at a b c d : ℕ) → a ≡ head_at at → b ≡ pos_at ws at → c ≡ neg_at ws at → d ≡ next_at ws at
-    → clause_words (entry_at ws ms at).clause ≡ (kept_from ms a (b - a) ∷ kept_from ms b (c - b) ∷ kept_from ms c (d - c) ∷ []) ++ part ws ms a (d - a)
+-- a part's marks at 1 are as many as its atoms that are left
+pub part_count : (ws ms : List ℕ) (a b k : ℕ) → b ≡ a + k → b ≤ length ms → count_by (λ m. eqb m 1) (take (b - a) (drop a ms)) ≡ length (part ws ms a k)
+part_count ws ms a b k e l =
+    let q : b - a ≡ k = omega arith in
+    kept_between ms a b (omega arith) l ∙ ap (kept_from ms a) q ∙ sym (length_part ws ms a k)
+
+-- the counts and the rest of a clause, whose atoms are from a to d
+pub clause_words_lem : (ws ms : List ℕ) (at a d : ℕ) → a ≡ head_at at → d ≡ next_at ws at
+    → clause_words (entry_at ws ms at).clause ≡ counts (entry_at ws ms at).clause ++ part ws ms a (d - a)
 unfolding entry_at
-clause_words_lem ws ms at a b c d e f g h =
+clause_words_lem ws ms at a d e h =
     let H = get_or ws at 0 in
     let P = get_or ws (at + 1) 0 in
     let Q = get_or ws (at + 2) 0 in
-    let x : b - a ≡ H = omega arith in
-    let y : c - b ≡ P = omega arith in
-    let z : d - c ≡ Q = omega arith in
     let w : d - a ≡ H + (P + Q) = omega arith in
-    rw (x, y, z, w, e, f, g, part_append ws ms (head_at at) H (P + Q), part_append ws ms (head_at at + H) P Q, length_part ws ms (head_at at) H, length_part ws ms (pos_at ws at) P, length_part ws ms (neg_at ws at) Q)
+    rw (w, e, part_append ws ms (head_at at) H (P + Q), part_append ws ms (head_at at + H) P Q)
 
 -- where the clause fits, so does what follows its counts
 pub clause_room : (ws ms : List ℕ) (at to a d n : ℕ) → a ≡ head_at at → d ≡ next_at ws at → to + length (clause_words (entry_at ws ms at).clause) ≤ n → to + 3 + length (part ws ms a (d - a)) ≤ n
-clause_room ws ms at to a d n x w h = omega (arith, ap length (clause_words_lem ws ms at a (pos_at ws at) (neg_at ws at) d x refl refl w))
+clause_room ws ms at to a d n x w h = omega (arith, ap length (clause_words_lem ws ms at a d x w))
 
 -- the place past it
 pub clause_past : (ws ms : List ℕ) (at to a d e : ℕ) → a ≡ head_at at → d ≡ next_at ws at → e ≡ to + 3 + length (part ws ms a (d - a)) → e ≡ to + length (clause_words (entry_at ws ms at).clause)
-clause_past ws ms at to a d e x w h = omega (arith, ap length (clause_words_lem ws ms at a (pos_at ws at) (neg_at ws at) d x refl refl w))
+clause_past ws ms at to a d e x w h = omega (arith, ap length (clause_words_lem ws ms at a d x w))
 
 -- the counts are stored, then the rest
-pub clause_stored : (ws ms out o e : List ℕ) (at to a b c d : ℕ) → o ≡ sets out to (kept_from ms a (b - a) ∷ kept_from ms b (c - b) ∷ kept_from ms c (d - c) ∷ [])
-    → e ≡ sets o (to + 3) (part ws ms a (d - a)) → a ≡ head_at at → b ≡ pos_at ws at → c ≡ neg_at ws at → d ≡ next_at ws at → e ≡ sets out to (clause_words (entry_at ws ms at).clause)
-clause_stored ws ms out o e at to a b c d h g x y z w =
-    let xs = kept_from ms a (b - a) ∷ kept_from ms b (c - b) ∷ kept_from ms c (d - c) ∷ [] in
-    g ∙ sets_next out o to (to + 3) (clause_words (entry_at ws ms at).clause) xs (part ws ms a (d - a)) _ (clause_words_lem ws ms at a b c d x y z w) refl h refl
+pub clause_stored : (ws ms out o e : List ℕ) (at to a d : ℕ) → o ≡ sets out to (counts (entry_at ws ms at).clause) → e ≡ sets o (to + 3) (part ws ms a (d - a)) → a ≡ head_at at → d ≡ next_at ws at
+    → e ≡ sets out to (clause_words (entry_at ws ms at).clause)
+clause_stored ws ms out o e at to a d h g x w =
+    let c = (entry_at ws ms at).clause in
+    g ∙ sets_next out o to (to + 3) (clause_words c) (counts c) (part ws ms a (d - a)) _ (clause_words_lem ws ms at a d x w) refl h refl
 
 -- its size
 pub entry_size : (ws ms : List ℕ) (at : ℕ) → get_or ms at 0 ≡ 1 → length (entry_words (entry_at ws ms at)) ≡ 3 + kept_from ms (at + 3) (next_at ws at - (at + 3))
-entry_size ws ms at q = ap length (entry_kept ws ms at q ∙ clause_words_lem ws ms at (at + 3) (pos_at ws at) (neg_at ws at) (next_at ws at) refl refl refl refl)
+entry_size ws ms at q = ap length (entry_kept ws ms at q ∙ clause_words_lem ws ms at (at + 3) (next_at ws at) refl refl)
     ∙ omega (arith, length_part ws ms (at + 3) (next_at ws at - (at + 3)))
 
 -- no clause grows
@@ -149,10 +154,6 @@ count_cons e P = go e.kept
     go true = omega arith
     go false = omega arith
 
-one_kept : (ws ms : List ℕ) (at : ℕ) → kept_from ms at (at + 1 - at) ≡ bit (entry_at ws ms at).kept
-unfolding kept_from entry_at
-one_kept ws ms at = let q : at + 1 - at ≡ suc zero = omega arith in rw q (omega arith)
-
 -- clause k, at `at`, and then those from b on
 module _ (ws ms : List ℕ) (k m at b : ℕ) (h : k < m) (q : b ≡ next_at ws at) where
   pub left_on : clauses_words (left (entries_from ws ms (m - k) at)) ≡ entry_words (entry_at ws ms at) ++ clauses_words (left (entries_from ws ms (m - (k + 1)) b))
@@ -167,9 +168,9 @@ module _ (ws ms : List ℕ) (k m at b : ℕ) (h : k < m) (q : b ≡ next_at ws a
   pub size_on : length (clauses_words (left (entries_from ws ms (m - k) at))) ≡ length (entry_words (entry_at ws ms at)) + length (clauses_words (left (entries_from ws ms (m - (k + 1)) b)))
   size_on = ap length left_on ∙ length-append (entry_words (entry_at ws ms at)) (clauses_words (left (entries_from ws ms (m - (k + 1)) b)))
 
-  pub count_on : length (left (entries_from ws ms (m - k) at)) ≡ kept_from ms at (at + 1 - at) + length (left (entries_from ws ms (m - (k + 1)) b))
-  unfolding entries_from
-  count_on = rw (one_left k m h, one_kept ws ms at, q) (count_cons (entry_at ws ms at) (entries_from ws ms (m - (k + 1)) (next_at ws at)))
+  pub count_on : length (left (entries_from ws ms (m - k) at)) ≡ bit (eqb (get_or ms at 0) 1) + length (left (entries_from ws ms (m - (k + 1)) b))
+  unfolding entries_from entry_at
+  count_on = rw (one_left k m h, q) (count_cons (entry_at ws ms at) (entries_from ws ms (m - (k + 1)) (next_at ws at)))
 
 pub left_end : (ws ms : List ℕ) (k m at : ℕ) → m ≤ k → left (entries_from ws ms (m - k) at) ≡ []
 unfolding entries_from left

@@ -1,9 +1,8 @@
 -- The call for the reduced table: questions 9, 10 and 18, what it answers, and what it leaves in the slice lent for it.
-use Rattle.std.specs.Prelude.{List, ℕ, leb, length}
+use Rattle.std.specs.Prelude.{List, ℕ, leb, length, Ok, Err}
 use Rattle.answers.specs.declared.CallQuestion.TheVariants.{MarksLength, TableRoom}
 use Rattle.answers.specs.declared.Refusal.TheVariants.{Call}
-use Rattle.answers.specs.declared.Answer.{Answer}
-use Rattle.answers.specs.declared.Answer.TheVariants.{Accepted, Refused}
+use Rattle.answers.specs.Answers.{Answer}
 use Rattle.answers.specs.Answers.{ask, written_if}
 use Rattle.table.specs.Questions.{on_walk, table_of, on_table}
 use Rattle.reduced_marks.specs.Allowed.{allowed, marks_from}
@@ -13,15 +12,15 @@ use Rattle.reduced_sizes.specs.Leaves.{reduced}
 unfoldable pub marked_answer : List ℕ → List ℕ → List ℕ → Answer
 unfolding ask on_walk
 marked_answer ws ms out =
-    ask Refused (leb (length ws) (length ms)) (Call MarksLength)
-    (on_walk Refused (marks_from (allowed ws ms) 0 (length ws)) (λ _.
-    ask Refused (leb (length (reduced ws ms)) (length out)) (Call TableRoom)
-    (Accepted (length (reduced ws ms)))))
+    ask Err (leb (length ws) (length ms)) (Call MarksLength)
+    (on_walk Err (marks_from (allowed ws ms) 0 (length ws)) (λ _.
+    ask Err (leb (length (reduced ws ms)) (length out)) (Call TableRoom)
+    (Ok (length (reduced ws ms)))))
 
 -- "Every call on a table asks 1 to 8 first, then its own"
 unfoldable pub reduced_answer : List ℕ → List ℕ → List ℕ → Answer
 unfolding on_table marked_answer
-reduced_answer ws ms out = on_table Refused (table_of ws) (marked_answer ws ms out)
+reduced_answer ws ms out = on_table Err (table_of ws) (marked_answer ws ms out)
 
 -- the slice after the call
 unfoldable pub reduced_out : List ℕ → List ℕ → List ℕ → List ℕ

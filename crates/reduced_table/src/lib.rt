@@ -8,29 +8,23 @@ ghost use Rattle.reduced_table.specs.Reduced.{marked_answer, reduced_answer, red
 ghost use Rattle.reduced_sizes.specs.Leaves.{reduced};
 
 use answers::{Answer, CallQuestion, Refusal};
-use table::{Checked, Walk};
 
 // Questions 9, 10 and 18, then the reduced table.
 fn compact(words: &[u16], marks: &[u8], out: &mut [u16]) -> Answer
     requires { Passed words.now }
-    ensures { (result ≡ marked_answer words.now marks.now out.old) × (out.new ≡ written_if (marked_answer words.now marks.now out.old) (reduced words.now marks.now) out.old) }
+    ensures answer { result ≡ marked_answer words.now marks.now out.old }
+    ensures out { out.new ≡ written_if (marked_answer words.now marks.now out.old) (reduced words.now marks.now) out.old }
 {
     if marks.len() < words.len() {
-        return Answer::Refused(Refusal::Call(CallQuestion::MarksLength));
+        return Err(Refusal::Call(CallQuestion::MarksLength));
     }
-    let walk = reduced_marks::check_marks(words, marks);
-    let Walk::To(_) = walk else {
-        let Walk::Stop(r) = walk else {
-            return Answer::Accepted(0);
-        };
-        return Answer::Refused(r);
-    };
+    reduced_marks::check_marks(words, marks)?;
     let size = reduced_sizes::left_size(words, marks);
     if out.len() < size {
-        return Answer::Refused(Refusal::Call(CallQuestion::TableRoom));
+        return Err(Refusal::Call(CallQuestion::TableRoom));
     }
     reduced_copying::write_reduced(words, marks, out);
-    Answer::Accepted(size)
+    Ok(size)
 }
 
 // The reduced table. A refused call changes nothing.
@@ -38,11 +32,8 @@ pub fn reduced_table(words: &[u16], marks: &[u8], out: &mut [u16]) -> Answer
     ensures { (result ≡ reduced_answer words.now marks.now out.old) × (out.new ≡ reduced_out words.now marks.now out.old) }
 {
     let checked = table_questions::check_table(words);
-    let Checked::Valid(_) = checked else {
-        let Checked::Refused(r) = checked else {
-            return Answer::Accepted(0);
-        };
-        return Answer::Refused(r);
+    let Ok(_) = checked else {
+        return checked.map(|_| 0);
     };
     compact(words, marks, out)
 }

@@ -15,7 +15,6 @@ use Rattle.rewriting.specs.Search.{reduce, first_step}
 use Rattle.rewriting.specs.Measure.{measure}
 use Rattle.rewriting.proofs.Search.{first_step_some}
 use Rattle.rewriting.proofs.Equal.{eligible_applies}
-use Rattle.rewriting.proofs.Rows.{kind_of_number, number_bounds}
 use Rattle.rewriting.proofs.Measure.{step_less}
 use Rattle.table.specs.Questions.{Passed}
 use Rattle.table.specs.View.{view}
@@ -24,9 +23,8 @@ use Rattle.table.proofs.View.{view_after, length_after}
 use Rattle.table.proofs.Parts.{view_tidy}
 use Rattle.step_conditions.specs.declared.Step as row
 use Rattle.step_conditions.specs.Known.{step_of}
-use Rattle.search_targets.specs.declared.Found.TheVariants.{One}
+use Rattle.std.specs.Prelude.{Some}
 use Rattle.search_targets.specs.Searches.{found_of}
-use Rattle.step_kinds.proofs.Numbers.{known_number}
 use Rattle.reducer_results.specs.Reductions.{room, steps_of}
 use Rattle.table.specs.StepWords.{words_of}
 use Rattle.reducer.specs.Runs.{Begun, Reduced, StepFound}
@@ -59,18 +57,16 @@ running_none ws ms ls l b = record {
     same = rw (sub-zero, b.whole)
 
 -- a step that was found
-pub found_made : (ws ms : List ℕ) (s : row.Step) → One s ≡ found_of (first_step (get_or ws 0 0) (view ws ms)) → StepFound ws ms s × (first_step (get_or ws 0 0) (view ws ms) ≡ some (step_of s))
+pub found_made : (ws ms : List ℕ) (s : row.Step) → Some s ≡ found_of (first_step (get_or ws 0 0) (view ws ms)) → StepFound ws ms s × (first_step (get_or ws 0 0) (view ws ms) ≡ some (step_of s))
 unfolding found_of
 found_made ws ms s e = go (first_step (get_or ws 0 0) (view ws ms)) refl e
   where
-    go : (x : Option Step) → first_step (get_or ws 0 0) (view ws ms) ≡ x → One s ≡ found_of x → StepFound ws ms s × (first_step (get_or ws 0 0) (view ws ms) ≡ some (step_of s))
+    go : (x : Option Step) → first_step (get_or ws 0 0) (view ws ms) ≡ x → Some s ≡ found_of x → StepFound ws ms s × (first_step (get_or ws 0 0) (view ws ms) ≡ some (step_of s))
     go none q h = absurd (let z : ◌≡◌ {A = ℕ} 0 1 = cc in omega arith)
     go (some u) q h =
-        let r : s ≡ record { kind = number u.kind; target = u.target; partner = u.partner; atom = u.atom } = cc in
-        let k : step_of s ≡ u = ap step_of r ∙ ap (λ k. record { kind = k; target = u.target; partner = u.partner; atom = u.atom }) (kind_of_number u.kind) in
-        let b = number_bounds u.kind in
-        let e = ap (λ x. x.kind) r in
-        (record { low = omega (arith, b.0, e); high = omega (arith, b.1, e); applies = subst (λ v. So (applies (get_or ws 0 0) (view ws ms) v)) (sym k) (eligible_applies (get_or ws 0 0) (view ws ms) u (first_step_some (get_or ws 0 0) (view ws ms) u q).applicable) }, q ∙ ap some (sym k))
+        let r : s ≡ record { kind = u.kind; target = u.target; partner = u.partner; atom = u.atom } = cc in
+        let k : step_of s ≡ u = ap step_of r in
+        (record { applies = subst (λ v. So (applies (get_or ws 0 0) (view ws ms) v)) (sym k) (eligible_applies (get_or ws 0 0) (view ws ms) u (first_step_some (get_or ws 0 0) (view ws ms) u q).applicable) }, q ∙ ap some (sym k))
 
 stops : (n k : ℕ) (P : Marked) → first_step n P ≡ none → reduce n k P ≡ []
 unfolding reduce
@@ -131,7 +127,5 @@ four_words ls at a b c d =
 
 -- a step that was found, written and made
 pub running_step : (ws ms₀ ls₀ ms ls : List ℕ) (s : ℕ) → Passed ws → Running ws ms₀ ls₀ ms ls s → (u : row.Step) → StepFound ws ms u → first_step (get_or ws 0 0) (view ws ms) ≡ some (step_of u)
-    → Running ws ms₀ ls₀ (marks_after ws ms (step_of u)) (sets ls (4 * s) (u.kind ∷ u.target ∷ u.partner ∷ u.atom ∷ [])) (s + 1)
-running_step ws ms₀ ls₀ ms ls s p r u t e =
-    subst (λ k. Running ws ms₀ ls₀ (marks_after ws ms (step_of u)) (sets ls (4 * s) (k ∷ u.target ∷ u.partner ∷ u.atom ∷ [])) (s + 1)) (known_number u.kind t.low t.high)
-    (running_on ws ms₀ ls₀ ms ls s p r (step_of u) t.applies e)
+    → Running ws ms₀ ls₀ (marks_after ws ms (step_of u)) (sets ls (4 * s) (number u.kind ∷ u.target ∷ u.partner ∷ u.atom ∷ [])) (s + 1)
+running_step ws ms₀ ls₀ ms ls s p r u t e = running_on ws ms₀ ls₀ ms ls s p r (step_of u) t.applies e

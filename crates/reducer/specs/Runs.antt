@@ -26,8 +26,6 @@ pub record AllOpen (flags : List ℕ) (m : ℕ) : Type 0 where
 
 -- A step that the search found.
 pub record StepFound (ws ms : List ℕ) (s : Step) : Type 0 where
-  pub low : 1 ≤ s.kind
-  pub high : s.kind ≤ 9
   pub applies : So (applies (get_or ws 0 0) (view ws ms) (step_of s))
 
 -- All marks are 1, and the list has room.

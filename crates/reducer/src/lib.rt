@@ -1,150 +1,201 @@
 // The reducer: the smallest applicable step that it does not pass over, again and again, until none applies. After each step what it opens is looked at again.
 #![tactic(auto)]
 
+ghost use Rattle.std.specs.Prelude.{◌≡◌, ◌+◌, ◌*◌, ◌≤◌, ◌<◌, length, replicate, ◌∷◌, []};
 ghost use Rattle.search_flags.specs.Flags.{all_flags};
-ghost use Rattle.std.specs.Prelude.{◌≡◌, ◌+◌, ◌*◌, ◌≤◌, ◌<◌, length, get_or, replicate, ◌∷◌, []};
 ghost use Rattle.std.proofs.lemmas.List.Edits.{sets};
-ghost use Rattle.rewriting.specs.Marked.{entry};
+ghost use Rattle.rewriting.specs.Kinds.{number};
 ghost use Rattle.table.specs.Questions.{Passed};
 ghost use Rattle.table.specs.View.{view};
 ghost use Rattle.table.specs.Clearing.{marks_without};
 ghost use Rattle.table.specs.Effects.{marks_after};
+ghost use Rattle.step_parts.specs.Reading.{atom_count, marks_of};
 ghost use Rattle.step_conditions.specs.Known.{step_of};
 ghost use Rattle.search_exclusion.specs.Smallest.{Idle};
-ghost use Rattle.search_keys.specs.State.{State};
+ghost use Rattle.search_openings.specs.Opened.{StepMade};
 ghost use Rattle.reducer_results.specs.Reductions.{room};
 ghost use Rattle.reducer_results.specs.Answered.{Answered};
+ghost use Rattle.reducer.specs.Memories.{StateIn};
 ghost use Rattle.reducer.specs.Runs.{AllOpen, Begun, Reduced, StepFound};
 
 use answers::{Answer, CallQuestion, Refusal};
-use search_targets::Found;
+use rewriting::Kind;
+use search_flags::{Flags, Row};
 use step_conditions::Step;
-use table::Checked;
+use step_parts::{Indexed, Marked};
+
+// What the reducer remembers beside the marks: the kept heads of each atom, the reach, and the flags.
+#[derive(Drop)]
+struct Memory {
+    heads: [u16; 1024],
+    reach: [u8; 1024],
+    flags: Flags,
+}
 
 // How many steps a reduction can have: the clauses plus all literals, which are the words but the first two and two of each clause.
 fn most_steps(words: &[u16]) -> usize
     requires { Passed words.now }
-    ensures { (result ≡ room words.now) × (result ≤ 8192) }
+    ensures room { result ≡ room words.now }
+    ensures within { result ≤ 8192 }
 {
-    words.len() - 2 - 2 * table::wide(words[1])
+    words.len() - 2 - 2 * usize::from(words[1])
 }
 
 // The step number s is written to the list.
 fn write_step(list: &mut [u16], s: usize, step: Step)
     requires { 4 * s + 3 < length list.old }
-    ensures { list.new ≡ sets list.old (4 * s) (step.kind ∷ step.target ∷ step.partner ∷ step.atom ∷ []) }
+    ensures { list.new ≡ sets list.old (4 * s) (number step.kind ∷ step.target ∷ step.partner ∷ step.atom ∷ []) }
 {
     let at = 4 * s;
-    list[at] = step.kind;
+    list[at] = step.kind.number();
     list[at + 1] = step.target;
     list[at + 2] = step.partner;
     list[at + 3] = step.atom;
 }
 
+// ---- what is known at first
+
 // Every target of kinds 1 and 2 is flagged, every key of kinds 3, 4, 5, 6 and 8 is fresh, and the reach is to be found.
-fn flag_kinds(flags: &mut [u16], m: usize)
-    requires { (flags.old ≡ replicate all_flags 0) × (m ≤ 2048) }
-    ensures { AllOpen flags.new m }
+fn flag_kinds(flags: &mut Flags, clauses: usize)
+    requires none { flags.old ≡ replicate all_flags 0 }
+    requires clauses { clauses ≤ 2048 }
+    ensures { AllOpen flags.new clauses }
 {
-    search_flags::flag(flags, 0, 0, 0);
-    search_flags::flag_all(flags, 1, m);
-    search_flags::flag_all(flags, 2, m);
-    search_flags::flag_all(flags, 11, 2048);
-    search_flags::flag_all(flags, 12, 2048);
-    search_flags::flag_all(flags, 13, 2048);
-    search_flags::flag_all(flags, 14, 2048);
-    search_flags::flag_all(flags, 16, 2048);
+    flags.flag(Row::Reach, 0, 0);
+    flags.flag_all(Row::Target(Kind::Tautology), clauses);
+    flags.flag_all(Row::Target(Kind::Contradiction), clauses);
+    flags.flag_all(Row::Key(Kind::Success), 2048);
+    flags.flag_all(Row::Key(Kind::NoHead), 2048);
+    flags.flag_all(Row::Key(Kind::Blocked), 2048);
+    flags.flag_all(Row::Key(Kind::Failure), 2048);
+    flags.flag_all(Row::Key(Kind::Subsumed), 2048);
+}
+
+// What is known of a program that no step was made in. It fills a memory that is lent: one returned would be copied, and stand on the stack again.
+fn begin(program: &Marked, memory: &mut Memory)
+    requires none { memory.old.flags ≡ replicate all_flags 0 }
+    requires heads { 1024 ≤ length memory.old.heads }
+    requires reach { 1024 ≤ length memory.old.reach }
+    ensures { StateIn program.now.table (marks_of program.now) memory.new }
+{
+    flag_kinds(&mut memory.flags, program.table.clause_count());
+    step_conditions::count_heads(program, &mut memory.heads);
 }
 
 // ---- the steps
 
 // A step of kind 9 is made: heads are counted anew, and what it opens is flagged.
-fn exclude(
-    words: &[u16],
-    marks: &mut [u8],
-    index: &[u16],
-    heads: &mut [u16],
-    reach: &[u8],
-    flags: &mut [u16],
-    idle: &mut [u8],
-    atom: u16,
-)
-    requires { (State words.now marks.old index.now heads.old reach.now flags.old) × (Idle (get_or words.now 0 0) (view words.now marks.old) idle.old) }
-    ensures { (marks.new ≡ marks_without words.now marks.old atom) × ((State words.now marks.new index.now heads.new reach.now flags.new) × (Idle (get_or words.now 0 0) (view words.now marks.new) idle.new)) }
+fn exclude(table: &Indexed, marks: &mut [u8], memory: &mut Memory, idle: &mut [u8], atom: u16)
+    requires state { StateIn table.now marks.old memory.old }
+    requires idle { Idle (atom_count table.now) (view table.now.words.now marks.old) idle.old }
+    ensures marks { marks.new ≡ marks_without table.now.words.now marks.old atom }
+    ensures state { StateIn table.now marks.new memory.new }
+    ensures idle { Idle (atom_count table.now) (view table.now.words.now marks.new) idle.new }
 {
-    search_idle::exclude_atom(words, marks, index, atom, idle);
-    step_conditions::count_heads(words, marks, index, heads);
-    search_removal::open_removal(words, marks, index, flags, atom);
+    search_idle::exclude_atom(table, marks, atom, idle);
+    let after = Marked {
+        table: *table,
+        marks,
+    };
+    step_conditions::count_heads(&after, &mut memory.heads);
+    search_removal::open_removal(&after, &mut memory.flags, atom);
+}
+
+// A step of another kind is made, and what it opens is flagged.
+fn apply_step(table: &Indexed, marks: &mut [u8], memory: &mut Memory, step: Step)
+    requires state { StateIn table.now marks.old memory.old }
+    requires made { StepMade table.now.words.now marks.old step }
+    ensures marks { marks.new ≡ marks_after table.now.words.now marks.old (step_of step) }
+    ensures state { StateIn table.now marks.new memory.new }
+{
+    search_openings::apply_step(
+        table,
+        marks,
+        &mut memory.heads,
+        &memory.reach,
+        &mut memory.flags,
+        step,
+    );
 }
 
 // A step that was found is made.
-fn make_step(
-    words: &[u16],
-    marks: &mut [u8],
-    index: &[u16],
-    heads: &mut [u16],
-    reach: &[u8],
-    flags: &mut [u16],
-    idle: &mut [u8],
-    step: Step,
-)
-    requires { (State words.now marks.old index.now heads.old reach.now flags.old) × ((Idle (get_or words.now 0 0) (view words.now marks.old) idle.old) × (StepFound words.now marks.old step)) }
-    ensures { (marks.new ≡ marks_after words.now marks.old (step_of step)) × ((State words.now marks.new index.now heads.new reach.now flags.new) × (Idle (get_or words.now 0 0) (view words.now marks.new) idle.new)) }
+fn make_step(table: &Indexed, marks: &mut [u8], memory: &mut Memory, idle: &mut [u8], step: Step)
+    requires state { StateIn table.now marks.old memory.old }
+    requires idle { Idle (atom_count table.now) (view table.now.words.now marks.old) idle.old }
+    requires found { StepFound table.now.words.now marks.old step }
+    ensures marks { marks.new ≡ marks_after table.now.words.now marks.old (step_of step) }
+    ensures state { StateIn table.now marks.new memory.new }
+    ensures idle { Idle (atom_count table.now) (view table.now.words.now marks.new) idle.new }
 {
-    if step.kind == 9 {
-        exclude(words, marks, index, heads, reach, flags, idle, step.atom);
-        return;
-    }
-    search_openings::apply_step(words, marks, index, heads, reach, flags, step);
-    if step.kind == 4 {
-        search_idle::forget_at(words, marks, index, table::wide(step.target), idle);
+    match step.kind {
+        Kind::Excluded => exclude(table, marks, memory, idle, step.atom),
+        Kind::NoHead => {
+            apply_step(table, marks, memory, step);
+            let after = Marked {
+                table: *table,
+                marks,
+            };
+            search_idle::forget_at(&after, usize::from(step.target), idle);
+        }
+        _ => apply_step(table, marks, memory, step),
     }
 }
 
 // Steps until none applies, and their number.
 fn run_steps(
-    words: &[u16],
+    table: &Indexed,
     marks: &mut [u8],
     list: &mut [u16],
-    index: &[u16],
-    heads: &mut [u16],
-    reach: &mut [u8],
-    flags: &mut [u16],
+    memory: &mut Memory,
     idle: &mut [u8],
-    m: usize,
 ) -> usize
-    requires { (State words.now marks.old index.now heads.old reach.old flags.old) × ((m ≡ get_or words.now 1 0) × ((Begun words.now marks.old list.old) × ((2048 ≤ length idle.old) × (Idle (get_or words.now 0 0) (view words.now marks.old) idle.old)))) }
-    ensures { Reduced words.now marks.old list.old marks.new list.new result }
+    requires state { StateIn table.now marks.old memory.old }
+    requires begun { Begun table.now.words.now marks.old list.old }
+    requires room { 2048 ≤ length idle.old }
+    requires idle { Idle (atom_count table.now) (view table.now.words.now marks.old) idle.old }
+    ensures { Reduced table.now.words.now marks.old list.old marks.new list.new result }
 {
     let mut s: usize = 0;
+    // No range: the loop ends where no step is found.
     loop {
-        let found = search_first::first_step(words, marks, index, heads, reach, flags, idle, m);
-        let Found::One(step) = found else {
+        let program = Marked {
+            table: *table,
+            marks,
+        };
+        let found = search_first::first_step(
+            &program,
+            &memory.heads,
+            &mut memory.reach,
+            &mut memory.flags,
+            idle,
+        );
+        let Some(step) = found else {
             return s;
         };
         write_step(list, s, step);
-        make_step(words, marks, index, heads, reach, flags, idle, step);
+        make_step(table, marks, memory, idle, step);
         s += 1;
     }
 }
 
 // The reduction of a table all of whose marks are 1.
 fn reduce_kept(words: &[u16], marks: &mut [u8], list: &mut [u16]) -> usize
-    requires { (Passed words.now) × ((length words.now ≤ length marks.old) × Begun words.now marks.old list.old) }
+    requires passed { Passed words.now }
+    requires marks { length words.now ≤ length marks.old }
+    requires begun { Begun words.now marks.old list.old }
     ensures { Reduced words.now marks.old list.old marks.new list.new result }
 {
-    let m = table::wide(words[1]);
     let mut index = [0u16; step_parts::INDEX];
-    let mut heads = [0u16; 1024];
-    let mut reach = [0u8; 1024];
-    let mut flags = [0u16; search_flags::FLAGS];
+    let table = Indexed::new(words, &mut index);
+    let program = Marked { table, marks };
+    let mut memory = Memory {
+        heads: [0; 1024],
+        reach: [0; 1024],
+        flags: Flags::new(),
+    };
+    begin(&program, &mut memory);
     let mut idle = [0u8; 2048];
-    step_parts::build_index(words, &mut index);
-    step_conditions::count_heads(words, marks, &index, &mut heads);
-    flag_kinds(&mut flags, m);
-    run_steps(
-        words, marks, list, &index, &mut heads, &mut reach, &mut flags, &mut idle, m,
-    )
+    run_steps(&table, marks, list, &mut memory, &mut idle)
 }
 
 // Reduces a table: questions 1 to 9 and 17, then the smallest applicable step that is not passed over, until none applies.
@@ -152,19 +203,16 @@ pub fn reduce_table(words: &[u16], marks: &mut [u8], list: &mut [u16]) -> Answer
     ensures { Answered words.now marks.old list.old marks.new list.new result }
 {
     let checked = table_questions::check_table(words);
-    let Checked::Valid(_) = checked else {
-        let Checked::Refused(r) = checked else {
-            return Answer::Accepted(0);
-        };
-        return Answer::Refused(r);
+    let Ok(_) = checked else {
+        return checked.map(|_| 0);
     };
     if marks.len() < words.len() {
-        return Answer::Refused(Refusal::Call(CallQuestion::MarksLength));
+        return Err(Refusal::Call(CallQuestion::MarksLength));
     }
     let steps = most_steps(words);
     if list.len() < 4 * steps {
-        return Answer::Refused(Refusal::Call(CallQuestion::ListRoom));
+        return Err(Refusal::Call(CallQuestion::ListRoom));
     }
     step_conditions::keep_all(words, marks);
-    Answer::Accepted(reduce_kept(words, marks, list))
+    Ok(reduce_kept(words, marks, list))
 }

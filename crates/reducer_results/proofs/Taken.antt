@@ -27,7 +27,7 @@ use Rattle.table.proofs.Encoding.{valid_passed, passed_within}
 use Rattle.table.proofs.Measures.{measure_within}
 use Rattle.table.proofs.View.{view_after_all, length_after}
 use Rattle.table.proofs.Parts.{view_all_kept, view_tidy, length_all_kept}
-use Rattle.answers.specs.declared.Answer.TheVariants.{Accepted, Refused}
+use Rattle.std.specs.Prelude.{Ok, Err}
 use Rattle.answers.specs.Answers.{ask, written}
 use Rattle.answers.proofs.Asked.{ask_part, ask_taken}
 use Rattle.answers.proofs.Slices.{sets_written}
@@ -48,14 +48,14 @@ pub record ReducerTaken (ws ms ls : List ℕ) (s : ℕ) : Type 0 where
 
 -- the answer by its questions
 pub reduction_answer : (ws ms ls : List ℕ) → (reduction ws ms ls).answer
-    ≡ on_table Refused (table_of ws) (ask Refused (leb (length ws) (length ms)) (Call MarksLength) (ask Refused (leb (4 * room ws) (length ls)) (Call ListRoom) (Accepted (length (steps_of ws)))))
+    ≡ on_table Err (table_of ws) (ask Err (leb (length ws) (length ms)) (Call MarksLength) (ask Err (leb (4 * room ws) (length ls)) (Call ListRoom) (Ok (length (steps_of ws)))))
 unfolding reduction
 reduction_answer ws ms ls =
     table_part (λ x. x.answer) (leaving_both ms ls) (table_of ws) _
-    ∙ ap (on_table Refused (table_of ws)) (ask_part (λ x. x.answer) (leaving_both ms ls) (leb (length ws) (length ms)) (Call MarksLength) _
-    ∙ ap (ask Refused (leb (length ws) (length ms)) (Call MarksLength)) (ask_part (λ x. x.answer) (leaving_both ms ls) (leb (4 * room ws) (length ls)) (Call ListRoom) _))
+    ∙ ap (on_table Err (table_of ws)) (ask_part (λ x. x.answer) (leaving_both ms ls) (leb (length ws) (length ms)) (Call MarksLength) _
+    ∙ ap (ask Err (leb (length ws) (length ms)) (Call MarksLength)) (ask_part (λ x. x.answer) (leaving_both ms ls) (leb (4 * room ws) (length ls)) (Call ListRoom) _))
 
-pub reducer_taken : (ws ms ls : List ℕ) (s : ℕ) → (reduction ws ms ls).answer ≡ Accepted s → ReducerTaken ws ms ls s
+pub reducer_taken : (ws ms ls : List ℕ) (s : ℕ) → (reduction ws ms ls).answer ≡ Ok s → ReducerTaken ws ms ls s
 unfolding reduction on_table ask
 reducer_taken ws ms ls s h =
     let (t, e, a) = on_taken (table_of ws) _ s (sym (reduction_answer ws ms ls) ∙ h) in
@@ -71,7 +71,7 @@ reducer_taken ws ms ls s h =
     }
 
 -- A call that passes its questions is taken, with the number of steps of its list.
-pub always_taken : (ws ms ls : List ℕ) → Passed ws → length ws ≤ length ms → 4 * room ws ≤ length ls → (reduction ws ms ls).answer ≡ Accepted (length (steps_of ws))
+pub always_taken : (ws ms ls : List ℕ) → Passed ws → length ws ≤ length ms → 4 * room ws ≤ length ls → (reduction ws ms ls).answer ≡ Ok (length (steps_of ws))
 unfolding reduction on_table ask
 always_taken ws ms ls p a b = rw (p.valid, le-leb (length ws) (length ms) a, le-leb (4 * room ws) (length ls) b)
 

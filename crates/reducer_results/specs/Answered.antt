@@ -1,6 +1,6 @@
 -- What the reducer's call is proved to leave.
 use Rattle.std.specs.Prelude.{◌≡◌, List, ℕ}
-use Rattle.answers.specs.declared.Answer.{Answer}
+use Rattle.answers.specs.Answers.{Answer}
 use Rattle.reducer_results.specs.Reductions.{reduction}
 
 -- A call's answer, and what it leaves in the marks and the list.

@@ -1,5 +1,5 @@
 -- What reducing a table comes to: its answer, and what the marks and the list hold afterwards.
-use Rattle.std.specs.Prelude.{List, [], ◌∷◌, ℕ, ◌+◌, ◌*◌, leb, length, get_or}
+use Rattle.std.specs.Prelude.{List, [], ◌∷◌, ℕ, ◌+◌, ◌*◌, leb, length, get_or, Ok, Err}
 use Rattle.semantics.specs.Programs.{Clause}
 use Rattle.rewriting.specs.Marked.{whole}
 use Rattle.rewriting.specs.Steps.{Step}
@@ -7,8 +7,7 @@ use Rattle.rewriting.specs.Search.{reduce}
 use Rattle.answers.specs.declared.CallQuestion.TheVariants.{MarksLength, ListRoom}
 use Rattle.answers.specs.declared.Refusal.{Refusal}
 use Rattle.answers.specs.declared.Refusal.TheVariants.{Call}
-use Rattle.answers.specs.declared.Answer.{Answer}
-use Rattle.answers.specs.declared.Answer.TheVariants.{Accepted, Refused}
+use Rattle.answers.specs.Answers.{Answer}
 use Rattle.answers.specs.Answers.{ask, written}
 use Rattle.table.specs.Questions.{table_of, on_table}
 use Rattle.table.specs.Programs.{program_of}
@@ -36,12 +35,12 @@ pub record Reduction : Type 0 where
 
 -- "Every other refusal changes nothing."
 abbrev pub leaving_both : List ℕ → List ℕ → Refusal → Reduction
-leaving_both ms ls r = record { answer = Refused r; marks = ms; list = ls }
+leaving_both ms ls r = record { answer = Err r; marks = ms; list = ls }
 
 -- "Its result carries the number s of steps made; the list's first 4s words are written, later words don't change, and the table's
 -- marks are those after the s steps."
 abbrev pub reduced_by_lem : List ℕ → List ℕ → List ℕ → List Step → Reduction
-reduced_by_lem ws ms ls l = record { answer = Accepted (length l); marks = marks_after_all ws (all_kept ws ms) l; list = written (words_of l) ls }
+reduced_by_lem ws ms ls l = record { answer = Ok (length l); marks = marks_after_all ws (all_kept ws ms) l; list = written (words_of l) ls }
 
 -- "Reducing: 9, then 17 Has the list at least 4 times (m plus all body literals) words?", which by slip 8 "counts all literals"
 unfoldable pub reduction : List ℕ → List ℕ → List ℕ → Reduction

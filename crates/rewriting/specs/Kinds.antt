@@ -1,8 +1,38 @@
 -- The eight kinds of step of document 01 and kind 9 of slip 8 of document 02: what each uses, what it does and what it asks for, a line a kind.
 use Rattle.std.specs.Prelude.{Bool, true, false, ℕ, zero, suc}
+use Rattle.rewriting.specs.declared.Kind.{Kind as CodeKind}
+use Rattle.rewriting.specs.declared.Kind.TheVariants.{Tautology, Contradiction, Success, NoHead, Blocked, Failure, Loop, Subsumed, Excluded}
 
-pub data Kind : Type 0 where
-  tautology contradiction success no_head blocked failure loop subsumed excluded : Kind
+-- the kinds of the code, under the names that specs and proofs give them
+abbrev pub Kind : Type 0
+Kind = CodeKind
+
+pattern abbrev pub tautology : Kind
+tautology = Tautology
+
+pattern abbrev pub contradiction : Kind
+contradiction = Contradiction
+
+pattern abbrev pub success : Kind
+success = Success
+
+pattern abbrev pub no_head : Kind
+no_head = NoHead
+
+pattern abbrev pub blocked : Kind
+blocked = Blocked
+
+pattern abbrev pub failure : Kind
+failure = Failure
+
+pattern abbrev pub loop : Kind
+loop = Loop
+
+pattern abbrev pub subsumed : Kind
+subsumed = Subsumed
+
+pattern abbrev pub excluded : Kind
+excluded = Excluded
 
 -- What a step does to its target: "delete", or "drop it" from the positive or the negative body; or, by slip 8, to every kept clause: it "deletes kept clauses with a in the positive
 -- body and drops a from the heads and negative bodies of the other kept ones".

@@ -10,3 +10,4 @@ pub mod Runs
 pub mod Reducer
 pub mod Search
 pub mod Measure
+pub mod Numbered

@@ -1,22 +1,22 @@
 -- An atom is put back: it is counted on place by place; and the first clause that lacks no atom, with fewer atoms and with more.
-use mathlib.Core.Path.{◌≡◌, refl, sym, subst, ◌∙◌}
+use mathlib.Core.Path.{◌≡◌, refl, sym, ap, subst, ◌∙◌}
 use mathlib.Core.Logic.{by_cases}
-use mathlib.Core.Bool.{not, So}
-use mathlib.Core.List.Memᴰ
-use mathlib.Core.List.{List, [], ◌∷◌}
-use Prim.Native.Nat.{ℕ, ◌+◌, ◌≤◌, ◌<◌}
+use mathlib.Core.Bool.{So}
+use mathlib.Core.List.{List}
+use Prim.Native.Nat.{ℕ, min, ◌+◌, ◌≤◌, ◌<◌}
 use native.Mathlib.Omega.{arith}
 use native.Mathlib.Decide.{ℕ_discrete, dec_lt}
-use lib.Dec.{ltb}
-use lib.ListN.{length, get_or, set, take}
-use lib.Seq.{get_or-set_same, get_or-set_other}
-use borrow.Author.Tests.{eq-eqb, ne_eqb, ltb-true}
-use Rattle.semantics.specs.Lists.{◌∈◌, mem, ascending}
-use Rattle.semantics.proofs.Tests.{and_iff, all_iff, count_bound}
+use lib.ListN.{length, get_or, set, take, length-take}
+use lib.Seq.{get_or-set_same, get_or-set_other, get_or-take}
+use borrow.Author.Tests.{eqb-true, eq-eqb, ne_eqb}
+use Rattle.std.specs.Prelude.{Option, Some, None}
+use Rattle.std.specs.Option.{MatchOption, unwrap_or}
+use Rattle.std.specs.List.{zip, AllWithin, HoldsAt}
+use Rattle.std.proofs.lemmas.Slice.Zip.{get_or-zip, length-zip}
+use Rattle.semantics.specs.Lists.{◌∈◌}
 use Rattle.rewriting.specs.Marked.{entry}
 use Rattle.table.specs.Questions.{Passed}
 use Rattle.table.specs.View.{view}
-use Rattle.table.proofs.Encoding.{passed_limits}
 use Rattle.table.proofs.Parts.{view_straight}
 use Rattle.step_parts.specs.Parts.{Stands, owner_at, Latest}
 use Rattle.step_parts.specs.declared.Part.TheVariants.{Pos}
@@ -24,42 +24,39 @@ use Rattle.step_parts.proofs.Index.{stands_in, stands_clause, stands_small, stan
 use Rattle.step_reach.specs.Bytes.{in_bytes}
 use Rattle.step_reach.specs.Counts.{lacks, ReachSettled}
 use Rattle.step_parts.proofs.Walk.{latest_less, latest_above}
-use Rattle.step_reach.proofs.Counts.{lacks_none, lacks_same, lacks_less}
+use Rattle.step_reach.proofs.Counts.{lacks_none, lacks_same, lacks_less, lacks_few}
 use Rattle.search_closure.specs.Back.{Counted, Full, First, Lowest, Lesser, CountedOn, Newest}
-
--- ---- counts
-
--- distinct atoms from `low` on and below n are few
-few_atoms_lem : (l : List ℕ) (low n : ℕ) → low ≤ n → So (ascending l) → ((a : ℕ) → a ∈ l → (low ≤ a) × (a < n)) → low + length l ≤ n
-unfolding ascending
-few_atoms_lem [] low n h s f = omega arith
-few_atoms_lem (x ∷ l) low n h s f =
-    let w = (and_iff _ _).0 s in
-    let (u, v) = f x (Memᴰ.head refl) in
-    let r = few_atoms_lem l (x + 1) n (omega arith) w.1 (λ a m. (let k = ltb-true x a ((all_iff (λ y. ltb x y) l).0 w.0 a m) in omega arith, (f a (Memᴰ.tail m)).1)) in
-    omega arith
-
--- a count is small
-lacks_few : (ws ms taken : List ℕ) (t : ℕ) → Passed ws → lacks ws ms taken t ≤ 1024
-lacks_few ws ms taken t p =
-    let s = view_straight ws ms p t in
-    let l = few_atoms_lem (entry (view ws ms) t).clause.pos 0 (get_or ws 0 0) (omega arith) s.pos (λ a m. (omega arith, s.pos_below a m)) in
-    omega (arith, l, count_bound (λ a. not (mem a taken)) (entry (view ws ms) t).clause.pos, (passed_limits ws p).few_atoms)
 
 -- ---- the first clause that lacks no atom
 
--- none before t is one, and t is none
-pub no_on : (Is : ℕ → Type 0) (t : ℕ) → ¬ Is t → ((u : ℕ) → u < t → ¬ Is u) → (u : ℕ) → u < t + 1 → ¬ Is u
-no_on Is t n h u l x = by_cases (ℕ_discrete u t) (λ e. n (subst Is e x)) (λ e. h u (omega arith) x)
+-- an asked-for byte and a count of 0
+abbrev pub IsFull : ℕ × ℕ → Type 0
+IsFull p = (p.0 ≡ 1) × (p.1 ≡ 0)
 
-module _ (can : List ℕ) (t left first : ℕ) where
-  -- `first`, where t is not a lesser one
-  pub lesser_first : (left ≡ 0 → So (in_bytes can t) → first ≤ t) → Lesser can t left first first
-  lesser_first n = record { within = omega arith; hit = λ l. absurd (omega arith); least = λ c z. n z c }
+-- by the bytes of the first m clauses beside their counts
+module _ (can missing : List ℕ) (m : ℕ) (l : m ≤ length can) (k : m ≤ length missing) where
+  abbrev pub pairs : List (ℕ × ℕ)
+  pairs = zip (take m can) missing
 
-  -- t
-  pub lesser_here : left ≡ 0 → get_or can t 0 ≡ 1 → t < first → Lesser can t left first t
-  lesser_here z c l = record { within = omega arith; hit = λ _. (refl, (eq-eqb _ _ c, z)); least = λ _ _. omega arith }
+  many : length pairs ≡ m
+  many = let few : length (take m can) ≡ m = simp length-take (omega arith) in length-zip (take m can) missing ∙ ap (λ x. min x (length missing)) few ∙ least
+    where
+      least : min m (length missing) ≡ m
+      least = omega arith
+
+  pair_at : (u : ℕ) → u < m → get_or pairs u (0, 0) ≡ (get_or can u 0, get_or missing u 0)
+  pair_at u h = get_or-zip (take m can) missing u (0, 0) (simp length-take (omega arith)) (omega arith) ∙ ap (λ x. (x, get_or missing u 0)) (get_or-take m can u 0 h)
+
+  pub first_by : (r : Option ℕ) → MatchOption r (AllWithin (λ p. IsFull p → ⊥) pairs 0 (length pairs)) (λ i. (i < length pairs) × HoldsAt IsFull pairs i × AllWithin (λ p. IsFull p → ⊥) pairs 0 i)
+      → First (λ t. So (in_bytes can t) × (get_or missing t 0 ≡ 0)) m (unwrap_or r m)
+  first_by None out = record { within = omega arith; hit = λ h. absurd (omega arith); before = λ u h x. subst (λ p. IsFull p → ⊥) (pair_at u h) (out u (0, 0) (omega arith) (omega (arith, many))) (eqb-true _ _ x.0, x.1) }
+  first_by (Some i) (h, hit, out) =
+      let few : i < m = omega (arith, many) in
+      record {
+        within = omega arith;
+        hit = λ _. let w = subst IsFull (pair_at i few) (hit (0, 0)) in (eq-eqb _ _ w.0, w.1);
+        before = λ u q x. subst (λ p. IsFull p → ⊥) (pair_at u (omega arith)) (out u (0, 0) (omega arith) q) (eqb-true _ _ x.0, x.1);
+      }
 
 -- a count of 0 says that no atom is lacked
 pub first_settled : (ws ms can : List ℕ) {s missing q : List ℕ} {top r : ℕ} → ReachSettled ws ms s missing q top → First (λ t. So (in_bytes can t) × (get_or missing t 0 ≡ 0)) (get_or ws 1 0) r → First (Full ws ms can (take top q)) (get_or ws 1 0) r
@@ -95,17 +92,6 @@ module _ (ws ms can : List ℕ) where
       before = λ u l x. f.before u (omega (arith, g.within)) (g.before u l x);
     }
 
--- ---- an atom is counted on at a place
-
-module _ (ms can missing : List ℕ) (t i first : ℕ) where
-  -- a place that is not kept
-  pub counted_past : (get_or ms i 0 ≡ 1 → ⊥) → CountedOn ms can missing t i first missing first
-  counted_past n = record { counts = rw (ne_eqb (get_or ms i 0) 1 n); here = λ e. absurd (n e); past = λ _. refl }
-
-  -- one that is kept
-  pub counted_here : get_or ms i 0 ≡ 1 → (u : ℕ) → u ≡ t → {r : ℕ} → Lesser can u (get_or missing u 0) first r → CountedOn ms can missing t i first (set missing u (get_or missing u 0 + 1)) r
-  counted_here e u h {r} l = record { counts = rw (eq-eqb (get_or ms i 0) 1 e, h); here = λ _. subst (λ v. Lesser can v (get_or missing v 0) first r) h l; past = λ n. absurd (n e) }
-
 -- ---- an atom is counted on, place by place
 
 -- Atom b is the last of the more atoms. The places above i where it stands in a positive body are counted on; least is the lesser of `first` and their clauses.
@@ -115,6 +101,9 @@ pub record CountingOn (ws ms can : List ℕ) (b : ℕ) (more fewer : List ℕ) (
   pub within : least ≤ first
   pub hit : least < first → Full ws ms can more least
   pub low : (t j : ℕ) → Stands ws Pos b t j → get_or ms j 0 ≡ 1 → i < j → So (in_bytes can t) → lacks ws ms more t ≡ 0 → least ≤ t
+
+pub counting_as : {ws ms can : List ℕ} {b : ℕ} {more fewer : List ℕ} {first i j : ℕ} {missing : List ℕ} {least : ℕ} → i ≡ j → CountingOn ws ms can b more fewer first i missing least → CountingOn ws ms can b more fewer first j missing least
+counting_as {ws} {ms} {can} {b} {more} {fewer} {first} {missing = missing} {least = least} e w = subst (λ k. CountingOn ws ms can b more fewer first k missing least) e w
 
 module _ (ws ms can index q : List ℕ) (k first : ℕ) (p : Passed ws) (new : Newest q k) where
   abbrev b : ℕ

@@ -6,25 +6,25 @@ use mathlib.Core.List.{List}
 use Prim.Native.Nat.{ℕ, ◌+◌, ◌≤◌, ◌<◌}
 use native.Mathlib.Omega.{arith}
 use native.Mathlib.Decide.{ℕ_discrete, dec_lt}
+use mir.Val.{bool_byte}
 use lib.Dec.{eqb, ltb}
 use lib.ListN.{length, get_or, set, take}
 use lib.Seq.{get_or-set_same, get_or-set_other}
-use borrow.Author.Tests.{eqb-true, eq-eqb, ne_eqb, lt-ltb, le-ltb}
+use borrow.Author.Tests.{eq-eqb, lt-ltb, le-ltb}
 use Rattle.semantics.specs.Lists.{all, null}
 use Rattle.semantics.specs.Programs.{Atoms}
 use Rattle.semantics.proofs.Tests.{and_iff, not_iff, all_iff}
 use Rattle.rewriting.specs.Marked.{Marked, entry, left}
-use Rattle.rewriting.specs.Exclusion.{plain_constraint}
 use Rattle.rewriting.proofs.Left.{kept_lt}
 use Rattle.rewriting.proofs.Exclusion.{excludes_iff}
 use Rattle.table.specs.View.{view}
 use Rattle.step_reach.specs.Bytes.{in_bytes}
 use Rattle.step_reach.specs.Counts.{Queued, WithSettled}
+use Rattle.step_reach.proofs.Queue.{queued_same}
 use Rattle.step_reach.proofs.Counts.{lacks_none}
 use Rattle.search_closure.specs.Back.{Full, First, Cleared}
-use Rattle.search_exclusion.specs.declared.Best.{Best}
 use Rattle.search_exclusion.specs.Smallest.{Idle}
-use Rattle.search_exclusion.specs.Tries.{plain_kept, Targets, Unset, Fits, Improves, Trial, BestOf, Remembered}
+use Rattle.search_exclusion.specs.Tries.{Best, plain_kept, Targets, Fits, Improves, Trial, BestOf, Remembered}
 
 -- ---- a clause that can be a target
 
@@ -32,17 +32,12 @@ use Rattle.search_exclusion.specs.Tries.{plain_kept, Targets, Unset, Fits, Impro
 abbrev pub can_be : Marked → List ℕ → ℕ → Bool
 can_be P s t = not (in_bytes s t) && plain_kept (entry P t)
 
-module _ (P : Marked) (s : List ℕ) (t : ℕ) where
-  pub target_idle : get_or s t 0 ≡ 1 → false ≡ can_be P s t
-  target_idle i = rw (eq-eqb (get_or s t 0) 1 i)
-
-  pub target_gone : (get_or s t 0 ≡ 1 → ⊥) → (entry P t).kept ≡ false → false ≡ can_be P s t
-  target_gone i k = rw (ne_eqb (get_or s t 0) 1 i, k)
-
-  pub target_kept_lem : (x : Bool) → (get_or s t 0 ≡ 1 → ⊥) → (entry P t).kept ≡ true → x ≡ plain_constraint (entry P t).clause → x ≡ can_be P s t
-  target_kept_lem x i k h = rw (ne_eqb (get_or s t 0) 1 i, k) h
-
 -- ---- bytes
+
+-- a test as a byte
+pub byte_test : (b : Bool) → eqb (bool_byte b) 1 ≡ b
+byte_test true = refl
+byte_test false = refl
 
 pub bytes_on : (f : ℕ → Bool) (s : List ℕ) (t v : ℕ) (b : Bool) → t < length s → eqb v 1 ≡ b → b ≡ f t → ((u : ℕ) → u < t → in_bytes s u ≡ f u) → (u : ℕ) → u < t + 1 → in_bytes (set s t v) u ≡ f u
 bytes_on f s t v b l e q h u k = by_cases (ℕ_discrete u t)
@@ -55,20 +50,14 @@ targets_end n P s can i h = record {
   each = λ t a x. h t (kept_lt P t x.kept) ∙ (and_iff (not (in_bytes s t)) _).1 ((not_iff (in_bytes s t)).1 (λ m. i.none t a m x), (and_iff (entry P t).kept _).1 (x.kept, ((excludes_iff (left P) (entry P t).clause a).0 x.applies).constraint));
 }
 
-is_one : (s : List ℕ) (i u : ℕ) → (get_or s i 0 ≡ 1 → ⊥) → u ≡ i → ¬ So (in_bytes s u)
-is_one s i u n d m = n (eqb-true _ _ (subst (λ x. So (in_bytes s x)) d m))
-
-pub unset_on : (s : List ℕ) (i : ℕ) → (get_or s i 0 ≡ 1 → ⊥) → Unset s i → Unset s (i + 1)
-unset_on s i n h = record { before = λ u l. by_cases (ℕ_discrete u i) (λ d. is_one s i u n d) (λ d. h.before u (omega arith)) }
-
 -- ---- the first that fits
 
 -- a clause that lacks none of the atoms taken fits the set of these
 first_fits : (ws ms can : List ℕ) {s q : List ℕ} {k r : ℕ} → Queued s q k → First (Full ws ms can (take k q)) (get_or ws 1 0) r → First (Fits (view ws ms) can (in_bytes s)) (get_or ws 1 0) r
 first_fits ws ms can {s} {q} {k} {r} z f = record {
   within = f.within;
-  hit = λ l. let x = f.hit l in (x.1.0, (all_iff (in_bytes s) (entry (view ws ms) r).clause.pos).1 (λ a m. (z.same a).1 ((lacks_none (take k q) (entry (view ws ms) r).clause.pos).0 x.1.1 a m)));
-  before = λ u l x. f.before u l (omega (arith, f.within), (x.0, (lacks_none (take k q) (entry (view ws ms) u).clause.pos).1 (λ a m. (z.same a).0 ((all_iff (in_bytes s) (entry (view ws ms) u).clause.pos).0 x.1 a m))));
+  hit = λ l. let x = f.hit l in (x.1.0, (all_iff (in_bytes s) (entry (view ws ms) r).clause.pos).1 (λ a m. (queued_same z a).1 ((lacks_none (take k q) (entry (view ws ms) r).clause.pos).0 x.1.1 a m)));
+  before = λ u l x. f.before u l (omega (arith, f.within), (x.0, (lacks_none (take k q) (entry (view ws ms) u).clause.pos).1 (λ a m. (queued_same z a).0 ((all_iff (in_bytes s) (entry (view ws ms) u).clause.pos).0 x.1 a m))));
 }
 
 module _ {P : Marked} {s : List ℕ} {D : Atoms} {atom : ℕ} {old new : Best} where
@@ -101,12 +90,8 @@ trial_by ws ms can {s' = s'} {t = t} l w f e c = record {
   reached = w.reached;
   better = improves_by t l (first_fits ws ms can w.rest.queued f) e;
   less = c.less;
-  struck = λ b m n. (w.rest.queued.same b).1 (c.gone b m n);
+  struck = λ b m n. (queued_same w.rest.queued b).1 (c.gone b m n);
 }
-
--- the same atoms taken
-pub first_again : (ws ms can : List ℕ) {l l' : List ℕ} {r : ℕ} → l' ≡ l → First (Full ws ms can l) (get_or ws 1 0) r → First (Full ws ms can l') (get_or ws 1 0) r
-first_again ws ms can {r = r} e f = subst (λ l. First (Full ws ms can l) (get_or ws 1 0) r) (sym e) f
 
 -- ---- idle clauses
 

@@ -1,7 +1,7 @@
 -- What is known of the atoms tried, and that the best pair is the smallest step.
 use mathlib.Core.Path.{◌≡◌, sym, subst, ◌∙◌}
 use mathlib.Core.Logic.{by_cases}
-use mathlib.Core.Bool.{true, false, So, false≢true}
+use mathlib.Core.Bool.{true, So}
 use mathlib.Core.List.{List}
 use Prim.Native.Nat.{ℕ, ◌+◌, ◌≤◌, ◌<◌}
 use native.Mathlib.Omega.{arith}
@@ -15,11 +15,10 @@ use Rattle.rewriting.specs.Consequences.{consequences}
 use Rattle.rewriting.specs.Exclusion.{occurs}
 use Rattle.rewriting.proofs.Left.{kept_lt}
 use Rattle.rewriting.proofs.Exclusion.{excludes_iff, excludes_within}
-use Rattle.search_exclusion.specs.declared.Best.{Best}
-use Rattle.search_exclusion.specs.declared.Pick.{Pick}
-use Rattle.search_exclusion.specs.declared.Pick.TheVariants.{One, Nothing}
+use Rattle.search_exclusion.specs.declared.Exclusion.{Exclusion}
+use Rattle.std.specs.Prelude.{Option, Some, None, IfSome}
 use Rattle.search_exclusion.specs.Smallest.{Excluding, Least, Smallest}
-use Rattle.search_exclusion.specs.Tries.{Targets, Unset, Fits, Improves, BestOf, Answers}
+use Rattle.search_exclusion.specs.Tries.{Best, best_of, Targets, Unset, Fits, Improves, BestOf}
 
 -- Before atom i: the pair is a step, and no step with an atom that was tried, or is not to be tried, is smaller.
 pub record Tried (n : ℕ) (P : Marked) (i : ℕ) (best : Best) (todo : Atoms) : Type 0 where
@@ -50,15 +49,6 @@ module _ (n : ℕ) (P : Marked) (s : List ℕ) (g : Targets n P s) where
   }
 
   module _ (i : ℕ) (best : Best) (todo : Atoms) (t : Tried n P i best todo) where
-    pub tried_past : todo i ≡ false → Tried n P (i + 1) best todo
-    tried_past e = record {
-      known = t.known;
-      hit = t.hit;
-      early = omega (arith, t.early);
-      least = λ u b x f. t.least u b x (λ y. by_cases (ℕ_discrete b i) (λ d. false≢true (sym e ∙ subst (λ z. So (todo z)) d y.1)) (λ d. f (omega (arith, y.0), y.1)));
-      present = t.present;
-    }
-
     module _ (D : Atoms) (is : (b : ℕ) → D b ≡ consequences (left P) i b) (l : i < n) (o : todo i ≡ true) (new : Best) (m : Improves P s D i best new) where
       now_early : new.atom ≤ i
       now_early = by_cases (dec_lt new.target best.target) (λ k. omega (arith, (m.hit k).1)) (λ k. omega (arith, m.stays (omega (arith, m.within)), t.early))
@@ -97,45 +87,23 @@ module _ (n : ℕ) (P : Marked) (s : List ℕ) (g : Targets n P s) where
               (λ d. subst (Excluding n P u) d x)
               (λ d. covered u b x (struck b y (λ z. f (omega arith, z))))
 
-    -- every atom is tried
-    pub tried_end : n ≤ i → BestOf n P best
-    tried_end h = record { within = t.known; step = t.hit; before = λ u b x. t.least u b x (λ y. omega (arith, y.0, x.below)) }
-
-    -- the target is the first that can be one
-    pub tried_low : (low : ℕ) → Unset s low → best.target ≤ low → BestOf n P best
-    tried_low low f h = record {
-      within = t.known;
-      step = t.hit;
-      before = λ u b x. (
-        by_cases (dec_lt u best.target) (λ k. absurd (f.before u (omega arith) (g.each u b x))) (λ k. omega arith),
-        λ e. by_cases (dec_lt b best.atom) (λ k. (t.least u b x (λ y. omega (arith, y.0, t.early))).1 e) (λ k. omega arith),
-      );
-    }
-
   -- no clause can be a target
-  pub smallest_none : (low : ℕ) → Unset s low → length P ≤ low → Smallest n P Nothing
-  smallest_none low f h = record {
-    some = λ t a e. let z : ◌≡◌ {A = ℕ} 0 1 = cc in absurd (omega arith);
-    none = λ _ t a x. f.before t (omega (arith, kept_lt P t x.kept)) (g.each t a x);
-  }
+  pub smallest_none : (low : ℕ) → Unset s low → length P ≤ low → Smallest n P None
+  smallest_none low f h = record { some = λ pair e. absurd (not_some e); none = λ _ t a x. f.before t (omega (arith, kept_lt P t x.kept)) (g.each t a x) }
+    where
+      not_some : {pair : Exclusion} → None ≡ Some pair → ⊥
+      not_some e = let z : ◌≡◌ {A = ℕ} 0 1 = cc in omega arith
 
 -- ---- the answer
 
-one_same : (r : Pick) (t a u b : ℕ) → r ≡ One t a → r ≡ One u b → (t ≡ u) × (a ≡ b)
-one_same r t a u b e q = (cc, cc)
+-- a pair's target is at most the number of clauses
+pub within_by : (m : ℕ) (r : Option Exclusion) → IfSome r (λ pair. pair.target < m) → (best_of m r).target ≤ m
+within_by m None h = omega arith
+within_by m (Some pair) h = omega arith
 
-none_one : (r : Pick) (t a : ℕ) → r ≡ One t a → r ≡ Nothing → ⊥
-none_one r t a e q = let z : ◌≡◌ {A = ℕ} 0 1 = cc in omega arith
-
-pub smallest_by : (n : ℕ) (P : Marked) (best : Best) (r : Pick) → BestOf n P best → Answers (length P) best r → Smallest n P r
-smallest_by n P best r b a = record {
-  some = λ t x e. by_cases (dec_lt best.target (length P))
-      (λ l. let w = one_same r _ _ t x (a.some l) e in subst (λ u. Least n P u x) w.0 (subst (Least n P best.target) w.1 (record { step = b.step l; before = b.before })))
-      (λ l. absurd (none_one r t x e (a.none (omega arith))));
-  none = λ e t x h. by_cases (dec_lt best.target (length P))
-      (λ l. none_one r _ _ (a.some l) e)
-      (λ l. omega (arith, (b.before t x h).0, kept_lt P t h.kept));
+pub smallest_by : (n : ℕ) (P : Marked) (m : ℕ) (r : Option Exclusion) → m ≡ length P → IfSome r (λ pair. pair.target < m) → BestOf n P (best_of m r) → Smallest n P r
+smallest_by n P m None e l b = record { some = λ pair q. let z : ◌≡◌ {A = ℕ} 0 1 = cc in absurd (omega arith); none = λ _ t a x. omega (arith, (b.before t a x).0, kept_lt P t x.kept) }
+smallest_by n P m (Some p) e l b = record {
+  some = λ pair q. let same : p ≡ pair = cc in subst (λ y. Least n P y.target y.atom) same (record { step = b.step (omega arith); before = b.before });
+  none = λ q. let z : ◌≡◌ {A = ℕ} 0 1 = cc in absurd (omega arith);
 }
-
-pub answers_as : {m k : ℕ} {best : Best} {r : Pick} → m ≡ k → Answers m best r → Answers k best r
-answers_as {best = best} {r = r} e a = subst (λ m. Answers m best r) e a

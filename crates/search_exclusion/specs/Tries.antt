@@ -1,5 +1,5 @@
 -- How the search goes: the clauses that can be targets as bytes, those that fit an atom's consequences, and the better of two pairs.
-use Rattle.std.specs.Prelude.{◌≡◌, ◌⊎◌, Bool, ◌&&◌, List, ℕ, ◌≤◌, ◌<◌, length}
+use Rattle.std.specs.Prelude.{◌≡◌, ◌⊎◌, Bool, ◌&&◌, Option, Some, None, List, ℕ, ◌≤◌, ◌<◌, length}
 use Rattle.std.proofs.Math.Bool.{So}
 use Rattle.semantics.specs.Lists.{all}
 use Rattle.semantics.specs.Programs.{Atoms}
@@ -7,10 +7,18 @@ use Rattle.rewriting.specs.Marked.{Entry, Marked, entry}
 use Rattle.rewriting.specs.Exclusion.{plain_constraint}
 use Rattle.table.specs.View.{view}
 use Rattle.step_reach.specs.Bytes.{in_bytes, ReachedWith}
-use Rattle.search_exclusion.specs.declared.Best.{Best}
-use Rattle.search_exclusion.specs.declared.Pick.{Pick}
-use Rattle.search_exclusion.specs.declared.Pick.TheVariants.{One, Nothing}
+use Rattle.search_exclusion.specs.declared.Exclusion.{Exclusion}
 use Rattle.search_exclusion.specs.Smallest.{Excluding}
+
+-- A target and an atom; the target is the number of clauses where there is none.
+pub record Best : Type 0 where
+  pub target : ℕ
+  pub atom : ℕ
+
+-- what is found, among m clauses
+abbrev pub best_of : ℕ → Option Exclusion → Best
+best_of m None = record { target = m; atom = 0 }
+best_of m (Some pair) = record { target = pair.target; atom = pair.atom }
 
 -- "a kept constraint with at least one positive and no negative atom"
 abbrev pub plain_kept : Entry → Bool
@@ -49,11 +57,6 @@ pub record BestOf (n : ℕ) (P : Marked) (best : Best) : Type 0 where
   pub within : best.target ≤ length P
   pub step : best.target < length P → Excluding n P best.target best.atom
   pub before : (u b : ℕ) → Excluding n P u b → (best.target ≤ u) × (best.target ≡ u → best.atom ≤ b)
-
--- The answer for a pair.
-pub record Answers (m : ℕ) (best : Best) (r : Pick) : Type 0 where
-  pub some : best.target < m → r ≡ One best.target best.atom
-  pub none : m ≤ best.target → r ≡ Nothing
 
 -- A byte at 1 was so before, or is one of the other set before the end.
 pub record Remembered (can : List ℕ) (end : ℕ) (s s' : List ℕ) : Type 0 where

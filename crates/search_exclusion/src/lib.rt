@@ -3,63 +3,46 @@
 // earlier one can't be better and is passed over; and once the best target is the first clause that can be one, no other atom is tried.
 #![tactic(auto)]
 
-ghost use Rattle.std.specs.Prelude.{◌≡◌, not, ◌&&◌, cond, ◌≤◌, ◌<◌, eqb, ltb, length, get_or, take};
+ghost use Rattle.std.specs.Prelude.{◌≡◌, not, ◌&&◌, cond, Option, IfSome, ◌≤◌, ◌<◌, eqb, ltb, length};
 ghost use Rattle.rewriting.specs.Marked.{entry};
-ghost use Rattle.table.specs.View.{view};
-ghost use Rattle.step_parts.specs.Parts.{Ready};
+ghost use Rattle.step_parts.specs.Reading.{atom_count, clause_count, program_of, words_of, marks_of};
 ghost use Rattle.step_reach.specs.Bytes.{in_bytes};
-ghost use Rattle.step_reach.specs.Counts.{CountRoom, ReachSettled};
+ghost use Rattle.step_reach.specs.Growing.{IsSettled, taken};
 ghost use Rattle.search_closure.specs.Back.{Full, First};
 ghost use Rattle.step_exclusion.specs.Exclusions.{Narrowed};
 ghost use Rattle.search_exclusion.specs.Smallest.{Smallest, Idle};
-ghost use Rattle.search_exclusion.specs.Tries.{plain_kept, Targets, Unset, Trial, BestOf, Answers, Remembered};
+ghost use Rattle.search_exclusion.specs.Tries.{plain_kept, Targets, Unset, best_of, Trial, BestOf, Remembered};
 
-use step_reach::Count;
+use step_parts::Marked;
+use step_reach::Closure;
 
-// What the search finds: a target and an atom.
+// What the search finds: a constraint, and an atom that it excludes.
 #[derive(Clone, Copy)]
-pub enum Pick {
-    One(u16, u16),
-    Nothing,
-}
-
-// A target and an atom; the target is the number of clauses where there is none.
-#[derive(Clone, Copy)]
-pub struct Best {
-    pub target: usize,
+pub struct Exclusion {
+    pub target: u16,
     pub atom: u16,
 }
 
 // ---- the clauses that can be targets
 
 // Whether clause t is not idle, is kept, and is a constraint with positive atoms and no negative ones.
-fn is_target(words: &[u16], marks: &[u8], index: &[u16], idle: &[u8], t: usize) -> bool
-    requires { (Ready words.now marks.now index.now) × ((t < get_or words.now 1 0) × (2048 ≤ length idle.now)) }
-    ensures { result ≡ (not (in_bytes idle.now t) && plain_kept (entry (view words.now marks.now) t)) }
+fn is_target(program: &Marked, idle: &[u8], t: usize) -> bool
+    requires clause { t < clause_count program.now.table }
+    requires idle { 2048 ≤ length idle.now }
+    ensures { result ≡ (not (in_bytes idle.now t) && plain_kept (entry (program_of program.now) t)) }
 {
-    if idle[t] == 1 {
-        return false;
-    }
-    if !step_parts::kept(words, marks, index, t) {
-        return false;
-    }
-    step_exclusion::is_plain(words, marks, index, t)
-}
-
-// A test as a byte.
-fn byte_of(b: bool) -> u8
-    ensures { eqb result 1 ≡ b }
-{
-    if b { 1 } else { 0 }
+    idle[t] != 1 && program.kept(t) && step_exclusion::is_plain(program, t)
 }
 
 // Those clauses as bytes.
-fn find_targets(words: &[u16], marks: &[u8], index: &[u16], idle: &[u8], can: &mut [u8])
-    requires { (Ready words.now marks.now index.now) × ((2048 ≤ length idle.now) × ((2048 ≤ length can.old) × (Idle (get_or words.now 0 0) (view words.now marks.now) idle.now))) }
-    ensures { Targets (get_or words.now 0 0) (view words.now marks.now) can.new }
+fn find_targets(program: &Marked, idle: &[u8], can: &mut [u8])
+    requires idle { 2048 ≤ length idle.now }
+    requires can { 2048 ≤ length can.old }
+    requires known { Idle (atom_count program.now.table) (program_of program.now) idle.now }
+    ensures { Targets (atom_count program.now.table) (program_of program.now) can.new }
 {
-    for t in 0..table::wide(words[1]) {
-        can[t] = byte_of(is_target(words, marks, index, idle, t));
+    for t in 0..program.table.clause_count() {
+        can[t] = u8::from(is_target(program, idle, t));
     }
 }
 
@@ -68,22 +51,36 @@ fn first_set(bytes: &[u8], end: usize) -> usize
     requires { end ≤ length bytes.now }
     ensures { Unset bytes.now result }
 {
-    for i in 0..end {
-        if bytes[i] == 1 {
-            return i;
-        }
-    }
-    end
+    bytes[..end]
+        .iter()
+        .position(|byte| *byte == 1)
+        .unwrap_or(end)
 }
 
 // ---- one atom
 
-// The better of the pair and clause t with the atom.
-fn better(t: usize, atom: u16, best: Best) -> Best
-    ensures { result ≡ cond (ltb t best.target) (record { target = t; atom = atom }) best }
+// The pair's target, or the number of clauses where there is none.
+fn target_or(best: Option<Exclusion>, clauses: usize) -> usize
+    ensures { result ≡ (best_of clauses best).target }
 {
-    if t < best.target {
-        return Best { target: t, atom };
+    match best {
+        Some(pair) => usize::from(pair.target),
+        None => clauses,
+    }
+}
+
+// The better of the pair and clause t with the atom, where t is not the number of clauses.
+fn better(t: usize, atom: u16, best: Option<Exclusion>, clauses: usize) -> Option<Exclusion>
+    requires clauses { clauses < 65536 }
+    requires known { IfSome best (λ pair. pair.target < clauses) }
+    ensures better { best_of clauses result ≡ cond (ltb t (best_of clauses best).target) (record { target = t; atom = atom }) (best_of clauses best) }
+    ensures known { IfSome result (λ pair. pair.target < clauses) }
+{
+    if t < target_or(best, clauses) {
+        return Some(Exclusion {
+            target: t as u16,
+            atom,
+        });
     }
     best
 }
@@ -91,100 +88,92 @@ fn better(t: usize, atom: u16, best: Best) -> Best
 // The atom is tried: all that follows from it joins the closure of the facts, and is taken back. The better of the pair and the first target that fits;
 // `full` is the first that fits the facts alone.
 fn try_atom(
-    words: &[u16],
-    only: &[u8],
-    index: &[u16],
+    closure: &mut Closure,
+    definite: &Marked,
     can: &[u8],
     full: usize,
     atom: u16,
-    best: Best,
-    bytes: &mut [u8],
-    missing: &mut [Count],
-    queue: &mut [u16],
-    top: usize,
+    best: Option<Exclusion>,
     todo: &mut [u8],
-) -> Best
-    requires { ((Ready words.now only.now index.now) × ((2048 ≤ length can.now) × ((atom < get_or words.now 0 0) × ((best.target ≤ get_or words.now 1 0) × (1024 ≤ length todo.old))))) × ((CountRoom words.now bytes.old missing.old) × ((ReachSettled words.now only.now bytes.old missing.old queue.old top) × (First (Full words.now only.now can.now (take top queue.old)) (get_or words.now 1 0) full))) }
-    ensures { (Trial words.now only.now can.now atom best todo.old todo.new result) × ((ReachSettled words.now only.now bytes.new missing.new queue.new top) × (take top queue.new ≡ take top queue.old)) }
+) -> Option<Exclusion>
+    requires can { 2048 ≤ length can.now }
+    requires todo { 1024 ≤ length todo.old }
+    requires atom { atom < atom_count definite.now.table }
+    requires known { IfSome best (λ pair. pair.target < clause_count definite.now.table) }
+    requires settled { IsSettled definite.now closure.old }
+    requires first { First (Full (words_of definite.now) (marks_of definite.now) can.now (taken closure.old)) (clause_count definite.now.table) full }
+    ensures trial { Trial (words_of definite.now) (marks_of definite.now) can.now atom (best_of (clause_count definite.now.table) best) todo.old todo.new (best_of (clause_count definite.now.table) result) }
+    ensures known { IfSome result (λ pair. pair.target < clause_count definite.now.table) }
+    ensures settled { IsSettled definite.now closure.new }
+    ensures taken { taken closure.new ≡ taken closure.old }
 {
-    let end = step_reach::close_with(words, only, index, atom, bytes, missing, queue, top);
-    let t = search_closure::take_back(
-        words, only, index, can, full, top, end, bytes, missing, queue, todo,
-    );
-    better(t, atom, best)
+    let top = closure.set.top;
+    closure.close_with(definite, atom);
+    let t = search_closure::take_back(closure, definite, can, full, top, todo);
+    better(t, atom, best, definite.table.clause_count())
 }
 
 // ---- all atoms
 
 // The best pair: the atoms in order, each with the first target that fits.
 fn by_atoms(
-    words: &[u16],
-    marks: &[u8],
-    index: &[u16],
+    program: &Marked,
+    definite: &Marked,
     can: &[u8],
     low: usize,
     full: usize,
-    only: &[u8],
-    bytes: &mut [u8],
-    missing: &mut [Count],
-    queue: &mut [u16],
-    top: usize,
-) -> Best
-    requires { ((Ready words.now marks.now index.now) × ((2048 ≤ length can.now) × ((Targets (get_or words.now 0 0) (view words.now marks.now) can.now) × (Unset can.now low)))) × ((Ready words.now only.now index.now) × ((Narrowed words.now marks.now only.now) × ((CountRoom words.now bytes.old missing.old) × ((ReachSettled words.now only.now bytes.old missing.old queue.old top) × (First (Full words.now only.now can.now (take top queue.old)) (get_or words.now 1 0) full))))) }
-    ensures { BestOf (get_or words.now 0 0) (view words.now marks.now) result }
+    closure: &mut Closure,
+) -> Option<Exclusion>
+    requires table { definite.now.table ≡ program.now.table }
+    requires narrowed { Narrowed (words_of program.now) (marks_of program.now) (marks_of definite.now) }
+    requires can { 2048 ≤ length can.now }
+    requires targets { Targets (atom_count program.now.table) (program_of program.now) can.now }
+    requires low { Unset can.now low }
+    requires settled { IsSettled definite.now closure.old }
+    requires first { First (Full (words_of definite.now) (marks_of definite.now) can.now (taken closure.old)) (clause_count definite.now.table) full }
+    ensures best { BestOf (atom_count program.now.table) (program_of program.now) (best_of (clause_count program.now.table) result) }
+    ensures known { IfSome result (λ pair. pair.target < clause_count program.now.table) }
 {
-    let mut todo = [0u8; 1024];
-    step_exclusion::find_present(words, marks, index, &mut todo);
-    let mut best = Best {
-        target: table::wide(words[1]),
-        atom: 0,
-    };
-    for a in 0..words[0] {
-        if best.target <= low {
+    let mut todo = step_exclusion::find_present(program).bytes;
+    let mut best = None;
+    for atom in 0..program.table.atom_count() {
+        if target_or(best, program.table.clause_count()) <= low {
             return best;
         }
-        if !step_reach::is_in(&todo, a) {
+        if !step_reach::is_in(&todo, atom) {
             continue;
         }
-        best = try_atom(
-            words, only, index, can, full, a, best, bytes, missing, queue, top, &mut todo,
-        );
+        best = try_atom(closure, definite, can, full, atom, best, &mut todo);
     }
     best
 }
 
 // The same, with the closure of the facts.
-fn best_pair(words: &[u16], marks: &[u8], index: &[u16], can: &[u8], low: usize) -> Best
-    requires { (Ready words.now marks.now index.now) × ((2048 ≤ length can.now) × ((Targets (get_or words.now 0 0) (view words.now marks.now) can.now) × (Unset can.now low))) }
-    ensures { BestOf (get_or words.now 0 0) (view words.now marks.now) result }
+fn best_pair(program: &Marked, can: &[u8], low: usize) -> Option<Exclusion>
+    requires can { 2048 ≤ length can.now }
+    requires targets { Targets (atom_count program.now.table) (program_of program.now) can.now }
+    requires low { Unset can.now low }
+    ensures best { BestOf (atom_count program.now.table) (program_of program.now) (best_of (clause_count program.now.table) result) }
+    ensures known { IfSome result (λ pair. pair.target < clause_count program.now.table) }
 {
-    let mut only = [0u8; 8192];
-    step_exclusion::narrow(words, marks, index, &mut only);
-    let mut bytes = [0u8; 1024];
-    let mut missing: [Count; 2048] = [0; 2048];
-    let mut queue = [0u16; 1024];
-    let top = step_reach::close_all(words, &only, index, &mut bytes, &mut missing, &mut queue);
-    let full = search_closure::first_full(words, can, &missing);
-    by_atoms(
-        words,
-        marks,
-        index,
-        can,
-        low,
-        full,
-        &only,
-        &mut bytes,
-        &mut missing,
-        &mut queue,
-        top,
-    )
+    let mut marks = [0u8; 8192];
+    step_exclusion::narrow(program, &mut marks);
+    let definite = Marked {
+        table: program.table,
+        marks: &marks,
+    };
+    let mut closure = Closure::new(&definite);
+    let full = search_closure::first_full(&program.table, can, &closure.missing);
+    by_atoms(program, &definite, can, low, full, &mut closure)
 }
 
 // ---- the search
 
 // The targets before the end are idle from now on.
+// Index loop: one slice is read and the other is written at the same place.
 fn remember(can: &[u8], end: usize, idle: &mut [u8])
-    requires { (end ≤ length can.now) × (end ≤ length idle.old) }
+    requires can { end ≤ length can.now }
+    requires idle { end ≤ length idle.old }
     ensures { Remembered can.now end idle.old idle.new }
 {
     for t in 0..end {
@@ -195,38 +184,21 @@ fn remember(can: &[u8], end: usize, idle: &mut [u8])
     }
 }
 
-// A clause's number as a word.
-fn word_of(x: usize) -> u16
-    requires { x < 65536 }
-    ensures { result ≡ x }
-{
-    x as u16
-}
-
-// What the search finds, of its best pair.
-fn answer(best: Best, m: usize) -> Pick
-    requires { m < 65536 }
-    ensures { Answers m best result }
-{
-    if best.target < m {
-        return Pick::One(word_of(best.target), best.atom);
-    }
-    Pick::Nothing
-}
-
 // The smallest step of kind 9, by target, then atom. Afterwards the constraints before its target are idle.
-pub fn first_exclusion(words: &[u16], marks: &[u8], index: &[u16], idle: &mut [u8]) -> Pick
-    requires { (Ready words.now marks.now index.now) × ((2048 ≤ length idle.old) × (Idle (get_or words.now 0 0) (view words.now marks.now) idle.old)) }
-    ensures { (Smallest (get_or words.now 0 0) (view words.now marks.now) result) × (Idle (get_or words.now 0 0) (view words.now marks.now) idle.new) }
+pub fn first_exclusion(program: &Marked, idle: &mut [u8]) -> Option<Exclusion>
+    requires room { 2048 ≤ length idle.old }
+    requires known { Idle (atom_count program.now.table) (program_of program.now) idle.old }
+    ensures smallest { Smallest (atom_count program.now.table) (program_of program.now) result }
+    ensures known { Idle (atom_count program.now.table) (program_of program.now) idle.new }
 {
     let mut can = [0u8; 2048];
-    find_targets(words, marks, index, idle, &mut can);
-    let m = table::wide(words[1]);
-    let low = first_set(&can, m);
-    if m <= low {
-        return Pick::Nothing;
+    find_targets(program, idle, &mut can);
+    let clauses = program.table.clause_count();
+    let low = first_set(&can, clauses);
+    if clauses <= low {
+        return None;
     }
-    let best = best_pair(words, marks, index, &can, low);
-    remember(&can, best.target, idle);
-    answer(best, m)
+    let best = best_pair(program, &can, low);
+    remember(&can, target_or(best, clauses), idle);
+    best
 }

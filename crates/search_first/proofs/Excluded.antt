@@ -18,10 +18,10 @@ use Rattle.rewriting.proofs.Left.{kept_lt}
 use Rattle.rewriting.proofs.Quiet.{least_none, least_some}
 use Rattle.rewriting.proofs.Order.{atom_form, search_end, search_hit}
 use Rattle.step_conditions.specs.declared.Step as row
-use Rattle.search_targets.specs.declared.Found.TheVariants.{One, Nothing}
+use Rattle.std.specs.Prelude.{Some, None}
 use Rattle.search_targets.specs.Searches.{found_of}
-use Rattle.search_exclusion.specs.declared.Pick.TheVariants as pick
-use Rattle.search_exclusion.specs.declared.Pick.{Pick}
+use Rattle.std.specs.Prelude as rust
+use Rattle.search_exclusion.specs.declared.Exclusion.{Exclusion}
 use Rattle.search_exclusion.specs.Smallest.{Excluding, Least, Smallest}
 
 module _ (n : ℕ) (P : Marked) where
@@ -53,10 +53,11 @@ module _ (n : ℕ) (P : Marked) where
   exclusion_none h = search_end n P excluded (λ j i. target_none j (h j))
 
 -- as the search gives it
-pub excluded_one : (n : ℕ) (P : Marked) (r : Pick) (t a : ℕ) (s : row.Step) → Smallest n P r → r ≡ pick.One t a → s ≡ record { kind = 9; target = t; partner = 0; atom = a } → One s ≡ found_of (first_target n P excluded)
+pub excluded_one : (n : ℕ) (P : Marked) (r : rust.Option Exclusion) (pair : Exclusion) (s : row.Step) → Smallest n P r → r ≡ Some pair → s ≡ record { kind = excluded; target = pair.target; partner = 0; atom = pair.atom }
+    → Some s ≡ found_of (first_target n P excluded)
 unfolding found_of
-excluded_one n P r t a s w e q = ap One q ∙ sym (ap found_of (exclusion_some n P t a (w.some t a e)))
+excluded_one n P r pair s w e q = ap Some q ∙ sym (ap found_of (exclusion_some n P pair.target pair.atom (w.some pair e)))
 
-pub excluded_nothing : (n : ℕ) (P : Marked) (r : Pick) → Smallest n P r → r ≡ pick.Nothing → Nothing ≡ found_of (first_target n P excluded)
+pub excluded_nothing : (n : ℕ) (P : Marked) (r : rust.Option Exclusion) → Smallest n P r → r ≡ None → None ≡ found_of (first_target n P excluded)
 unfolding found_of
 excluded_nothing n P r w e = sym (ap found_of (exclusion_none n P (w.none e)))

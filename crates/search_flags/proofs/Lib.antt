@@ -1,1 +1,2 @@
-pub mod Flags
+pub mod Changes
+pub mod Parts

@@ -1,22 +1,27 @@
 // Clauses that are gone are passed once: the flag of a target goes up past them.
 #![tactic(auto)]
 
-ghost use Rattle.std.specs.Prelude.{◌≡◌, ℕ, ◌≤◌, ◌<◌, length, get_or, ◌≢◌};
+ghost use Rattle.std.specs.Prelude.{◌≡◌, ℕ, ◌≤◌, ◌<◌, ◌≢◌};
 ghost use Rattle.std.proofs.Math.Bool.{So};
-ghost use Rattle.rewriting.specs.Marked.{entry};
-ghost use Rattle.table.specs.View.{view};
-ghost use Rattle.step_parts.specs.Parts.{Ready};
-ghost use Rattle.search_flags.specs.Flags.{flag_at, all_flags};
+ghost use Rattle.rewriting.specs.Kinds.{number};
+ghost use Rattle.step_parts.specs.Reading.{clause_count, words_of, marks_of, is_kept};
+ghost use Rattle.search_flags.specs.Flags.{flag_at};
 ghost use Rattle.step_kinds.specs.Kinds.{PartnerKind};
 ghost use Rattle.search_keys.specs.State.{Gaps, Calm, Skipped, Lifted};
 
+use rewriting::Kind;
+use search_flags::{Flags, Row};
+use step_parts::Marked;
+
 // The first clause from a number on that is kept, or the end.
-fn kept_from(words: &[u16], marks: &[u8], index: &[u16], from: usize, e: usize) -> usize
-    requires { (Ready words.now marks.now index.now) × (e ≤ get_or words.now 1 0) }
-    ensures { (result ≤ e) × ((j : ℕ) → from ≤ j → j < result → ¬ So (entry (view words.now marks.now) j).kept) }
+fn kept_from(program: &Marked, from: usize, e: usize) -> usize
+    requires end { e ≤ clause_count program.now.table }
+    ensures within { result ≤ e }
+    ensures gone { (j : ℕ) → from ≤ j → j < result → ¬ So (is_kept program.now j) }
 {
+    // A loop over clauses: the number is the answer, and no element is indexed here.
     for i in from..e {
-        if step_parts::kept(words, marks, index, i) {
+        if program.kept(i) {
             return i;
         }
     }
@@ -24,37 +29,35 @@ fn kept_from(words: &[u16], marks: &[u8], index: &[u16], from: usize, e: usize) 
 }
 
 // The same from clause q on, where the clauses that were passed before are not passed again.
-fn first_kept(
-    words: &[u16],
-    marks: &[u8],
-    index: &[u16],
-    flags: &mut [u16],
-    q: usize,
-    e: usize,
-) -> usize
-    requires { (Ready words.now marks.now index.now) × ((e ≤ get_or words.now 1 0) × ((q < 2048) × ((length flags.old ≡ all_flags) × Gaps words.now marks.now flags.old))) }
-    ensures { Skipped words.now marks.now flags.old flags.new q e result }
+fn first_kept(program: &Marked, flags: &mut Flags, q: usize, e: usize) -> usize
+    requires end { e ≤ clause_count program.now.table }
+    requires clause { q < 2048 }
+    requires gaps { Gaps (words_of program.now) (marks_of program.now) flags.old }
+    ensures { Skipped (words_of program.now) (marks_of program.now) flags.old flags.new q e result }
 {
-    let from = search_flags::greater(q, table::wide(flags[search_flags::NEXT + q]));
-    let r = kept_from(words, marks, index, from, e);
+    let from = flags.next(q).max(q);
+    let r = kept_from(program, from, e);
     if r <= from {
         return r;
     }
-    flags[search_flags::NEXT + q] = search_flags::narrow(r);
+    flags.set_next(q, r);
     r
 }
 
 // The flag of a target goes up past clauses that are gone.
-pub fn lift(words: &[u16], marks: &[u8], index: &[u16], flags: &mut [u16], kind: u16, t: usize)
-    requires { (Ready words.now marks.now index.now) × ((t < get_or words.now 1 0) × ((PartnerKind kind) × ((flag_at flags.old kind t ≢ 0) × Calm words.now marks.now flags.old kind))) }
-    ensures { Lifted words.now marks.now flags.old flags.new kind t }
+pub fn lift(program: &Marked, flags: &mut Flags, kind: Kind, t: usize)
+    requires target { t < clause_count program.now.table }
+    requires kind { PartnerKind kind }
+    requires flagged { flag_at flags.old (number kind) t ≢ 0 }
+    requires calm { Calm (words_of program.now) (marks_of program.now) flags.old kind }
+    ensures { Lifted (words_of program.now) (marks_of program.now) flags.old flags.new kind t }
 {
-    let m = table::wide(words[1]);
-    let row = table::wide(kind);
-    let q = search_flags::flag_of(flags, row, t) - 1;
+    let m = program.table.clause_count();
+    let row = Row::Target(kind);
+    let q = flags.flag_at(row, t) - 1;
     if m <= q {
         return;
     }
-    let r = first_kept(words, marks, index, flags, q, m);
-    flags[row * 2048 + t] = search_flags::narrow(r + 1);
+    let r = first_kept(program, flags, q, m);
+    flags.set_flag(row, t, r + 1);
 }

@@ -1,15 +1,13 @@
 -- The set of what may follow, grown atom by atom along the index, and the constraints that are forgotten on the way.
-use mathlib.Core.Path.{◌≡◌, refl, sym, ap, subst, ◌∙◌}
+use mathlib.Core.Path.{◌≡◌, refl, sym, subst, ◌∙◌}
 use mathlib.Core.Logic.{by_cases, ⊎_elim}
-use mathlib.Core.Bool.{Bool, true, false, So, false≢true}
+use mathlib.Core.Bool.{true, false, So, false≢true}
 use mathlib.Core.List.Memᴰ
 use mathlib.Core.List.{List}
 use Prim.Native.Nat.{ℕ, ◌+◌, ◌≤◌, ◌<◌}
 use native.Mathlib.Omega.{arith}
-use native.Mathlib.Decide.{ℕ_discrete, dec_lt}
-use lib.Dec.{eqb}
-use lib.ListN.{length, get_or, set, take, get_or-eq_default}
-use lib.Seq.{get_or-set_same, get_or-set_other}
+use native.Mathlib.Decide.{dec_lt}
+use lib.ListN.{length, get_or, take, get_or-eq_default}
 use Rattle.semantics.specs.Lists.{◌∈◌, mem, null, single}
 use Rattle.semantics.proofs.Tests.{and_iff, mem_iff, so_dec, not_so, without_none}
 use Rattle.semantics.specs.Programs.{Atoms, Subset}
@@ -24,43 +22,19 @@ use Rattle.table.proofs.View.{length_view}
 use Rattle.step_parts.specs.declared.Part.TheVariants.{Head, Pos, Neg}
 use Rattle.step_parts.proofs.Index.{stands_small, kept_stands}
 use Rattle.step_reach.specs.Bytes.{in_bytes}
-use Rattle.step_reach.specs.Counts.{Queued, Joined}
+use Rattle.step_reach.specs.Counts.{Queued}
 use Rattle.step_reach.proofs.Laws.{is_out}
-use Rattle.step_reach.proofs.Queue.{take_more, queued_few}
+use Rattle.step_reach.proofs.Queue.{queued_same, take_more, queued_few}
 use Rattle.search_exclusion.specs.Tries.{Unset}
-use Rattle.search_idle.specs.Forgets.{definite_kept, Heads, NewHeads, Later, Forgot, Onward, Met, MetAt, MetAll, Spread, HeadsWith, Forgets}
-
--- ---- a clause that is definite
-
-pub fires_gone : (e : Entry) → e.kept ≡ false → false ≡ definite_kept e
-fires_gone e k = rw k
-
-pub fires_kept : (e : Entry) (x : Bool) → e.kept ≡ true → x ≡ definite e.clause → x ≡ definite_kept e
-fires_kept e x k h = rw (k, h)
+use Rattle.search_idle.specs.Forgets.{definite_kept, Heads, NewHeads, Later, Onward, Met, MetAt, MetAll, Spread, HeadsWith, Forgets}
 
 -- ---- the set and the queue grow
 
 pub later_none : (s q : List ℕ) (top : ℕ) → Queued s q top → Later s q top s q top
 later_none s q top z = record { more = λ a m. m; long = refl; longer = omega arith; before = λ j h. refl; queued = z }
 
-pub later_joined : {X : ℕ → Type 0} {s q s' q' : List ℕ} {top top' : ℕ} → Joined X s q top s' q' top' → Later s q top s' q' top'
-later_joined j = record { more = j.more; long = j.long; longer = j.longer; before = j.before; queued = j.queued }
-
 pub heads_not : (e : Entry) (F : Atoms) → definite_kept e ≡ false → Heads F e
 heads_not e F h k = absurd (not_so h k)
-
--- ---- a clause is forgotten
-
-pub forgot_here : (s : List ℕ) (t : ℕ) → t < length s → Forgot s t (set s t 0)
-forgot_here s t l = record {
-  out = λ m. false≢true (subst (λ x. So (eqb x 1)) (get_or-set_same s t 0 0 l) m);
-  less = λ u m. by_cases (ℕ_discrete u t)
-      (λ d. absurd (false≢true (subst (λ x. So (eqb x 1)) (ap (λ v. get_or (set s t 0) v 0) d ∙ get_or-set_same s t 0 0 l) m)))
-      (λ d. subst (λ x. So (eqb x 1)) (get_or-set_other s t u 0 0 d) m);
-}
-
-pub forgot_past : (s : List ℕ) (t : ℕ) → length s ≤ t → Forgot s t s
-forgot_past s t l = record { out = not_so (is_out s t l); less = λ u m. m }
 
 -- ---- on to the next atom
 
@@ -83,9 +57,6 @@ onward_trans f g = record {
 pub met_later : (Q : Marked) {s q x s' q' x' : List ℕ} {k k' : ℕ} (t : ℕ) → Onward s q k x s' q' k' x' → Met Q (in_bytes s) x t → Met Q (in_bytes s') x' t
 met_later Q t g m = record { out = λ z. m.out (g.less t z); heads = λ k b n. g.later.more b (m.heads k b n) }
 
-pub met_owner : (Q : Marked) (F : Atoms) (x x' : List ℕ) (u t : ℕ) → u ≡ t → Forgot x u x' → Heads F (entry Q u) → Met Q F x' t
-met_owner Q F x x' u t e f h = subst (Met Q F x') e (record { out = f.out; heads = h })
-
 -- ---- along the places of an atom
 
 pub met_all : (ws ms : List ℕ) (a : ℕ) (s y : List ℕ) → MetAt ws (view ws ms) Pos a s y → MetAll (view ws ms) (in_bytes s) y a
@@ -107,7 +78,7 @@ module _ (Q : Marked) where
       ((take_more q k a (omega (arith, queued_few z, z.room))).0 (subst (λ u. a ∈ u) (g.later.before (k + 1) (omega arith)) m))
 
   pub first_end : {s q x s' q' x' : List ℕ} {top top' : ℕ} (k : ℕ) → k ≡ top' → Onward s q top x s' q' top' x' → MetFirst s' q' k x' → Spread Q s x s' x'
-  first_end {s' = s'} {q' = q'} {x' = x'} k e g h = record { more = g.later.more; less = g.less; all = λ a m. h a (subst (λ u. a ∈ take u q') (sym e) ((g.later.queued.same a).0 m)) }
+  first_end {s' = s'} {q' = q'} {x' = x'} k e g h = record { more = g.later.more; less = g.less; all = λ a m. h a (subst (λ u. a ∈ take u q') (sym e) ((queued_same g.later.queued a).0 m)) }
 
 -- ---- what is forgotten
 

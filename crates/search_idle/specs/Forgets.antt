@@ -5,9 +5,10 @@ use Rattle.semantics.specs.Lists.{◌∈◌}
 use Rattle.semantics.specs.Programs.{Atoms, Subset}
 use Rattle.rewriting.specs.Marked.{Entry, Marked, entry}
 use Rattle.rewriting.specs.Consequences.{definite}
-use Rattle.step_parts.specs.Parts.{Stands, Latest}
+use Rattle.step_parts.specs.Parts.{Stands}
 use Rattle.step_parts.specs.declared.Part.{Part}
 use Rattle.step_parts.specs.declared.Part.TheVariants.{Head, Neg}
+use Rattle.step_reach.specs.declared.set.AtomSet.{AtomSet}
 use Rattle.step_reach.specs.Bytes.{in_bytes}
 use Rattle.step_reach.specs.Counts.{Queued}
 
@@ -31,6 +32,10 @@ pub record Later (s queue : List ℕ) (top : ℕ) (s' queue' : List ℕ) (top' :
   pub before : (j : ℕ) → j ≤ top → take j queue' ≡ take j queue
   pub queued : Queued s' queue' top'
 
+-- said of a set of atoms
+abbrev pub HasGrown : AtomSet → AtomSet → Type 0
+HasGrown s s' = Later s.bytes s.queue s.top s'.bytes s'.queue s'.top
+
 -- The byte of clause t is not 1 any more, and no other has become 1.
 pub record Forgot (idle : List ℕ) (t : ℕ) (idle' : List ℕ) : Type 0 where
   pub out : ¬ So (in_bytes idle' t)
@@ -41,6 +46,10 @@ pub record Onward (s queue : List ℕ) (top : ℕ) (idle s' queue' : List ℕ) (
   pub later : Later s queue top s' queue' top'
   pub less : Subset (in_bytes idle') (in_bytes idle)
 
+-- said of a set of atoms
+abbrev pub GoesOn : AtomSet → List ℕ → AtomSet → List ℕ → Type 0
+GoesOn s idle s' idle' = Onward s.bytes s.queue s.top idle s'.bytes s'.queue s'.top idle'
+
 -- Clause t is not idle, and where it is kept and definite its head is in the set.
 pub record Met (Q : Marked) (F : Atoms) (idle : List ℕ) (t : ℕ) : Type 0 where
   pub out : ¬ So (in_bytes idle t)
@@ -49,16 +58,6 @@ pub record Met (Q : Marked) (F : Atoms) (idle : List ℕ) (t : ℕ) : Type 0 whe
 -- So is every clause with the atom in part x, also where it was dropped.
 pub record MetAt (ws : List ℕ) (Q : Marked) (x : Part) (a : ℕ) (s idle : List ℕ) : Type 0 where
   pub each : (t j : ℕ) → Stands ws x a t j → Met Q (in_bytes s) idle t
-
--- The last place of an atom in a part.
-pub record LastPlace (ws index : List ℕ) (i : ℕ) : Type 0 where
-  pub part : Part
-  pub atom : ℕ
-  pub is : Latest ws index part atom (length ws) i
-
--- Of whichever atom and part that is the last place: every clause with the atom in the part is met.
-pub record MetFrom (ws index : List ℕ) (Q : Marked) (i : ℕ) (s idle : List ℕ) : Type 0 where
-  pub each : (x : Part) (a : ℕ) → Latest ws index x a (length ws) i → MetAt ws Q x a s idle
 
 -- So is every clause with the atom in its positive body.
 abbrev pub MetAll : Marked → Atoms → List ℕ → ℕ → Type 0

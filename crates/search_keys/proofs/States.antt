@@ -8,8 +8,8 @@ use native.Mathlib.Omega.{arith}
 use native.Mathlib.Decide.{ℕ_discrete, dec_lt}
 use lib.ListN.{length, get_or, set, length-set}
 use lib.Seq.{get_or-set_same, get_or-set_other}
-use Rattle.rewriting.specs.Kinds.{Kind, loop, number, kind_of, uses_partner, on_target}
-use Rattle.rewriting.proofs.Rows.{kind_of_number, target_bounds, kind_of_on_target, partner_on_target}
+use Rattle.rewriting.specs.Kinds.{Kind, success, loop, number, kind_of, uses_partner, on_target}
+use Rattle.rewriting.proofs.Rows.{kind_of_number, target_bounds, partner_on_target}
 use Rattle.rewriting.proofs.Quiet.{Quiet, stale, key, quiet_more, quiet_spread, quiet_all}
 use Rattle.table.specs.Questions as Table
 use Rattle.table.specs.View.{view}
@@ -17,8 +17,7 @@ use Rattle.table.proofs.Encoding.{passed_limits}
 use Rattle.step_reach.specs.Bytes.{Reached}
 use Rattle.search_flags.specs.Flags.{flag_at, most, next, highest, Inside, Rows, Raising, AllFlagged, Fenced, mosts, nexts}
 use Rattle.search_keys.specs.State.{Arrays, Calm, Swept, KeySpread, KeyPassed, Settled, Least, Most, Gaps, Flagged, State, Prepared}
-use Rattle.step_kinds.proofs.Numbers.{kind_number}
-use Rattle.search_flags.proofs.Flags.{apart, outside, rows_set}
+use Rattle.search_flags.proofs.Changes.{apart, outside, rows_set}
 use Rattle.search_spreads.proofs.Limits.{key_lt, target_lt}
 
 -- ---- flags and keys by their numbers
@@ -28,8 +27,9 @@ pub quiet_same : (ws ms : List ℕ) → Table.Passed ws → (k : Kind) (f g f' g
     → ((i : ℕ) → i < 2048 → f' i ≡ 0 → f i ≡ 0) → ((i : ℕ) → i < 2048 → g' i ≡ 0 → g i ≡ 0) → Quiet (get_or ws 0 0) (view ws ms) k f' g'
 quiet_same ws ms p k f g f' g' q a b = record { calm = λ u e m x h. q.calm u e (a u.target (omega (arith, target_lt ws ms u h, (passed_limits ws p).few_clauses)) m) (b (key u) (key_lt ws ms p u h) x) h }
 
-seven : (kind : ℕ) → 1 ≤ kind → kind ≤ 8 → kind_of kind ≡ loop → kind ≡ 7
-seven kind a b e = sym (kind_number kind a b) ∙ ap number e
+-- kinds of one number are one
+number_same : (k j : Kind) → number k ≡ number j → k ≡ j
+number_same k j e = sym (kind_of_number k) ∙ ap kind_of e ∙ kind_of_number j
 
 -- the rows of a kind
 row_low : (k : Kind) → So (on_target k) → number k ≤ 16
@@ -47,17 +47,15 @@ module _ (ws ms index hs rs flags : List ℕ) (z : State ws ms index hs rs flags
   few_clauses_lem = (passed_limits ws z.ready.placed.passed).few_clauses
 
   -- the searches' requirements
-  pub state_arrays : (kind : ℕ) → (kind ≡ 7 → flag_at flags 0 0 ≡ 0) → Arrays ws ms index hs rs kind
+  pub state_arrays : (kind : Kind) → (kind ≡ loop → flag_at flags 0 0 ≡ 0) → Arrays ws ms index hs rs kind
   state_arrays kind h = record { ready = z.ready; counted = z.counted; reached = λ e. z.reached (h e) }
 
-  pub state_calm : (kind : ℕ) → 1 ≤ kind → kind ≤ 8 → (kind ≡ 7 → flag_at flags 0 0 ≡ 0) → Settled flags kind → Calm ws ms flags kind
-  state_calm kind a b h s = record {
+  pub state_calm : (kind : Kind) → So (on_target kind) → (kind ≡ loop → flag_at flags 0 0 ≡ 0) → Settled flags kind → Calm ws ms flags kind
+  state_calm kind o h s = record {
     rows = z.rows;
-    quiet = quiet_same ws ms z.ready.placed.passed (kind_of kind) (flag_at flags kind) (flag_at flags (8 + kind)) (flag_at flags kind) stale
-        (subst (λ j. Quiet (get_or ws 0 0) (view ws ms) (kind_of kind) (flag_at flags j) (flag_at flags (8 + j))) (kind_number kind a b) (z.quiet (kind_of kind) (kind_of_on_target kind b, λ e. h (seven kind a b e))))
-        (λ i l e. e) (λ i l e. s i l);
-    least = λ p u e f h. subst (λ j. flag_at flags j u.target ≤ key u + 1) (kind_number kind a b) (z.least (kind_of kind) p u e (subst (λ j. flag_at flags (8 + j) (key u) ≡ 0) (sym (kind_number kind a b)) (s (key u) (key_lt ws ms z.ready.placed.passed u h))) h);
-    bounded = λ e u f _ h. z.bounded u f (subst (λ j. flag_at flags (8 + j) (key u) ≡ 0) e (s (key u) (key_lt ws ms z.ready.placed.passed u h))) h;
+    quiet = quiet_same ws ms z.ready.placed.passed kind (flag_at flags (number kind)) (flag_at flags (8 + number kind)) (flag_at flags (number kind)) stale (z.quiet kind (o, h)) (λ i l e. e) (λ i l e. s i l);
+    least = λ p u e f h. z.least kind p u e (s (key u) (key_lt ws ms z.ready.placed.passed u h)) h;
+    bounded = λ e u f _ h. z.bounded u f (subst (λ j. flag_at flags (8 + number j) (key u) ≡ 0) e (s (key u) (key_lt ws ms z.ready.placed.passed u h))) h;
     gaps = z.gaps;
   }
 
@@ -116,41 +114,40 @@ module _ (ws ms index hs rs flags : List ℕ) (z : State ws ms index hs rs flags
       (most_at flags' f.more (λ i l e. sym (f.same 11 i (omega arith) l) ∙ e)) (gaps_at flags' f.rest)
 
   -- after a search
-  pub state_swept : (flags' : List ℕ) (kind : ℕ) → 1 ≤ kind → kind ≤ 8 → Swept ws ms flags flags' kind → State ws ms index hs rs flags'
-  state_swept flags' kind a b s = state_with flags' s.calm.rows (λ e. sym (s.frame 0 (omega arith) (inl (omega arith))) ∙ e) (λ k n q. by_cases (ℕ_discrete (number k) kind)
+  pub state_swept : (flags' : List ℕ) (kind : Kind) → 1 ≤ number kind → number kind ≤ 8 → Swept ws ms flags flags' kind → State ws ms index hs rs flags'
+  state_swept flags' kind a b s = state_with flags' s.calm.rows (λ e. sym (s.frame 0 (omega arith) (inl (omega arith))) ∙ e) (λ k n q. by_cases (ℕ_discrete (number k) (number kind))
       (λ e. quiet_more (get_or ws 0 0) (view ws ms) k (flag_at flags' (number k)) stale
-      (subst (λ j. Quiet (get_or ws 0 0) (view ws ms) j (flag_at flags' (number k)) stale) (ap kind_of (sym e) ∙ kind_of_number k)
-      (subst (λ j. Quiet (get_or ws 0 0) (view ws ms) (kind_of kind) (flag_at flags' j) stale) (sym e) s.calm.quiet))
+      (subst (λ j. Quiet (get_or ws 0 0) (view ws ms) j (flag_at flags' (number j)) stale) (sym (number_same k kind e)) s.calm.quiet)
       (flag_at flags' (number k)) (flag_at flags' (8 + number k)) (λ i e. e) (λ i e. refl))
       (λ d. same_at flags' k (λ i l e. sym (s.frame (number k * 2048 + i) (omega (arith, target_bounds k n.0)) (aside (number k) i l d)) ∙ e)
       (λ i l e. sym (s.frame ((8 + number k) * 2048 + i) (omega (arith, target_bounds k n.0)) (aside (8 + number k) i l (λ x. omega (arith, target_bounds k n.0)))) ∙ e) q))
-      (λ k n. by_cases (ℕ_discrete (number k) kind)
-      (λ e p u f g h. subst (λ j. flag_at flags' j u.target ≤ key u + 1) (sym e) (s.calm.least (subst (λ j. So (uses_partner j)) (sym (ap kind_of (sym e) ∙ kind_of_number k)) p) u (f ∙ sym (ap kind_of (sym e) ∙ kind_of_number k)) refl h))
+      (λ k n. by_cases (ℕ_discrete (number k) (number kind))
+      (λ e p u f g h. subst (λ j. flag_at flags' (number j) u.target ≤ key u + 1) (sym (number_same k kind e)) (s.calm.least (subst (λ j. So (uses_partner j)) (number_same k kind e) p) u (f ∙ number_same k kind e) refl h))
       (λ d. least_at flags' k n (λ i l _. omega (arith, s.frame (number k * 2048 + i) (omega (arith, target_bounds k n.0)) (aside (number k) i l d)))
       (λ i l e. sym (s.frame ((8 + number k) * 2048 + i) (omega (arith, target_bounds k n.0)) (aside (8 + number k) i l (λ x. omega (arith, target_bounds k n.0)))) ∙ e)))
       (most_at flags' (λ i l. omega (arith, s.frame (mosts + i) (omega arith) (inr (omega arith)))) (λ i l e. sym (s.frame (11 * 2048 + i) (omega arith) (inr (omega arith))) ∙ e)) s.calm.gaps
     where
-      aside : (r i : ℕ) → i < 2048 → r ≢ kind → (r * 2048 + i < kind * 2048) ⊎ (kind * 2048 + 2048 ≤ r * 2048 + i)
-      aside r i l d = by_cases (dec_lt r kind) (λ x. inl (omega arith)) (λ x. inr (omega arith))
+      aside : (r i : ℕ) → i < 2048 → r ≢ number kind → (r * 2048 + i < number kind * 2048) ⊎ (number kind * 2048 + 2048 ≤ r * 2048 + i)
+      aside r i l d = by_cases (dec_lt r (number kind)) (λ x. inl (omega arith)) (λ x. inr (omega arith))
 
   -- a key spread
-  module _ (flags' : List ℕ) (kind x : ℕ) (a : 1 ≤ kind) (b : kind ≤ 8) (l : x < 2048) (s : KeySpread ws ms flags flags' kind x) where
+  module _ (flags' : List ℕ) (kind : Kind) (x : ℕ) (a : 1 ≤ number kind) (b : number kind ≤ 8) (l : x < 2048) (s : KeySpread ws ms flags flags' kind x) where
     abbrev gone : List ℕ
-    gone = set flags' ((8 + kind) * 2048 + x) 0
+    gone = set flags' ((8 + number kind) * 2048 + x) 0
 
-    elsewhere : (r i : ℕ) → i < 2048 → (r ≢ 8 + kind) ⊎ (i ≢ x) → flag_at gone r i ≡ flag_at flags' r i
-    elsewhere r i k o = get_or-set_other flags' ((8 + kind) * 2048 + x) (r * 2048 + i) 0 0 (λ e. ⊎_elim (λ d. apart r (8 + kind) i x k l d e) (λ d. by_cases (ℕ_discrete r (8 + kind)) (λ q. d (omega arith)) (λ q. apart r (8 + kind) i x k l q e)) o)
+    elsewhere : (r i : ℕ) → i < 2048 → (r ≢ 8 + number kind) ⊎ (i ≢ x) → flag_at gone r i ≡ flag_at flags' r i
+    elsewhere r i k o = get_or-set_other flags' ((8 + number kind) * 2048 + x) (r * 2048 + i) 0 0 (λ e. ⊎_elim (λ d. apart r (8 + number kind) i x k l d e) (λ d. by_cases (ℕ_discrete r (8 + number kind)) (λ q. d (omega arith)) (λ q. apart r (8 + number kind) i x k l q e)) o)
 
     after_spread : State ws ms index hs rs flags'
-    after_spread = state_raised flags' kind (get_or ws 1 0) s.raising (λ _ _. omega arith)
+    after_spread = state_raised flags' (number kind) (get_or ws 1 0) s.raising (λ _ _. omega arith)
 
     key_quiet : (k : Kind) → Flagged k flags → Quiet (get_or ws 0 0) (view ws ms) k (flag_at flags (number k)) (flag_at flags (8 + number k)) → Quiet (get_or ws 0 0) (view ws ms) k (flag_at gone (number k)) (flag_at gone (8 + number k))
-    key_quiet k n q = by_cases (ℕ_discrete (number k) kind)
+    key_quiet k n q = by_cases (ℕ_discrete (number k) (number kind))
         (λ e. quiet_same ws ms z.ready.placed.passed k (flag_at flags' (number k)) (flag_at gone (8 + number k)) (flag_at gone (number k)) (flag_at gone (8 + number k))
         (quiet_spread (get_or ws 0 0) (view ws ms) k (flag_at flags' (number k)) (flag_at flags' (8 + number k)) (raised q) (flag_at flags' (number k)) (flag_at gone (8 + number k)) x (λ i e. e)
         (λ i d h. by_cases (dec_lt i 2048) (λ j. sym (elsewhere (8 + number k) i j (inr d)) ∙ h)
-        (λ j. sym (get_or-set_other flags' ((8 + kind) * 2048 + x) ((8 + number k) * 2048 + i) 0 0 (λ y. omega arith)) ∙ h))
-        (λ u f d h. subst (λ r. flag_at flags' r u.target ≢ 0) (sym e) (s.flagged u (f ∙ sym (kind_of_number k) ∙ ap kind_of e) d h).0))
+        (λ j. sym (get_or-set_other flags' ((8 + number kind) * 2048 + x) ((8 + number k) * 2048 + i) 0 0 (λ y. omega arith)) ∙ h))
+        (λ u f d h. subst (λ r. flag_at flags' r u.target ≢ 0) (sym e) (s.flagged u (f ∙ number_same k kind e) d h).0))
         (λ i j h. sym (elsewhere (number k) i j (inl (λ y. omega (arith, target_bounds k n.0)))) ∙ h) (λ i j h. h))
         (λ d. same_with k (raised q) (λ i j h. sym (elsewhere (number k) i j (inl (λ y. omega (arith, target_bounds k n.0)))) ∙ h) (λ i j h. sym (elsewhere (8 + number k) i j (inl (λ y. d (omega arith)))) ∙ h))
       where
@@ -166,36 +163,36 @@ module _ (ws ms index hs rs flags : List ℕ) (z : State ws ms index hs rs flags
         let t : u.target < 2048 = omega (arith, target_lt ws ms u h, few_clauses_lem) in
         let l' = key_lt ws ms z.ready.placed.passed u h in
         let same = elsewhere (number k) u.target t (inl (λ y. omega (arith, target_bounds k n.0))) in
-        by_cases (ℕ_discrete (number k) kind)
+        by_cases (ℕ_discrete (number k) (number kind))
         (λ q. by_cases (ℕ_discrete (key u) x)
-        (λ d. let w = ((s.flagged u (e ∙ sym (kind_of_number k) ∙ ap kind_of q) d h).1 (subst (λ j. So (uses_partner j)) (sym (kind_of_number k) ∙ ap kind_of q) p)).0.1 in
-        let v : flag_at flags' (number k) u.target ≡ flag_at flags' kind u.target = ap (λ r. flag_at flags' r u.target) q in omega (arith, w, v, same, d))
+        (λ d. let w = ((s.flagged u (e ∙ number_same k kind q) d h).1 (subst (λ j. So (uses_partner j)) (number_same k kind q) p)).0.1 in
+        let v : flag_at flags' (number k) u.target ≡ flag_at flags' (number kind) u.target = ap (λ r. flag_at flags' r u.target) q in omega (arith, w, v, same, d))
         (λ d. let w = after_spread.least k p u e (sym (elsewhere (8 + number k) (key u) l' (inr d)) ∙ f) h in omega (arith, w, same)))
         (λ q. let w = after_spread.least k p u e (sym (elsewhere (8 + number k) (key u) l' (inl (λ y. q (omega arith)))) ∙ f) h in omega (arith, w, same))
 
     key_bounded : Most ws ms (most gone) (flag_at gone 11)
     key_bounded u e f h =
         let l' = key_lt ws ms z.ready.placed.passed u h in
-        let same : most gone u.target ≡ most flags' u.target = get_or-set_other flags' ((8 + kind) * 2048 + x) (mosts + u.target) 0 0 (λ y. omega arith) in
-        by_cases (ℕ_discrete kind 3)
+        let same : most gone u.target ≡ most flags' u.target = get_or-set_other flags' ((8 + number kind) * 2048 + x) (mosts + u.target) 0 0 (λ y. omega arith) in
+        by_cases (ℕ_discrete (number kind) 3)
         (λ q. by_cases (ℕ_discrete (key u) x)
-        (λ d. let w = ((s.flagged u (e ∙ ap kind_of (sym q)) d h).1 (subst (λ j. So (uses_partner (kind_of j))) (sym q) refl)).1 q in omega (arith, w, same, d))
+        (λ d. let w = ((s.flagged u (e ∙ sym (number_same kind success q)) d h).1 (subst (λ j. So (uses_partner j)) (sym (number_same kind success q)) refl)).1 (number_same kind success q) in omega (arith, w, same, d))
         (λ d. let w = after_spread.bounded u e (sym (elsewhere 11 (key u) l' (inr d)) ∙ f) h in omega (arith, w, same)))
         (λ q. let w = after_spread.bounded u e (sym (elsewhere 11 (key u) l' (inl (λ y. q (omega arith)))) ∙ f) h in omega (arith, w, same))
 
     pub key_passed : KeyPassed ws ms index hs rs flags gone kind x
     key_passed = record {
-      state = state_with gone (rows_set flags' (8 + kind) x 0 (omega arith) l (λ _. refl) (get_or ws 1 0) after_spread.rows)
+      state = state_with gone (rows_set flags' (8 + number kind) x 0 (omega arith) l (λ _. refl) (get_or ws 1 0) after_spread.rows)
           (λ e. s.raising.grown 0 0 (omega arith) (omega arith) (sym (elsewhere 0 0 (omega arith) (inl (λ y. omega arith))) ∙ e)) key_quiet key_least key_bounded
-          (gaps_at gone (λ i k. get_or-set_other flags' ((8 + kind) * 2048 + x) (nexts + i) 0 0 (λ y. omega arith) ∙ s.raising.rest i k));
+          (gaps_at gone (λ i k. get_or-set_other flags' ((8 + number kind) * 2048 + x) (nexts + i) 0 0 (λ y. omega arith) ∙ s.raising.rest i k));
       long = simp length-set s.raising.long;
       reach = elsewhere 0 0 (omega arith) (inl (λ y. omega arith)) ∙ s.raising.frame 0 0 (omega arith) (omega arith) (λ e. omega arith);
-      gone = get_or-set_same flags' ((8 + kind) * 2048 + x) 0 0 (omega (arith, after_spread.rows.long));
-      rest = λ i k d. elsewhere (8 + kind) i k (inr d) ∙ s.raising.frame (8 + kind) i (omega arith) k (λ e. omega arith);
+      gone = get_or-set_same flags' ((8 + number kind) * 2048 + x) 0 0 (omega (arith, after_spread.rows.long));
+      rest = λ i k d. elsewhere (8 + number kind) i k (inr d) ∙ s.raising.frame (8 + number kind) i (omega arith) k (λ e. omega arith);
     }
 
   -- a key that was not fresh
-  pub key_stale : (kind x : ℕ) → flag_at flags (8 + kind) x ≡ 0 → KeyPassed ws ms index hs rs flags flags kind x
+  pub key_stale : (kind : Kind) (x : ℕ) → flag_at flags (8 + number kind) x ≡ 0 → KeyPassed ws ms index hs rs flags flags kind x
   key_stale kind x e = record { state = z; long = refl; reach = refl; gone = e; rest = λ i l d. refl }
 
   -- the reach found anew, and every target of kind 7 flagged
@@ -226,45 +223,51 @@ module _ (ws ms index hs rs flags : List ℕ) (z : State ws ms index hs rs flags
 -- ---- the keys of a kind, one after the other
 
 -- the keys below x are fresh no more
-pub record Settling (ws ms index hs rs flags flags' : List ℕ) (kind x end : ℕ) : Type 0 where
+pub record Settling (ws ms index hs rs flags flags' : List ℕ) (kind : Kind) (x end : ℕ) : Type 0 where
   pub state : State ws ms index hs rs flags'
   pub long : length flags' ≡ length flags
-  pub inside : Inside flags' (8 + kind) x end
+  pub inside : Inside flags' (8 + number kind) x end
   pub reach : flag_at flags 0 0 ≡ 0 → flag_at flags' 0 0 ≡ 0
 
-pub settling_none : (ws ms index hs rs flags : List ℕ) (kind low end : ℕ) → State ws ms index hs rs flags → Inside flags (8 + kind) low end → Settling ws ms index hs rs flags flags kind low end
+pub settling_none : (ws ms index hs rs flags : List ℕ) (kind : Kind) (low end : ℕ) → State ws ms index hs rs flags → Inside flags (8 + number kind) low end → Settling ws ms index hs rs flags flags kind low end
 settling_none ws ms index hs rs flags kind low end z w = record { state = z; long = refl; inside = w; reach = λ e. e }
 
-module _ (ws ms index hs rs flags flags' : List ℕ) (kind x end : ℕ) (s : Settling ws ms index hs rs flags flags' kind x end) where
+module _ (ws ms index hs rs flags flags' : List ℕ) (kind : Kind) (x end : ℕ) (s : Settling ws ms index hs rs flags flags' kind x end) where
   pub settling_on : (flags'' : List ℕ) → KeyPassed ws ms index hs rs flags' flags'' kind x → Settling ws ms index hs rs flags flags'' kind (x + 1) end
   settling_on flags'' k = record {
     state = k.state;
     long = k.long ∙ s.long;
-    inside = λ i l f. by_cases (ℕ_discrete i x) (λ d. absurd (f (subst (λ j. flag_at flags'' (8 + kind) j ≡ 0) (sym d) k.gone)))
+    inside = λ i l f. by_cases (ℕ_discrete i x) (λ d. absurd (f (subst (λ j. flag_at flags'' (8 + number kind) j ≡ 0) (sym d) k.gone)))
         (λ d. let q = s.inside i l (λ e. f (k.rest i l d ∙ e)) in (omega arith, q.1));
     reach = λ e. k.reach ∙ s.reach e;
   }
 
-  pub settling_end : 1 ≤ kind → kind ≤ 8 → end ≤ 2048 → end ≤ x → (flags'' : List ℕ) → Fenced flags' flags'' (8 + kind) end end
+  pub settling_end : 1 ≤ number kind → number kind ≤ 8 → end ≤ 2048 → end ≤ x → (flags'' : List ℕ) → Fenced flags' flags'' (8 + number kind) end end
       → State ws ms index hs rs flags'' × (Settled flags'' kind × (flag_at flags 0 0 ≡ 0 → flag_at flags'' 0 0 ≡ 0))
   settling_end a b c l flags'' f = (
-    state_fenced ws ms index hs rs flags' s.state flags'' (8 + kind) end end f (λ i k h. let q = s.inside i k h in absurd (omega arith)) c (λ h. absurd (omega arith)),
+    state_fenced ws ms index hs rs flags' s.state flags'' (8 + number kind) end end f (λ i k h. let q = s.inside i k h in absurd (omega arith)) c (λ h. absurd (omega arith)),
     (
-      λ y k. f.same (8 + kind) y (omega arith) k ∙ outside flags' (8 + kind) x end y s.inside k (λ p q. omega arith),
+      λ y k. f.same (8 + number kind) y (omega arith) k ∙ outside flags' (8 + number kind) x end y s.inside k (λ p q. omega arith),
       λ e. f.same 0 0 (omega arith) (omega arith) ∙ s.reach e,
     ),
   )
 
 -- ---- the search of a kind
 
-module _ (ws ms index hs rs flags : List ℕ) (kind : ℕ) (p : Prepared ws ms index hs rs flags kind) (a : 1 ≤ kind) (b : kind ≤ 8) where
+module _ (ws ms index hs rs flags : List ℕ) (kind : Kind) (p : Prepared ws ms index hs rs flags kind) (o : So (on_target kind)) where
   pub prepared_arrays : Arrays ws ms index hs rs kind
   prepared_arrays = state_arrays ws ms index hs rs flags p.state kind p.known
 
   pub prepared_calm : Calm ws ms flags kind
-  prepared_calm = state_calm ws ms index hs rs flags p.state kind a b p.known p.settled
+  prepared_calm = state_calm ws ms index hs rs flags p.state kind o p.known p.settled
 
   -- the search, then the row's bounds drawn closer
-  pub prepared_swept : (flags' flags'' : List ℕ) (low end : ℕ) → Swept ws ms flags flags' kind → Inside flags' kind low end → end ≡ highest flags kind → Fenced flags' flags'' kind low end → State ws ms index hs rs flags''
-  prepared_swept flags' flags'' low end s n e f = state_fenced ws ms index hs rs flags' (state_swept ws ms index hs rs flags p.state flags' kind a b s) flags'' kind low end f n
-      (omega (arith, p.state.rows.high kind a (omega arith))) (λ _. omega (arith, p.state.rows.few kind a b))
+  pub prepared_swept : (flags' flags'' : List ℕ) (low end : ℕ) → Swept ws ms flags flags' kind → Inside flags' (number kind) low end → end ≡ highest flags (number kind) → Fenced flags' flags'' (number kind) low end → State ws ms index hs rs flags''
+  prepared_swept flags' flags'' low end s n e f = state_fenced ws ms index hs rs flags' (state_swept ws ms index hs rs flags p.state flags' kind a b s) flags'' (number kind) low end f n
+      (omega (arith, p.state.rows.high (number kind) a (omega (arith, b)))) (λ _. omega (arith, p.state.rows.few (number kind) a b))
+    where
+      a : 1 ≤ number kind
+      a = (target_bounds kind o).0
+
+      b : number kind ≤ 8
+      b = (target_bounds kind o).1

@@ -7,43 +7,39 @@ use Prim.Native.Nat.{ℕ, ◌+◌}
 use native.Mathlib.Omega.{arith}
 use lib.ListN.{get_or}
 use Rattle.rewriting.specs.Steps.{step}
-use Rattle.rewriting.specs.Kinds.{number, kind_of, uses_partner}
+use Rattle.rewriting.specs.Kinds.{Kind, success, number, uses_partner}
 use Rattle.rewriting.specs.Reducer.{spares, eligible}
+use Rattle.rewriting.proofs.Rows.{kinds_partner}
 use Rattle.rewriting.proofs.Subsumed.{subsumer_eligible}
 use Rattle.table.specs.View.{view}
 use Rattle.table.proofs.Parts.{view_ascends}
 use Rattle.step_kinds.specs.Kinds.{PartnerKind}
-use Rattle.step_kinds.proofs.Numbers.{kind_number, partner_number}
 use Rattle.search_flags.specs.Flags.{flag_at, Covered}
 use Rattle.search_keys.specs.State.{State, Subsumer}
 use Rattle.search_spreads.specs.Spreads.{PartnerSpread}
 use Rattle.search_spreads.proofs.Clues.{spread_unnamed}
-use Rattle.search_flags.proofs.Flags.{raising_none}
+use Rattle.search_flags.proofs.Changes.{raising_none}
 use Rattle.search_keys.proofs.States.{partner_loop}
 
-module _ (ws ms index hs rs flags : List ℕ) (z : State ws ms index hs rs flags) (kind x q : ℕ) (s : Subsumer ws ms flags kind x q) (k : PartnerKind kind) (d : kind ≢ 3) where
-  spared : So (spares (kind_of kind))
-  spared = partner_number (λ i. i ≢ 3 → So (spares (kind_of i))) kind k (λ e. absurd (e refl)) (λ e. refl) (λ e. refl) d
-
-  same_row : number (kind_of kind) ≡ kind
-  same_row = kind_number kind k.low k.high
+module _ (ws ms index hs rs flags : List ℕ) (z : State ws ms index hs rs flags) (kind : Kind) (x q : ℕ) (s : Subsumer ws ms flags kind x q) (k : PartnerKind kind) (d : kind ≢ success) where
+  spared : So (spares kind)
+  spared = kinds_partner (λ i. i ≢ success → So (spares i)) (λ e. absurd (e refl)) (λ e. refl) (λ e. refl) kind k d
 
   -- q is no fresh key
-  stale_key : flag_at flags (8 + number (kind_of kind)) (cond (uses_partner (kind_of kind)) q 0) ≡ 0
-  stale_key = ap (λ r. flag_at flags (8 + r) (cond (uses_partner (kind_of kind)) q 0)) same_row ∙ ap (λ b. flag_at flags (8 + kind) (cond b q 0)) k.uses ∙ s.stale
+  stale_key : flag_at flags (8 + number kind) (cond (uses_partner kind) q 0) ≡ 0
+  stale_key = ap (λ b. flag_at flags (8 + number kind) (cond b q 0)) k ∙ s.stale
 
   -- a target of q is flagged with no greater key
-  target_covered : (t : ℕ) → So (eligible (get_or ws 0 0) (view ws ms) (step (kind_of kind) t q 0)) → Covered flags kind t x
+  target_covered : (t : ℕ) → So (eligible (get_or ws 0 0) (view ws ms) (step kind t q 0)) → Covered flags kind t x
   target_covered t a =
-      let u = step (kind_of kind) t q 0 in
-      let l = z.least (kind_of kind) k.uses u refl stale_key a in
-      let y : cond (uses_partner (kind_of kind)) q 0 ≡ q = ap (λ b. cond b q 0) k.uses in
-      let r : flag_at flags (number (kind_of kind)) t ≡ flag_at flags kind t = ap (λ i. flag_at flags i t) same_row in
-      (((λ m. (z.quiet (kind_of kind) (partner_loop flags (kind_of kind) k.uses)).calm u refl (r ∙ m) stale_key a), omega (arith, l, y, r, s.less)), λ e. absurd (d e))
+      let u = step kind t q 0 in
+      let l = z.least kind k u refl stale_key a in
+      let y : cond (uses_partner kind) q 0 ≡ q = ap (λ b. cond b q 0) k in
+      (((λ m. (z.quiet kind (partner_loop flags kind k)).calm u refl m stale_key a), omega (arith, l, y, s.less)), λ e. absurd (d e))
 
   -- a target of x is one of q, so it is flagged already
   pub subsumer_spread : PartnerSpread ws ms flags flags kind x
   subsumer_spread = spread_unnamed ws ms flags flags kind x k d (record {
-    raising = raising_none flags kind (get_or ws 1 0);
-    flagged = λ t h. target_covered t (subsumer_eligible (get_or ws 0 0) (view ws ms) (view_ascends ws ms z.ready.placed.passed) x q s.less s.kept s.holds (kind_of kind) spared t h);
+    raising = raising_none flags (number kind) (get_or ws 1 0);
+    flagged = λ t h. target_covered t (subsumer_eligible (get_or ws 0 0) (view ws ms) (view_ascends ws ms z.ready.placed.passed) x q s.less s.kept s.holds kind spared t h);
   })

@@ -10,7 +10,7 @@ use Rattle.std.proofs.Math.Bool.{So}
 use Rattle.rewriting.specs.Marked.{entry, left}
 use Rattle.rewriting.specs.Steps.{Step, condition}
 use Rattle.rewriting.specs.Reducer.{eligible}
-use Rattle.rewriting.specs.Kinds.{Kind, success, loop, subsumed, number, kind_of, uses_partner, on_target}
+use Rattle.rewriting.specs.Kinds.{Kind, success, loop, subsumed, number, uses_partner, on_target}
 use Rattle.rewriting.proofs.Quiet.{Quiet, stale, key}
 use Rattle.table.specs.View.{view}
 use Rattle.step_parts.specs.Parts.{Ready}
@@ -19,10 +19,10 @@ use Rattle.step_conditions.specs.Known.{Heads}
 use Rattle.search_flags.specs.Flags.{flag_at, most, next, Covered, Inside, Rows, Raising, nexts}
 
 -- The arrays: the clauses' starts, the number of kept heads of each atom and, for kind 7, the reach.
-pub record Arrays (ws ms index hs rs : List ℕ) (kind : ℕ) : Type 0 where
+pub record Arrays (ws ms index hs rs : List ℕ) (kind : Kind) : Type 0 where
   pub ready : Ready ws ms index
   pub counted : Heads ws ms hs
-  pub reached : kind ≡ 7 → Reached ws ms rs
+  pub reached : kind ≡ loop → Reached ws ms rs
 
 -- Where a kind has a partner, a target's flag is no more than one above the partner of any eligible step whose key is not fresh.
 abbrev pub Least : List ℕ → List ℕ → Kind → (ℕ → ℕ) → (ℕ → ℕ) → Type 0
@@ -37,17 +37,17 @@ abbrev pub Gaps : List ℕ → List ℕ → List ℕ → Type 0
 Gaps ws ms flags = (p j : ℕ) → p < 2048 → p ≤ j → j < next flags p → ¬ So (entry (view ws ms) j).kept
 
 -- A target of the kind without a flag has no eligible step.
-pub record Calm (ws ms flags : List ℕ) (kind : ℕ) : Type 0 where
+pub record Calm (ws ms flags : List ℕ) (kind : Kind) : Type 0 where
   pub rows : Rows (get_or ws 1 0) flags
-  pub least : Least ws ms (kind_of kind) (flag_at flags kind) stale
-  pub bounded : kind ≡ 3 → Most ws ms (most flags) stale
+  pub least : Least ws ms kind (flag_at flags (number kind)) stale
+  pub bounded : kind ≡ success → Most ws ms (most flags) stale
   pub gaps : Gaps ws ms flags
-  pub quiet : Quiet (get_or ws 0 0) (view ws ms) (kind_of kind) (flag_at flags kind) stale
+  pub quiet : Quiet (get_or ws 0 0) (view ws ms) kind (flag_at flags (number kind)) stale
 
 -- A search of the kind changed flags of its own, and nothing else but the numbers of gone clauses.
-pub record Swept (ws ms flags flags' : List ℕ) (kind : ℕ) : Type 0 where
+pub record Swept (ws ms flags flags' : List ℕ) (kind : Kind) : Type 0 where
   pub calm : Calm ws ms flags' kind
-  pub frame : (j : ℕ) → j < nexts → (j < kind * 2048) ⊎ (kind * 2048 + 2048 ≤ j) → get_or flags' j 0 ≡ get_or flags j 0
+  pub frame : (j : ℕ) → j < nexts → (j < number kind * 2048) ⊎ (number kind * 2048 + 2048 ≤ j) → get_or flags' j 0 ≡ get_or flags j 0
 
 -- The clauses from q up to r are gone.
 pub record Skipped (ws ms flags flags' : List ℕ) (q e r : ℕ) : Type 0 where
@@ -58,26 +58,26 @@ pub record Skipped (ws ms flags flags' : List ℕ) (q e r : ℕ) : Type 0 where
   pub same : (j : ℕ) → j < nexts → get_or flags' j 0 ≡ get_or flags j 0
 
 -- The flag of a target of the kind went up past clauses that are gone.
-pub record Lifted (ws ms flags flags' : List ℕ) (kind t : ℕ) : Type 0 where
+pub record Lifted (ws ms flags flags' : List ℕ) (kind : Kind) (t : ℕ) : Type 0 where
   pub swept : Swept ws ms flags flags' kind
-  pub flagged : flag_at flags' kind t ≢ 0
-  pub inside : (low end : ℕ) → Inside flags kind low end → Inside flags' kind low end
+  pub flagged : flag_at flags' (number kind) t ≢ 0
+  pub inside : (low end : ℕ) → Inside flags (number kind) low end → Inside flags' (number kind) low end
 
 -- Clause q stands before x, subsumes it and is no fresh key of the kind, 5 or 8: every eligible target of x is one of q.
-pub record Subsumer (ws ms flags : List ℕ) (kind x q : ℕ) : Type 0 where
+pub record Subsumer (ws ms flags : List ℕ) (kind : Kind) (x q : ℕ) : Type 0 where
   pub less : q < x
-  pub stale : flag_at flags (8 + kind) q ≡ 0
+  pub stale : flag_at flags (8 + number kind) q ≡ 0
   pub kept : (entry (view ws ms) q).kept ≡ true
   pub holds : So (condition subsumed (left (view ws ms)) (entry (view ws ms) x).clause (entry (view ws ms) q).clause 0)
 
 -- Every target that has an eligible step with the key is flagged; the key is what a step names beside its target, the partner or the atom.
-pub record KeySpread (ws ms flags flags' : List ℕ) (kind x : ℕ) : Type 0 where
-  pub raising : Raising flags flags' kind (get_or ws 1 0)
-  pub flagged : (u : Step) → u.kind ≡ kind_of kind → key u ≡ x → So (eligible (get_or ws 0 0) (view ws ms) u) → (flag_at flags' kind u.target ≢ 0) × (So (uses_partner (kind_of kind)) → Covered flags' kind u.target x)
+pub record KeySpread (ws ms flags flags' : List ℕ) (kind : Kind) (x : ℕ) : Type 0 where
+  pub raising : Raising flags flags' (number kind) (get_or ws 1 0)
+  pub flagged : (u : Step) → u.kind ≡ kind → key u ≡ x → So (eligible (get_or ws 0 0) (view ws ms) u) → (flag_at flags' (number kind) u.target ≢ 0) × (So (uses_partner kind) → Covered flags' kind u.target x)
 
 -- no key of the kind is fresh
-abbrev pub Settled : List ℕ → ℕ → Type 0
-Settled flags kind = (x : ℕ) → x < 2048 → flag_at flags (8 + kind) x ≡ 0
+abbrev pub Settled : List ℕ → Kind → Type 0
+Settled flags kind = (x : ℕ) → x < 2048 → flag_at flags (8 + number kind) x ≡ 0
 
 -- the search of a kind goes by its flags: kind 9 has none, and kind 7 needs the reach
 abbrev pub Flagged : Kind → List ℕ → Type 0
@@ -98,15 +98,15 @@ pub record State (ws ms index hs rs flags : List ℕ) : Type 0 where
   pub gaps : Gaps ws ms flags
 
 -- One key is no longer fresh, and the others stay as they were.
-pub record KeyPassed (ws ms index hs rs flags flags' : List ℕ) (kind x : ℕ) : Type 0 where
+pub record KeyPassed (ws ms index hs rs flags flags' : List ℕ) (kind : Kind) (x : ℕ) : Type 0 where
   pub state : State ws ms index hs rs flags'
   pub long : length flags' ≡ length flags
   pub reach : flag_at flags' 0 0 ≡ flag_at flags 0 0
-  pub gone : flag_at flags' (8 + kind) x ≡ 0
-  pub rest : (i : ℕ) → i < 2048 → i ≢ x → flag_at flags' (8 + kind) i ≡ flag_at flags (8 + kind) i
+  pub gone : flag_at flags' (8 + number kind) x ≡ 0
+  pub rest : (i : ℕ) → i < 2048 → i ≢ x → flag_at flags' (8 + number kind) i ≡ flag_at flags (8 + number kind) i
 
 -- The search of a kind can begin.
-pub record Prepared (ws ms index hs rs flags : List ℕ) (kind : ℕ) : Type 0 where
+pub record Prepared (ws ms index hs rs flags : List ℕ) (kind : Kind) : Type 0 where
   pub state : State ws ms index hs rs flags
-  pub known : kind ≡ 7 → flag_at flags 0 0 ≡ 0
+  pub known : kind ≡ loop → flag_at flags 0 0 ≡ 0
   pub settled : Settled flags kind

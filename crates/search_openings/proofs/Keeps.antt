@@ -1,9 +1,9 @@
 -- Each step keeps the state.
-use mathlib.Core.Path.{◌≡◌, refl, sym, ap, subst, ◌∙◌}
+use mathlib.Core.Path.{◌≡◌, sym, ap, subst, ◌∙◌}
 use mathlib.Core.Logic.{◌≢◌, ◌⊎◌, ⊎_elim}
-use mathlib.Core.Bool.{So, false≢true}
+use mathlib.Core.Bool.{So}
 use mathlib.Core.List.{List}
-use Prim.Native.Nat.{ℕ, zero, suc, ◌+◌}
+use Prim.Native.Nat.{ℕ, ◌+◌}
 use native.Mathlib.Omega.{arith}
 use lib.ListN.{get_or}
 use Rattle.semantics.specs.Lists.{◌∈◌}
@@ -13,7 +13,7 @@ use Rattle.rewriting.specs.Marked.{Marked, entry, left}
 use Rattle.rewriting.specs.Reaches.{reach}
 use Rattle.rewriting.specs.Steps.{Step, applies, effect}
 use Rattle.rewriting.specs.Reducer.{eligible}
-use Rattle.rewriting.specs.Kinds.{Kind, number, kind_of, on_target}
+use Rattle.rewriting.specs.Kinds.{Kind, number, on_target}
 use Rattle.rewriting.specs.Uses.{drops}
 use Rattle.rewriting.proofs.Effect.{effect_below, reach_less, idle_reach}
 use Rattle.rewriting.proofs.Reopen.{Opens, open_partner, open_head, open_reach, opened, same_head_reach, SameHead}
@@ -87,16 +87,3 @@ module _ (ws ms index hs rs flags : List ℕ) (z : State ws ms index hs rs flags
         fresh k g u e (open_partner y p q w) = absurd (d y)
         fresh k g u e (open_head y a m i) = atom_key flags' k u e a (f u.atom (in_head u.atom m))
         fresh k g u e (open_reach y q a w) = absurd (⊎_elim (λ v. v a) w (t (g.1 (sym e ∙ q))))
-
--- the kinds that delete
-pub not_drop : (kind : ℕ) → kind ≢ 3 → kind ≢ 4 → ¬ So (drops (kind_of kind))
-not_drop zero x y h = false≢true h
-not_drop (suc zero) x y h = false≢true h
-not_drop (suc (suc zero)) x y h = false≢true h
-not_drop (suc (suc (suc zero))) x y h = x refl
-not_drop (suc (suc (suc (suc zero)))) x y h = y refl
-not_drop (suc (suc (suc (suc (suc zero))))) x y h = false≢true h
-not_drop (suc (suc (suc (suc (suc (suc zero)))))) x y h = false≢true h
-not_drop (suc (suc (suc (suc (suc (suc (suc zero))))))) x y h = false≢true h
-not_drop (suc (suc (suc (suc (suc (suc (suc (suc zero)))))))) x y h = false≢true h
-not_drop (suc (suc (suc (suc (suc (suc (suc (suc (suc n))))))))) x y h = false≢true h

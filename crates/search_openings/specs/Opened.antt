@@ -3,6 +3,7 @@ use Rattle.std.specs.Prelude.{◌≡◌, ◌≢◌, ◌⊎◌, List, ℕ, ◌≤
 use Rattle.std.proofs.Math.Bool.{So}
 use Rattle.semantics.specs.Lists.{◌∈◌}
 use Rattle.semantics.proofs.Models.{All}
+use Rattle.rewriting.specs.Kinds.{on_target}
 use Rattle.rewriting.specs.Reaches.{reach}
 use Rattle.rewriting.specs.Steps as steps
 use Rattle.rewriting.proofs.Reopen.{SameHead}
@@ -37,10 +38,9 @@ pub record AtomFresh (flags : List ℕ) (a : ℕ) : Type 0 where
 abbrev pub AllFresh : List ℕ → List ℕ → Type 0
 AllFresh flags l = (a : ℕ) → a ∈ l → AtomFresh flags a
 
--- The step applies.
+-- The step is of kinds 1 to 8, and applies.
 pub record StepMade (ws ms : List ℕ) (s : Step) : Type 0 where
-  pub low : 1 ≤ s.kind
-  pub high : s.kind ≤ 8
+  pub on : So (on_target s.kind)
   pub applies : So (applies (get_or ws 0 0) (view ws ms) (step_of s))
 
 -- Where the first flag stays 0, the deletion leaves the reach as it is: the clause did not fire, or its partner fires in its place.

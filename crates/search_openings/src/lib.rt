@@ -1,182 +1,159 @@
 // A step made, and what it opens: the keys that it makes fresh, and whether the reach is to be found anew.
 #![tactic(auto)]
 
-ghost use Rattle.search_flags.specs.Flags.{all_flags};
-ghost use Rattle.std.specs.Prelude.{◌≡◌, ◌<◌, length, get_or, true};
+ghost use Rattle.std.specs.Prelude.{◌≡◌, ◌≤◌, ◌<◌, IsTrue, length};
 ghost use Rattle.std.proofs.Math.Bool.{So};
-ghost use Rattle.table.specs.View.{view};
 ghost use Rattle.table.specs.Effects.{marks_after};
-ghost use Rattle.step_parts.specs.Parts.{Ready};
+ghost use Rattle.step_parts.specs.Reading.{clause_count, words_of, marks_of, program_of, clause_of};
+ghost use Rattle.step_reach.specs.Bytes.{Reached};
+ghost use Rattle.search_flags.specs.Flags.{flag_at};
 ghost use Rattle.step_conditions.specs.Known.{step_of};
-ghost use Rattle.search_keys.specs.State.{State};
-ghost use Rattle.rewriting.specs.Marked.{entry};
-ghost use Rattle.rewriting.specs.Kinds.{kind_of};
+ghost use Rattle.search_keys.specs.States.{StateAt};
 ghost use Rattle.rewriting.specs.Uses.{drops};
 ghost use Rattle.rewriting.proofs.Reopen.{SameHead};
-ghost use Rattle.semantics.specs.Lists.{all};
-ghost use Rattle.step_reach.specs.Bytes.{in_bytes};
 ghost use Rattle.search_openings.specs.Opened.{Opened, PartnerFresh, AtomFresh, AllFresh, StepMade, Lost};
 
+use rewriting::Kind;
+use search_flags::{Flags, Row};
 use step_conditions::Step;
-use step_parts::Part;
+use step_parts::{Indexed, Marked, Part};
 
 // ---- what a step opens
 
 // A clause lost a literal: it is a fresh key of the kinds with a partner, 3, 5 and 8.
-pub fn open_partner(flags: &mut [u16], t: usize)
-    requires { (t < 2048) × (length flags.old ≡ all_flags) }
-    ensures { Opened flags.old flags.new × PartnerFresh flags.new t }
+pub fn open_partner(flags: &mut Flags, t: usize)
+    requires { t < 2048 }
+    ensures opened { Opened flags.old flags.new }
+    ensures fresh { PartnerFresh flags.new t }
 {
-    search_flags::flag(flags, 11, t, 0);
-    search_flags::flag(flags, 13, t, 0);
-    search_flags::flag(flags, 16, t, 0);
+    flags.flag(Row::Key(Kind::Success), t, 0);
+    flags.flag(Row::Key(Kind::Blocked), t, 0);
+    flags.flag(Row::Key(Kind::Subsumed), t, 0);
 }
 
 // An atom lost a head: it is a fresh key of kinds 4 and 6.
-pub fn open_atom(flags: &mut [u16], atom: usize)
-    requires { (atom < 2048) × (length flags.old ≡ all_flags) }
-    ensures { Opened flags.old flags.new × AtomFresh flags.new atom }
+pub fn open_atom(flags: &mut Flags, atom: usize)
+    requires { atom < 2048 }
+    ensures opened { Opened flags.old flags.new }
+    ensures fresh { AtomFresh flags.new atom }
 {
-    search_flags::flag(flags, 12, atom, 0);
-    search_flags::flag(flags, 14, atom, 0);
+    flags.flag(Row::Key(Kind::NoHead), atom, 0);
+    flags.flag(Row::Key(Kind::Failure), atom, 0);
 }
 
 // So is every head atom of a clause that was deleted.
-pub fn open_head(words: &[u16], marks: &[u8], index: &[u16], flags: &mut [u16], t: usize)
-    requires { (Ready words.now marks.now index.now) × ((t < get_or words.now 1 0) × (length flags.old ≡ all_flags)) }
-    ensures { Opened flags.old flags.new × AllFresh flags.new (entry (view words.now marks.now) t).clause.head }
+pub fn open_head(program: &Marked, flags: &mut Flags, t: usize)
+    requires { t < clause_count program.now.table }
+    ensures opened { Opened flags.old flags.new }
+    ensures fresh { AllFresh flags.new (clause_of program.now t).head }
 {
-    let s = step_parts::span(words, index, t, Part::Head);
-    let e = s.end;
-    for i in s.from..e {
-        if marks[i] != 1 {
-            continue;
-        }
-        open_atom(flags, table::wide(words[i]));
+    for atom in program.atoms(t, Part::Head) {
+        open_atom(flags, usize::from(atom));
     }
 }
 
 // ---- whether a deletion takes the reach with it
 
-// Whether every positive atom of clause t is in the reach.
-fn fires(words: &[u16], marks: &[u8], index: &[u16], reach: &[u8], t: usize) -> bool
-    requires { (Ready words.now marks.now index.now) × (t < get_or words.now 1 0) }
-    ensures { result ≡ all (in_bytes reach.now) (entry (view words.now marks.now) t).clause.pos }
-{
-    let s = step_parts::span(words, index, t, Part::Pos);
-    let e = s.end;
-    for i in s.from..e {
-        if marks[i] != 1 {
-            continue;
-        }
-        if !step_reach::is_in(reach, words[i]) {
-            return false;
-        }
-    }
-    true
-}
-
 // Whether the clause that a step deletes has a partner that fires in its place.
-fn same_head(words: &[u16], marks: &[u8], index: &[u16], step: Step) -> bool
-    requires { (Ready words.now marks.now index.now) × (StepMade words.now marks.now step) }
-    ensures { result ≡ true → SameHead (view words.now marks.now) (step_of step) }
+fn same_head(program: &Marked, step: Step) -> bool
+    requires { StepMade (words_of program.now) (marks_of program.now) step }
+    ensures { IsTrue result → SameHead (program_of program.now) (step_of step) }
 {
-    if step.kind != 8 {
-        return false;
+    match step.kind {
+        Kind::Subsumed => program.inside(
+            usize::from(step.target),
+            Part::Head,
+            usize::from(step.partner),
+            Part::Head,
+        ),
+        _ => false,
     }
-    step_parts::inside(
-        words,
-        marks,
-        index,
-        table::wide(step.target),
-        Part::Head,
-        table::wide(step.partner),
-        Part::Head,
-    )
 }
 
 // A deletion: the reach is to be found anew, unless the clause did not fire or its partner fires in its place.
-fn lose_reach(
-    words: &[u16],
-    marks: &[u8],
-    index: &[u16],
-    heads: &[u16],
-    reach: &[u8],
-    flags: &mut [u16],
-    step: Step,
-)
-    requires { (State words.now marks.now index.now heads.now reach.now flags.old) × (StepMade words.now marks.now step) }
-    ensures { Lost words.now marks.now flags.old flags.new (step_of step) }
+fn lose_reach(program: &Marked, reach: &[u8], flags: &mut Flags, step: Step)
+    requires reached { flag_at flags.old 0 0 ≡ 0 → Reached (words_of program.now) (marks_of program.now) reach.now }
+    requires made { StepMade (words_of program.now) (marks_of program.now) step }
+    ensures { Lost (words_of program.now) (marks_of program.now) flags.old flags.new (step_of step) }
 {
-    if !fires(words, marks, index, reach, table::wide(step.target)) {
+    if !step_exclusion::body_in(program, usize::from(step.target), reach) {
         return;
     }
-    if same_head(words, marks, index, step) {
+    if same_head(program, step) {
         return;
     }
-    search_flags::flag(flags, 0, 0, 0);
+    flags.flag(Row::Reach, 0, 0);
 }
 
 // ---- a step
 
 // Kinds 3 and 4: a literal is dropped.
 fn drop_literal(
-    words: &[u16],
+    table: &Indexed,
     marks: &mut [u8],
-    index: &[u16],
     heads: &[u16],
     reach: &[u8],
-    flags: &mut [u16],
+    flags: &mut Flags,
     step: Step,
 )
-    requires { (State words.now marks.old index.now heads.now reach.now flags.old) × ((StepMade words.now marks.old step) × So (drops (kind_of step.kind))) }
-    ensures { (marks.new ≡ marks_after words.now marks.old (step_of step)) × State words.now marks.new index.now heads.now reach.now flags.new }
+    requires state { StateAt table.now marks.old heads.now reach.now flags.old }
+    requires made { StepMade table.now.words.now marks.old step }
+    requires drops { So (drops step.kind) }
+    ensures marks { marks.new ≡ marks_after table.now.words.now marks.old (step_of step) }
+    ensures state { StateAt table.now marks.new heads.now reach.now flags.new }
 {
-    step_conditions::make_step(words, marks, index, step);
-    open_partner(flags, table::wide(step.target));
+    step_conditions::make_step(table, marks, step);
+    open_partner(flags, usize::from(step.target));
 }
 
 // The other kinds: the clause is deleted.
 fn delete_clause(
-    words: &[u16],
+    table: &Indexed,
     marks: &mut [u8],
-    index: &[u16],
     heads: &mut [u16],
     reach: &[u8],
-    flags: &mut [u16],
+    flags: &mut Flags,
     step: Step,
 )
-    requires { (State words.now marks.old index.now heads.old reach.now flags.old) × ((StepMade words.now marks.old step) × ¬ So (drops (kind_of step.kind))) }
-    ensures { (marks.new ≡ marks_after words.now marks.old (step_of step)) × State words.now marks.new index.now heads.new reach.now flags.new }
+    requires state { StateAt table.now marks.old heads.old reach.now flags.old }
+    requires made { StepMade table.now.words.now marks.old step }
+    requires deletes { ¬ So (drops step.kind) }
+    ensures marks { marks.new ≡ marks_after table.now.words.now marks.old (step_of step) }
+    ensures state { StateAt table.now marks.new heads.new reach.now flags.new }
 {
-    let t = table::wide(step.target);
-    lose_reach(words, marks, index, heads, reach, flags, step);
-    step_conditions::lower_heads(words, marks, index, t, heads);
-    step_conditions::make_step(words, marks, index, step);
-    open_head(words, marks, index, flags, t);
+    let t = usize::from(step.target);
+    let before = Marked {
+        table: *table,
+        marks,
+    };
+    lose_reach(&before, reach, flags, step);
+    step_conditions::lower_heads(&before, t, heads);
+    step_conditions::make_step(table, marks, step);
+    let after = Marked {
+        table: *table,
+        marks,
+    };
+    open_head(&after, flags, t);
 }
 
 // A step is made, and what it opens is flagged.
+// Heads, reach and flags stand side by side: a struct of arrays would ask for lengths that no caller needs to have.
 pub fn apply_step(
-    words: &[u16],
+    table: &Indexed,
     marks: &mut [u8],
-    index: &[u16],
     heads: &mut [u16],
     reach: &[u8],
-    flags: &mut [u16],
+    flags: &mut Flags,
     step: Step,
 )
-    requires { (State words.now marks.old index.now heads.old reach.now flags.old) × StepMade words.now marks.old step }
-    ensures { (marks.new ≡ marks_after words.now marks.old (step_of step)) × State words.now marks.new index.now heads.new reach.now flags.new }
+    requires state { StateAt table.now marks.old heads.old reach.now flags.old }
+    requires made { StepMade table.now.words.now marks.old step }
+    ensures marks { marks.new ≡ marks_after table.now.words.now marks.old (step_of step) }
+    ensures state { StateAt table.now marks.new heads.new reach.now flags.new }
 {
-    let kind = step.kind;
-    if kind == 3 {
-        drop_literal(words, marks, index, heads, reach, flags, step);
-        return;
+    if step.kind.drops_literal() {
+        drop_literal(table, marks, heads, reach, flags, step);
+    } else {
+        delete_clause(table, marks, heads, reach, flags, step);
     }
-    if kind == 4 {
-        drop_literal(words, marks, index, heads, reach, flags, step);
-        return;
-    }
-    delete_clause(words, marks, index, heads, reach, flags, step);
 }

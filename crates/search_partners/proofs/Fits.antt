@@ -4,11 +4,10 @@ use mathlib.Core.Logic.{◌≢◌}
 use mathlib.Core.Bool.{Bool, true, false, not, ◌&&◌, So}
 use mathlib.Core.List.Memᴰ
 use mathlib.Core.List.{List, [], ◌∷◌}
-use Prim.Native.Nat.{ℕ, ◌+◌, ◌-◌, ◌<◌}
+use Prim.Native.Nat.{ℕ, ◌<◌}
 use native.Mathlib.Omega.{arith}
 use lib.Dec.{eqb}
-use lib.ListN.{get_or, drop, replicate, length-take, length-drop}
-use lib.Seq.{get_or-take, get_or-drop}
+use lib.ListN.{get_or, replicate}
 use Rattle.semantics.specs.Lists.{◌∈◌, all, mem, single}
 use Rattle.semantics.specs.Programs.{Clause}
 use borrow.Author.Tests.{eq-eqb}
@@ -16,7 +15,7 @@ use Rattle.rewriting.specs.Marked.{entry}
 use Rattle.rewriting.specs.Steps.{Step, fact, atom_known, condition, condition_holds, applies}
 use Rattle.rewriting.specs.Reducer.{passed_over, eligible}
 use Rattle.rewriting.specs.Search.{step_with}
-use Rattle.rewriting.specs.Kinds.{Kind, success, blocked, subsumed, kind_of, uses_partner}
+use Rattle.rewriting.specs.Kinds.{Kind, success, blocked, subsumed, uses_partner}
 use Rattle.rewriting.proofs.Left.{kept_lt}
 use Rattle.rewriting.proofs.Equal.{eligible_not, eligible_rest}
 use Rattle.table.specs.Questions.{Passed}
@@ -24,25 +23,12 @@ use Rattle.table.specs.View.{view}
 use Rattle.table.proofs.Encoding.{passed_limits}
 use Rattle.table.proofs.Parts.{view_straight}
 use Rattle.table.proofs.View.{length_view}
-use Rattle.step_parts.specs.declared.Part.{Part}
-use Rattle.step_parts.specs.declared.Bounds.{Bounds}
-use Rattle.step_parts.specs.declared.Single.TheVariants.{One}
-use Rattle.step_parts.specs.Parts.{single_of, Spanned}
-use Rattle.step_parts.proofs.Laws.{part_words}
-use Rattle.search_partners.specs.Stamps.{stamped, is_stamped, all_stamped, Stamps, Below}
+use Rattle.search_partners.specs.Stamps.{stamped, is_stamped, all_stamped, Stamps}
 use Rattle.search_partners.proofs.Stamps.{all_same, stamps_of}
-use Rattle.step_parts.proofs.Laws.{words_below}
-use Rattle.step_conditions.proofs.Tests.{single_one}
 use Rattle.step_kinds.specs.Kinds.{PartnerKind}
 use Rattle.step_kinds.proofs.Applies.{with_known, same_applies, gone_applies, other_applies}
 
 -- ---- atoms are below 1,024
-
-pub part_below : (ws : List ℕ) → Passed ws → (t : ℕ) → t < get_or ws 1 0 → (x : Part) (s : Bounds) → Spanned ws t x s → Below (part_words ws s) 1024
-part_below ws p t h x s q i l =
-    let k : i < s.end - s.from = omega (arith, simp (length-take, length-drop) at l) in
-    rw (get_or-take (s.end - s.from) (drop s.from ws) i 0 k, get_or-drop s.from ws i 0)
-    (omega (arith, words_below ws p t h x s q (s.from + i) (omega arith) (omega arith), (passed_limits ws p).few_atoms))
 
 module _ (ws ms : List ℕ) (p : Passed ws) (i a : ℕ) where
   abbrev the : Clause
@@ -106,44 +92,33 @@ fits_fact false r c e d = e
 
 -- ---- the only atom of a head
 
-pub single_is : (st l : List ℕ) (b w : ℕ) → single_of l ≡ One b → w ≡ b → eqb (get_or st (1024 + w) 0) 1 ≡ single (is_stamped st 1024) l
-single_is st l b w e q = ap (λ x. eqb (get_or st (1024 + x) 0) 1) q ∙ sym (single_one (is_stamped st 1024) l b e)
-
-pub single_below : (ws ms : List ℕ) → Passed ws → (p b : ℕ) → single_of (entry (view ws ms) p).clause.head ≡ One b → b < 1024
-single_below ws ms ok p b e = head_below_lem ws ms ok p b (there (entry (view ws ms) p).clause.head e)
-  where
-    there : (l : List ℕ) → single_of l ≡ One b → b ∈ l
-    there [] e = absurd (let z : ◌≡◌ {A = ℕ} 0 1 = cc in omega arith)
-    there (x ∷ []) e = let q : x ≡ b = cc in Memᴰ.head (sym q)
-    there (x ∷ y ∷ l) e = absurd (let z : ◌≡◌ {A = ℕ} 0 1 = cc in omega arith)
-
 pub clause_stamps : (ws ms : List ℕ) → Passed ws → (t : ℕ) → let c = (entry (view ws ms) t).clause in
     Stamps c (stamped (stamped (stamped (replicate 3072 0) 0 c.head) 1024 c.pos) 2048 c.neg)
 clause_stamps ws ms ok t = stamps_of (entry (view ws ms) t).clause (λ a. head_below_lem ws ms ok t a) (λ a. pos_below_lem ws ms ok t a) (λ a. neg_below_lem ws ms ok t a)
 
 -- ---- whether the step is eligible
 
-module _ (ws ms : List ℕ) (ok : Passed ws) (kind : ℕ) (k : PartnerKind kind) (t p : ℕ) (kept : So (entry (view ws ms) t).kept) where
+module _ (ws ms : List ℕ) (ok : Passed ws) (kind : Kind) (k : PartnerKind kind) (t p : ℕ) (kept : So (entry (view ws ms) t).kept) where
   abbrev with : Step
-  with = step_with (view ws ms) (kind_of kind) t p
+  with = step_with (view ws ms) kind t p
 
   abbrev known : So (condition_holds (view ws ms) with) → So (atom_known (get_or ws 0 0) with)
-  known = settled_known ws ms ok (kind_of kind) k.uses t p
+  known = settled_known ws ms ok kind k t p
 
   -- a kept clause is one of the table's
   pub kept_below : t < get_or ws 1 0
   kept_below = omega (arith, kept_lt (view ws ms) t kept, length_view ws ms)
 
   pub itself_eligible : p ≡ t → false ≡ eligible (get_or ws 0 0) (view ws ms) with
-  itself_eligible e = eligible_not (get_or ws 0 0) (view ws ms) with (same_applies (get_or ws 0 0) (view ws ms) (kind_of kind) k.uses t p known kept e)
+  itself_eligible e = eligible_not (get_or ws 0 0) (view ws ms) with (same_applies (get_or ws 0 0) (view ws ms) kind k t p known kept e)
 
   pub gone_eligible : (entry (view ws ms) p).kept ≡ false → false ≡ eligible (get_or ws 0 0) (view ws ms) with
-  gone_eligible e = eligible_not (get_or ws 0 0) (view ws ms) with (gone_applies (get_or ws 0 0) (view ws ms) (kind_of kind) k.uses t p known kept e)
+  gone_eligible e = eligible_not (get_or ws 0 0) (view ws ms) with (gone_applies (get_or ws 0 0) (view ws ms) kind k t p known kept e)
 
   -- another clause that is kept: the condition decides, and whether the step is passed over
   module _ (e : (entry (view ws ms) p).kept ≡ true) (d : p ≢ t) (r : Bool) (fits : r ≡ condition_holds (view ws ms) with) where
     applies_is : r ≡ applies (get_or ws 0 0) (view ws ms) with
-    applies_is = fits ∙ other_applies (get_or ws 0 0) (view ws ms) (kind_of kind) k.uses t p known kept e d
+    applies_is = fits ∙ other_applies (get_or ws 0 0) (view ws ms) kind k t p known kept e d
 
     pub unfit_eligible : r ≡ false → false ≡ eligible (get_or ws 0 0) (view ws ms) with
     unfit_eligible n = eligible_not (get_or ws 0 0) (view ws ms) with (sym n ∙ applies_is)

@@ -1,26 +1,21 @@
 -- Stamps: a walk of a part word by word, and what the stamps of a whole clause say.
-use mathlib.Core.Path.{◌≡◌, refl, sym, ap, subst, ◌∙◌}
+use mathlib.Core.Path.{◌≡◌, refl, sym, ap, ◌∙◌}
 use mathlib.Core.Logic.{◌≢◌, by_cases}
 use mathlib.Core.Bool.{Bool, true, false, ◌&&◌, ◌||◌}
 use mathlib.Core.List.Memᴰ
 use mathlib.Core.List.{List, [], ◌∷◌}
-use Prim.Native.Nat.{ℕ, ◌+◌, ◌≤◌, ◌<◌}
+use Prim.Native.Nat.{ℕ, ◌+◌, ◌<◌}
 use native.Mathlib.Omega.{arith}
 use native.Mathlib.Decide.{ℕ_discrete}
 use lib.Dec.{eqb}
-use lib.ListN.{length, get_or, set, drop, replicate, length-set, get_or-replicate, length-replicate}
+use lib.ListN.{length, get_or, set, replicate, length-set, get_or-replicate, length-replicate}
 use lib.Seq.{get_or-set_same, get_or-set_other}
 use borrow.Author.Tests.{eq-eqb, ne_eqb}
 use Rattle.semantics.proofs.Tests.{or_false}
 use Rattle.semantics.specs.Lists.{◌∈◌, any, all, mem}
 use Rattle.semantics.specs.Programs.{Clause}
-use Rattle.table.proofs.Parts.{scan_end}
-use Rattle.table.specs.Slices.{kept_of}
+use Rattle.std.specs.List.{list_all}
 use Rattle.search_partners.specs.Stamps.{stamped, is_stamped, Stamps}
-
--- a walk of a part, at its end
-pub part_done : (part ms : List ℕ) (i : ℕ) → length part ≤ i → kept_of (drop i part) (drop i ms) ≡ []
-part_done part ms i h = scan_end part (drop i ms) i h
 
 -- ---- what is stamped
 
@@ -97,10 +92,8 @@ stamps_of c hb pb nb = record {
     fits3 : (a : ℕ) → a ∈ c.neg → 2048 + a < length two
     fits3 a m = omega (arith, nb a m, length-replicate {A = ℕ} 3072 0, length_stamped none 0 c.head, length_stamped one 1024 c.pos)
 
--- ---- the first word that is not stamped decides
+-- ---- every atom of a list
 
-pub not_stamped : (st : List ℕ) (o a w : ℕ) (b : Bool) → w ≡ a → get_or st (o + w) 0 ≢ 1 → (is_stamped st o a && b) ≡ false
-not_stamped st o a w b e h = ap (λ t. t && b) (ne_eqb _ _ (subst (λ x. get_or st (o + x) 0 ≢ 1) e h))
-
-pub is_stamped_lem : (st : List ℕ) (o a w : ℕ) (b : Bool) → w ≡ a → get_or st (o + w) 0 ≡ 1 → (is_stamped st o a && b) ≡ b
-is_stamped_lem st o a w b e h = ap (λ t. t && b) (eq-eqb _ _ (subst (λ x. get_or st (o + x) 0 ≡ 1) e h))
+pub all_listed : (f : ℕ → Bool) (l : List ℕ) → all f l ≡ list_all f l
+all_listed f [] = refl
+all_listed f (x ∷ l) = ap (λ b. f x && b) (all_listed f l)

@@ -1,11 +1,15 @@
 -- Stamps: an array of bytes that holds one clause's atoms, so that a test of membership is one look.
-use Rattle.std.specs.Prelude.{◌≡◌, Bool, ◌&&◌, List, [], ◌∷◌, ℕ, ◌+◌, ◌<◌, eqb, length, get_or, set}
+use Rattle.std.specs.Prelude.{◌≡◌, Bool, ◌&&◌, List, [], ◌∷◌, ℕ, ◌+◌, ◌<◌, eqb, get_or, set}
 use Rattle.semantics.specs.Lists.{all, mem}
 use Rattle.semantics.specs.Programs.{Clause}
+use Rattle.step_parts.specs.declared.Part.{Part}
+use Rattle.step_parts.specs.declared.Part.TheVariants.{Head, Pos, Neg}
 
--- every word is below n
-abbrev pub Below : List ℕ → ℕ → Type 0
-Below part n = (i : ℕ) → i < length part → get_or part i 0 < n
+-- where the stamps of a part begin
+abbrev pub offset_of : Part → ℕ
+offset_of Head = 0
+offset_of Pos = 1024
+offset_of Neg = 2048
 
 -- a 1 for each atom, from a place on
 unfoldable pub stamped : List ℕ → ℕ → List ℕ → List ℕ

@@ -1,22 +1,27 @@
 -- Equal clauses of a table: each is within the other; and which steps with them are passed over.
-use mathlib.Core.Path.{◌≡◌, sym, subst}
+use mathlib.Core.Path.{◌≡◌, refl, sym, subst}
 use mathlib.Core.Logic.{◌≢◌}
 use mathlib.Core.Bool.{Bool, true, false, So}
 use mathlib.Core.List.{List}
 use Prim.Native.Nat.{ℕ, ◌≤◌, ◌<◌}
 use native.Mathlib.Omega.{arith}
-use borrow.Author.Tests.{lt-ltb, ne_eqb}
+use borrow.Author.Tests.{lt-ltb}
 use Rattle.semantics.specs.Programs.{Clause}
 use Rattle.semantics.proofs.Tests.{so_ext, so_false, not_so}
 use Rattle.rewriting.specs.Marked.{entry, left}
 use Rattle.rewriting.specs.Steps.{step, condition}
-use Rattle.rewriting.specs.Kinds.{Kind, subsumed, kind_of}
+use Rattle.rewriting.specs.Kinds.{Kind, blocked, subsumed}
 use Rattle.rewriting.specs.Reducer.{equal, spares, passed_over}
+use Rattle.rewriting.proofs.Rows.{each_kind}
 use Rattle.rewriting.proofs.Equal.{equal_iff, subsumed_self, equal_within, passed_iff}
 use Rattle.table.specs.Questions.{Passed}
 use Rattle.table.specs.View.{view}
 use Rattle.table.proofs.Parts.{view_ascends}
-use Rattle.step_kinds.proofs.Numbers.{kind_number}
+
+-- only steps of kinds 5 and 8 can be passed over
+unspared : (k : Kind) → k ≢ blocked → k ≢ subsumed → spares k ≡ false
+unspared = each_kind (λ k. k ≢ blocked → k ≢ subsumed → spares k ≡ false)
+    (λ x y. refl) (λ x y. refl) (λ x y. refl) (λ x y. refl) (λ x y. absurd (x refl)) (λ x y. refl) (λ x y. refl) (λ x y. absurd (y refl)) (λ x y. refl)
 
 module _ (ws ms : List ℕ) (ok : Passed ws) (t p : ℕ) where
   abbrev target : Clause
@@ -48,6 +53,6 @@ module _ (ws ms : List ℕ) (ok : Passed ws) (t p : ℕ) where
   unfolding passed_over
   passed_equal l k x a = rw (x, lt-ltb t p l)
 
-  pub passed_kind : (kind : ℕ) → 1 ≤ kind → kind ≤ 8 → kind ≢ 5 → kind ≢ 8 → (a : ℕ) → false ≡ passed_over (view ws ms) (step (kind_of kind) t p a)
+  pub passed_kind : (k : Kind) → k ≢ blocked → k ≢ subsumed → (a : ℕ) → false ≡ passed_over (view ws ms) (step k t p a)
   unfolding passed_over
-  passed_kind kind a b x y z = rw (kind_number kind a b, ne_eqb kind 5 x, ne_eqb kind 8 y)
+  passed_kind k x y a = rw (unspared k x y)

@@ -13,7 +13,7 @@ use Rattle.semantics.proofs.Tests.{not_so, and_iff}
 use Rattle.rewriting.specs.Marked.{Marked, entry}
 use Rattle.rewriting.specs.Steps.{Step, step}
 use Rattle.rewriting.specs.Reducer.{eligible}
-use Rattle.rewriting.specs.Kinds.{Kind, kind_of, uses_partner}
+use Rattle.rewriting.specs.Kinds.{Kind, number, uses_partner}
 use Rattle.rewriting.proofs.Left.{kept_lt}
 use Rattle.rewriting.specs.Search.{step_with}
 use Rattle.rewriting.proofs.Rows.{atom_settled}
@@ -23,7 +23,7 @@ use Rattle.table.specs.View.{view}
 use Rattle.table.proofs.View.{length_view}
 use Rattle.search_flags.specs.Flags.{Covered, Raising}
 use Rattle.search_spreads.specs.Spreads.{Spread}
-use Rattle.search_flags.proofs.Flags.{raising_none, raising_more, raising_below}
+use Rattle.search_flags.proofs.Changes.{raising_none, raising_more, raising_below}
 use Rattle.search_spreads.proofs.Limits.{target_lt}
 
 -- ---- a step by its key
@@ -55,26 +55,26 @@ itself_not n P k t p a (u, d) h =
     not_so (ap not (eq-eqb p t d)) ((and_iff (entry P p).kept (not (eqb p t))).0 w).1
 
 -- the targets below t are done
-pub record Spreading (ws ms flags flags' : List ℕ) (kind p a t : ℕ) : Type 0 where
-  pub raising : Raising flags flags' kind (get_or ws 1 0)
-  pub flagged : (j : ℕ) → j < t → So (eligible (get_or ws 0 0) (view ws ms) (step (kind_of kind) j p a)) → Covered flags' kind j p
+pub record Spreading (ws ms flags flags' : List ℕ) (kind : Kind) (p a t : ℕ) : Type 0 where
+  pub raising : Raising flags flags' (number kind) (get_or ws 1 0)
+  pub flagged : (j : ℕ) → j < t → So (eligible (get_or ws 0 0) (view ws ms) (step kind j p a)) → Covered flags' kind j p
 
-pub spreading_none : (ws ms flags : List ℕ) (kind p a : ℕ) → Spreading ws ms flags flags kind p a 0
-spreading_none ws ms flags kind p a = record { raising = raising_none flags kind (get_or ws 1 0); flagged = λ j l. absurd (omega arith) }
+pub spreading_none : (ws ms flags : List ℕ) (kind : Kind) (p a : ℕ) → Spreading ws ms flags flags kind p a 0
+spreading_none ws ms flags kind p a = record { raising = raising_none flags (number kind) (get_or ws 1 0); flagged = λ j l. absurd (omega arith) }
 
-module _ (ws ms flags flags' : List ℕ) (kind p a t : ℕ) (s : Spreading ws ms flags flags' kind p a t) where
+module _ (ws ms flags flags' : List ℕ) (kind : Kind) (p a t : ℕ) (s : Spreading ws ms flags flags' kind p a t) where
   abbrev at : ℕ → Bool
-  at j = eligible (get_or ws 0 0) (view ws ms) (step (kind_of kind) j p a)
+  at j = eligible (get_or ws 0 0) (view ws ms) (step kind j p a)
 
-  pub spreading_on : (flags'' : List ℕ) → kind ≤ 16 → t < 2048 → t < get_or ws 1 0 → Raising flags' flags'' kind (t + 1) × (So (at t) → Covered flags'' kind t p) → Spreading ws ms flags flags'' kind p a (t + 1)
-  spreading_on flags'' b l h (g, f) = record {
-    raising = raising_more flags flags' flags'' kind (get_or ws 1 0) (t + 1) (get_or ws 1 0) (omega arith) (omega arith) s.raising g;
+  pub spreading_on : (flags'' : List ℕ) → t < 2048 → t < get_or ws 1 0 → Raising flags' flags'' (number kind) (t + 1) × (So (at t) → Covered flags'' kind t p) → Spreading ws ms flags flags'' kind p a (t + 1)
+  spreading_on flags'' l h (g, f) = record {
+    raising = raising_more flags flags' flags'' (number kind) (get_or ws 1 0) (t + 1) (get_or ws 1 0) (omega arith) (omega arith) s.raising g;
     flagged = λ j k q. by_cases (ℕ_discrete j t) (λ d. subst (λ i. Covered flags'' kind i p) (sym d) (f (subst (λ i. So (at i)) d q)))
-        (λ d. raising_below flags' flags'' kind (t + 1) g kind j p b (omega arith) (s.flagged j (omega arith) q));
+        (λ d. raising_below flags' flags'' (number kind) (t + 1) g kind j p (omega arith) (s.flagged j (omega arith) q));
   }
 
   pub spreading_all : get_or ws 1 0 ≤ t → Spread ws ms flags flags' kind p a
-  spreading_all l = record { raising = s.raising; flagged = λ j h. s.flagged j (omega (arith, target_lt ws ms (step (kind_of kind) j p a) h)) h }
+  spreading_all l = record { raising = s.raising; flagged = λ j h. s.flagged j (omega (arith, target_lt ws ms (step kind j p a) h)) h }
 
 -- ---- a key
 

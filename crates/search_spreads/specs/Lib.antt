@@ -1,1 +1,2 @@
 pub mod Spreads
+pub mod Keys

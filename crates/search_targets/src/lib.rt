@@ -1,115 +1,86 @@
 // The search of one kind: its flagged targets in order, each with its atoms or partners, left at the first applicable step.
 #![tactic(auto)]
 
-ghost use Rattle.std.specs.Prelude.{◌≡◌, ◌&&◌, ◌≤◌, ◌<◌, eqb, length, get_or};
-ghost use Rattle.rewriting.specs.Marked.{entry, left};
-ghost use Rattle.rewriting.specs.Kinds.{kind_of};
-ghost use Rattle.table.specs.View.{view};
-ghost use Rattle.step_parts.specs.Parts.{Ready};
-ghost use Rattle.search_flags.specs.Flags.{Inside};
+ghost use Rattle.std.specs.Prelude.{◌≡◌, ◌≤◌, ◌<◌};
+ghost use Rattle.rewriting.specs.Marked.{left};
+ghost use Rattle.rewriting.specs.Kinds.{number};
 ghost use Rattle.rewriting.specs.Search.{partner_atom, first_target};
 ghost use Rattle.rewriting.proofs.Order.{asked};
+ghost use Rattle.table.specs.Slices.{kept_of};
+ghost use Rattle.step_parts.specs.Reading.{atom_count, clause_count, words_of, marks_of, program_of, clause_of};
 ghost use Rattle.step_kinds.specs.Kinds.{PartnerKind, AtomKind};
-ghost use Rattle.search_keys.specs.State.{Arrays, Calm, Swept};
-ghost use Rattle.search_targets.specs.Searches.{PartWalk, Partners, found_of, stopped_at};
+ghost use Rattle.search_flags.specs.Flags.{Inside};
+ghost use Rattle.search_keys.specs.State.{Calm, Swept};
+ghost use Rattle.search_targets.specs.Searches.{ArraysOf, PartWalk, Partners, found_of, stopped_at};
 
+use rewriting::Kind;
+use search_flags::{Flags, Row};
+use search_partners::Stamped;
+use search_spreads::Facts;
 use step_conditions::Step;
-use step_parts::{Bounds, Part};
-
-// What a search finds.
-#[derive(Clone, Copy)]
-pub enum Found {
-    One(Step),
-    Nothing,
-}
+use step_parts::{Kept, Marked, Part};
 
 // ---- a kind with an atom
 
-// The words that the search walks in clause t: none where the clause is gone.
-fn walk(words: &[u16], marks: &[u8], index: &[u16], kind: u16, t: usize) -> Bounds
-    requires { (Ready words.now marks.now index.now) × ((t < get_or words.now 1 0) × (AtomKind kind)) }
-    ensures { PartWalk words.now marks.now kind t result.from result.end }
+// The atoms that the search walks in clause t: none where the clause is gone.
+fn walk<'a>(program: &Marked<'a>, kind: Kind, t: usize) -> Kept<'a>
+    requires target { t < clause_count program.now.table }
+    requires kind { AtomKind kind }
+    ensures { PartWalk program.now kind t (kept_of result.words.now result.marks.now) }
 {
-    if !step_parts::kept(words, marks, index, t) {
-        return Bounds { from: 0, end: 0 };
+    if !program.kept(t) {
+        return Kept {
+            words: &[],
+            marks: &[],
+        };
     }
-    step_parts::span(words, index, t, step_kinds::walked_part(kind))
+    program.atoms(t, step_kinds::walked_part(kind))
 }
 
 // Whether an atom of the walked part makes the kind's condition hold.
-fn passes(
-    words: &[u16],
-    marks: &[u8],
-    index: &[u16],
-    heads: &[u16],
-    reach: &[u8],
-    kind: u16,
-    t: usize,
-    atom: u16,
-) -> bool
-    requires { (Arrays words.now marks.now index.now heads.now reach.now kind) × ((t < get_or words.now 1 0) × ((atom < get_or words.now 0 0) × (AtomKind kind))) }
-    ensures { result ≡ asked (kind_of kind) (left (view words.now marks.now)) (entry (view words.now marks.now) t).clause atom }
+fn passes(facts: &Facts, kind: Kind, t: usize, atom: u16) -> bool
+    requires arrays { ArraysOf facts.now kind }
+    requires target { t < clause_count facts.now.program.table }
+    requires kind { AtomKind kind }
+    ensures { result ≡ asked kind (left (program_of facts.now.program)) (clause_of facts.now.program t) atom }
 {
-    if kind == 1 {
-        return step_parts::has(words, marks, index, t, Part::Pos, atom);
+    match kind {
+        Kind::Tautology => facts.program.has(t, Part::Pos, atom),
+        Kind::Contradiction => facts.program.has(t, Part::Neg, atom),
+        Kind::Loop => step_conditions::loop_atom(facts.heads, facts.reach, atom),
+        _ => step_conditions::no_head(facts.heads, atom),
     }
-    if kind == 2 {
-        return step_parts::has(words, marks, index, t, Part::Neg, atom);
-    }
-    if kind == 7 {
-        return step_conditions::loop_atom(heads, reach, atom);
-    }
-    step_conditions::no_head(heads, atom)
-}
-
-// Whether the word at a place of the walked part is kept and makes the condition hold.
-fn passes_at(
-    words: &[u16],
-    marks: &[u8],
-    index: &[u16],
-    heads: &[u16],
-    reach: &[u8],
-    kind: u16,
-    t: usize,
-    i: usize,
-) -> bool
-    requires { (Arrays words.now marks.now index.now heads.now reach.now kind) × ((t < get_or words.now 1 0) × ((i < length words.now) × ((get_or words.now i 0 < get_or words.now 0 0) × (AtomKind kind)))) }
-    ensures { result ≡ (eqb (get_or marks.now i 0) 1 && asked (kind_of kind) (left (view words.now marks.now)) (entry (view words.now marks.now) t).clause (get_or words.now i 0)) }
-{
-    if marks[i] != 1 {
-        return false;
-    }
-    passes(words, marks, index, heads, reach, kind, t, words[i])
 }
 
 // The smallest step of a kind with an atom: only flagged targets are looked at, and the flag of one that has none is cleared.
 pub fn first_by_atom(
-    words: &[u16],
-    marks: &[u8],
-    index: &[u16],
-    heads: &[u16],
-    reach: &[u8],
-    flags: &mut [u16],
-    kind: u16,
+    facts: &Facts,
+    flags: &mut Flags,
+    kind: Kind,
     low: usize,
     end: usize,
-) -> Found
-    requires { (Arrays words.now marks.now index.now heads.now reach.now kind) × ((end ≤ get_or words.now 1 0) × ((AtomKind kind) × ((Calm words.now marks.now flags.old kind) × Inside flags.old kind low end))) }
-    ensures { (result ≡ found_of (first_target (get_or words.now 0 0) (view words.now marks.now) (kind_of kind))) × (Swept words.now marks.now flags.old flags.new kind × Inside flags.new kind (stopped_at result end) end) }
+) -> Option<Step>
+    requires arrays { ArraysOf facts.now kind }
+    requires end { end ≤ clause_count facts.now.program.table }
+    requires kind { AtomKind kind }
+    requires calm { Calm (words_of facts.now.program) (marks_of facts.now.program) flags.old kind }
+    requires inside { Inside flags.old (number kind) low end }
+    ensures found { result ≡ found_of (first_target (atom_count facts.now.program.table) (program_of facts.now.program) kind) }
+    ensures swept { Swept (words_of facts.now.program) (marks_of facts.now.program) flags.old flags.new kind }
+    ensures inside { Inside flags.new (number kind) (stopped_at result end) end }
 {
-    let base = table::wide(kind) * 2048;
-    let mut found = Found::Nothing;
+    let row = Row::Target(kind);
+    let mut found = None;
+    // Nested loops over targets and atoms, left by a label at the first step: the search's form is fixed.
     'search: for t in low..end {
-        if flags[base + t] != 0 {
-            let w = walk(words, marks, index, kind, t);
-            let e = w.end;
-            for i in w.from..e {
-                if passes_at(words, marks, index, heads, reach, kind, t, i) {
-                    found = Found::One(Step::new(kind, search_flags::narrow(t), 0, words[i]));
+        if flags.flag_at(row, t) != 0 {
+            for atom in walk(&facts.program, kind, t) {
+                if passes(facts, kind, t, atom) {
+                    found = Some(Step::new(kind, t as u16, 0, atom));
                     break 'search;
                 }
             }
-            flags[base + t] = 0;
+            flags.set_flag(row, t, 0);
         }
     }
     found
@@ -118,72 +89,72 @@ pub fn first_by_atom(
 // ---- a kind with a partner
 
 // The partners that the search tries for the target t end here: none where it is gone, and for kind 3 up to the greatest.
-fn partners_end(
-    words: &[u16],
-    marks: &[u8],
-    index: &[u16],
-    flags: &[u16],
-    kind: u16,
-    t: usize,
-) -> usize
-    requires { (Ready words.now marks.now index.now) × ((t < get_or words.now 1 0) × ((PartnerKind kind) × Calm words.now marks.now flags.now kind)) }
-    ensures { Partners words.now marks.now kind t result }
+fn partners_end(program: &Marked, flags: &Flags, kind: Kind, t: usize) -> usize
+    requires target { t < clause_count program.now.table }
+    requires kind { PartnerKind kind }
+    requires calm { Calm (words_of program.now) (marks_of program.now) flags.now kind }
+    ensures { Partners (words_of program.now) (marks_of program.now) kind t result }
 {
-    if !step_parts::kept(words, marks, index, t) {
+    if !program.kept(t) {
         return 0;
     }
-    let m = table::wide(words[1]);
-    if kind != 3 {
-        return m;
+    let m = program.table.clause_count();
+    match kind {
+        Kind::Success => m.min(flags.most(t)),
+        _ => m,
     }
-    search_flags::lesser(m, table::wide(flags[search_flags::MOST + t]))
 }
 
 // The step of a kind with target t and partner p, which settles its atom.
-fn step_with(words: &[u16], marks: &[u8], index: &[u16], kind: u16, t: usize, p: usize) -> Step
-    requires { (Ready words.now marks.now index.now) × ((t < get_or words.now 1 0) × ((p < get_or words.now 1 0) × PartnerKind kind)) }
-    ensures { result ≡ record { kind = kind; target = t; partner = p; atom = partner_atom (kind_of kind) (entry (view words.now marks.now) p).clause } }
+fn step_with(program: &Marked, kind: Kind, t: usize, p: usize) -> Step
+    requires target { t < clause_count program.now.table }
+    requires partner { p < clause_count program.now.table }
+    requires kind { PartnerKind kind }
+    ensures { result ≡ record { kind = kind; target = t; partner = p; atom = partner_atom kind (clause_of program.now p) } }
 {
-    let first = step_conditions::first_atom(words, marks, index, p, Part::Head);
+    let first = step_conditions::first_atom(program, p, Part::Head);
     let atom = step_kinds::named_atom(kind, first);
-    Step::new(kind, search_flags::narrow(t), search_flags::narrow(p), atom)
+    Step::new(kind, t as u16, p as u16, atom)
 }
 
 // The smallest step of a kind with a partner, in the same way; the target's atoms are stamped for the tests.
 // The flag of the target found goes up to the partner found: none before it makes a step.
 pub fn first_by_partner(
-    words: &[u16],
-    marks: &[u8],
-    index: &[u16],
-    flags: &mut [u16],
-    kind: u16,
+    program: &Marked,
+    flags: &mut Flags,
+    kind: Kind,
     low: usize,
     end: usize,
-) -> Found
-    requires { (Ready words.now marks.now index.now) × ((end ≤ get_or words.now 1 0) × ((PartnerKind kind) × ((Calm words.now marks.now flags.old kind) × Inside flags.old kind low end))) }
-    ensures { (result ≡ found_of (first_target (get_or words.now 0 0) (view words.now marks.now) (kind_of kind))) × (Swept words.now marks.now flags.old flags.new kind × Inside flags.new kind (stopped_at result end) end) }
+) -> Option<Step>
+    requires end { end ≤ clause_count program.now.table }
+    requires kind { PartnerKind kind }
+    requires calm { Calm (words_of program.now) (marks_of program.now) flags.old kind }
+    requires inside { Inside flags.old (number kind) low end }
+    ensures found { result ≡ found_of (first_target (atom_count program.now.table) (program_of program.now) kind) }
+    ensures swept { Swept (words_of program.now) (marks_of program.now) flags.old flags.new kind }
+    ensures inside { Inside flags.new (number kind) (stopped_at result end) end }
 {
-    let base = table::wide(kind) * 2048;
-    let mut found = Found::Nothing;
+    let row = Row::Target(kind);
+    let mut found = None;
+    // Nested loops over targets and partners, left by a label at the first step: the search's form is fixed.
     'search: for t in low..end {
-        if flags[base + t] != 0 {
-            search_gaps::lift(words, marks, index, flags, kind, t);
-            let e = partners_end(words, marks, index, flags, kind, t);
-            let from = table::wide(flags[base + t]) - 1;
+        if flags.flag_at(row, t) != 0 {
+            search_gaps::lift(program, flags, kind, t);
+            let e = partners_end(program, flags, kind, t);
+            let from = flags.flag_at(row, t) - 1;
             if e <= from {
-                flags[base + t] = 0;
+                flags.set_flag(row, t, 0);
                 continue;
             }
-            let mut stamps = [0u8; 3072];
-            search_partners::stamp_clause(words, marks, index, t, &mut stamps);
+            let stamps = Stamped::new(program, t);
             for p in from..e {
-                if search_partners::partner_eligible(words, marks, index, &stamps, kind, t, p) {
-                    flags[base + t] = search_flags::narrow(p + 1);
-                    found = Found::One(step_with(words, marks, index, kind, t, p));
+                if stamps.partner_eligible(program, kind, t, p) {
+                    flags.set_flag(row, t, p + 1);
+                    found = Some(step_with(program, kind, t, p));
                     break 'search;
                 }
             }
-            flags[base + t] = 0;
+            flags.set_flag(row, t, 0);
         }
     }
     found

@@ -1,7 +1,7 @@
 -- Kept heads of an atom, counted clause by clause.
-use mathlib.Core.Path.{◌≡◌, refl, sym, ap, ◌∙◌}
+use mathlib.Core.Path.{◌≡◌, refl, sym, ap, subst, ◌∙◌}
 use mathlib.Core.Logic.{◌↔◌, by_cases}
-use mathlib.Core.Bool.{Bool, true, false, not, cond, ◌&&◌, ◌||◌, So}
+use mathlib.Core.Bool.{Bool, true, false, not, cond, ◌&&◌, So}
 use mathlib.Core.List.Memᴰ
 use mathlib.Core.List.{List, [], ◌∷◌, ◌++◌}
 use Prim.Native.Nat.{ℕ, ◌+◌, ◌-◌, ◌≤◌, ◌<◌}
@@ -9,25 +9,23 @@ use native.Mathlib.Omega.{arith}
 use native.Mathlib.Decide.{ℕ_discrete, dec_lt}
 use native.Mathlib.Numerals.{add-one}
 use lib.Dec.{eqb}
-use lib.ListN.{length, get_or, set, take, drop, replicate, length-set, length-take, length-replicate, length-drop, get_or-eq_default}
-use lib.Seq.{get_or-set_same, get_or-set_other, get_or-drop, take-suc, take_all}
+use lib.ListN.{length, get_or, set, take, replicate, length-set, length-take, length-replicate, get_or-eq_default}
+use lib.Seq.{get_or-set_same, get_or-set_other, take-suc, take_all}
 use borrow.Author.Tests.{eqb-true, eq-eqb, ne_eqb}
-use Rattle.semantics.specs.Lists.{◌∈◌, mem, count, bit}
+use Rattle.semantics.specs.Lists.{◌∈◌, mem, count, bit, ascending}
 use Rattle.semantics.specs.Programs.{Clause}
 use Rattle.semantics.proofs.Tests.{mem_iff, so_false, so_ext, bit_false, bit_bound, count_bound, count_none}
 use Rattle.rewriting.specs.Marked.{Marked, gone, entry, left}
 use Rattle.rewriting.specs.Steps.{in_no_head, headed}
-use Rattle.rewriting.specs.Kinds.{loop}
+use Rattle.rewriting.specs.declared.Kind.TheVariants.{Loop as loop}
 use Rattle.rewriting.specs.Reaches.{reach}
 use Rattle.rewriting.proofs.Reach.{in_no_head_iff}
 use Rattle.rewriting.proofs.Left.{left_each, left_le}
 use Rattle.table.specs.Questions.{Passed}
 use Rattle.table.specs.View.{view}
-use Rattle.table.specs.Slices.{kept_of}
 use Rattle.table.proofs.View.{length_view}
-use Rattle.table.proofs.Parts.{scan_end, view_straight}
-use Rattle.step_parts.specs.Parts.{Ascends}
-use Rattle.step_parts.proofs.Laws.{kept_on, kept_some, kept_place, place_kept}
+use Rattle.table.proofs.Parts.{view_straight}
+use Rattle.step_parts.proofs.Walked.{all_above}
 use Rattle.table.proofs.Slices.{zero_at}
 use Rattle.step_reach.specs.Bytes.{in_bytes, Reached}
 use Rattle.step_conditions.specs.Known.{head_count, Heads, Tallied, Positive}
@@ -51,98 +49,83 @@ pub loop_atom_is : (ws ms hs rs : List ℕ) (a : ℕ) → Heads ws ms hs → Rea
     → (not (eqb (get_or hs a 0) 0) && not (in_bytes rs a)) ≡ (headed loop (left (view ws ms)) a && not (reach (left (view ws ms)) a))
 loop_atom_is ws ms hs rs a h r = ap (λ x. not x && not (in_bytes rs a)) (no_head_is (left (view ws ms)) a (get_or hs a 0) (h.is a)) ∙ ap (λ x. not (in_no_head (left (view ws ms)) a) && not x) (r.is a)
 
--- ---- one part, atom by atom
+-- ---- atom by atom
 
--- what is left of the part, counted now, gives what the whole gave at first
-pub record Tallying (part marks s₀ s : List ℕ) (i : ℕ) : Type 0 where
+-- what is left of a list, counted now, gives what the whole gave at first
+pub record Tallying (all s₀ s rest : List ℕ) : Type 0 where
   pub same : length s ≡ length s₀
-  pub at : (a : ℕ) → a < length s₀ → get_or s a 0 + bit (mem a (kept_of (drop i part) (drop i marks))) ≡ get_or s₀ a 0 + bit (mem a (kept_of part marks))
+  pub at : (a : ℕ) → a < length s₀ → get_or s a 0 + bit (mem a rest) ≡ get_or s₀ a 0 + bit (mem a all)
   pub past : (a : ℕ) → length s₀ ≤ a → get_or s a 0 ≡ 0
+  pub rises : So (ascending rest)
+  pub inside : (a : ℕ) → a ∈ rest → a ∈ all
 
-pub tally_start : (part marks s : List ℕ) → Tallying part marks s s 0
-tally_start part marks s = record { same = refl; at = λ a h. refl; past = λ a h. get_or-eq_default s 0 h }
+pub tally_start : (all s : List ℕ) → So (ascending all) → Tallying all s s all
+tally_start all s o = record { same = refl; at = λ a h. refl; past = λ a h. get_or-eq_default s 0 h; rises = o; inside = λ a m. m }
 
-module _ (part marks s₀ s : List ℕ) (i : ℕ) (h : i < length part) (l : length part ≤ length marks) (up : Ascends part) (t : Tallying part marks s₀ s i) where
-  abbrev Rest : ℕ → List ℕ
-  Rest i = kept_of (drop i part) (drop i marks)
+-- the next atom is not among those that follow
+module _ {rest : List ℕ} (w : ℕ) (later : List ℕ) (e : rest ≡ w ∷ later) (o : So (ascending rest)) where
+  apart : (So (ascending later)) × ((a : ℕ) → a ∈ later → w < a)
+  apart = all_above w later (subst (λ l. So (ascending l)) e o)
 
-  pub tally_past : (get_or marks i 0 ≡ 1 → ⊥) → Tallying part marks s₀ s (i + 1)
-  tally_past e = record { same = t.same; at = λ a k. ap (λ r. get_or s a 0 + bit (mem a r)) (sym (kept_on part marks i h l e)) ∙ t.at a k; past = t.past }
+  alone : mem w later ≡ false
+  alone = so_false (mem w later) (λ m. omega (arith, apart.1 w ((mem_iff _ _).0 m)))
 
-  -- the atom is not among those that follow
-  alone : mem (get_or part i 0) (Rest (i + 1)) ≡ false
-  alone = so_false (mem (get_or part i 0) (Rest (i + 1))) (λ m. let q = kept_place (drop (i + 1) part) (drop (i + 1) marks) (get_or part i 0) ((mem_iff _ _).0 m) in later q.0 q.1 q.2)
-    where
-      later : (j : ℕ) → j < length (drop (i + 1) part) → get_or (drop (i + 1) part) j 0 ≡ get_or part i 0 → ⊥
-      later j b e = let x : i + 1 + j < length part = omega (arith, simp length-drop at b) in let y = up.rises i (i + 1 + j) (omega arith) x in let z = sym (get_or-drop (i + 1) part j 0) ∙ e in omega arith
+  here : mem w rest ≡ true
+  here = rw (e, eq-eqb w w refl)
 
-  pub tally_room : get_or marks i 0 ≡ 1 → ((a : ℕ) → get_or s₀ a 0 < 65535) → get_or s (get_or part i 0) 0 < 65535
-  tally_room e b = by_cases (dec_lt (get_or part i 0) (length s₀))
-      (λ k. let w = get_or part i 0 in omega (arith, here w refl k, b w, bit_bound (mem w (kept_of part marks))))
-      (λ k. omega (arith, t.past (get_or part i 0) (omega arith)))
-    where
-      on : (a : ℕ) → get_or part i 0 ≡ a → mem a (get_or part i 0 ∷ Rest (i + 1)) ≡ true
-      on a q = rw (eq-eqb a (get_or part i 0) (sym q))
+  there : (a : ℕ) → (a ≡ w → ⊥) → mem a rest ≡ mem a later
+  there a n = rw (e, ne_eqb a w n)
 
-      here : (a : ℕ) → get_or part i 0 ≡ a → a < length s₀ → get_or s a 0 + 1 ≡ get_or s₀ a 0 + bit (mem a (kept_of part marks))
-      here a q k =
-          let z : mem a (Rest i) ≡ true = ap (mem a) (kept_some part marks i h l e) ∙ on a q in
-          ap (λ r. get_or s a 0 + bit r) (sym z) ∙ t.at a k
+  first_in : w ∈ rest
+  first_in = subst (λ l. w ∈ l) (sym e) (Memᴰ.head refl)
 
-  pub tally_on : get_or marks i 0 ≡ 1 → (s' : List ℕ) → s' ≡ set s (get_or part i 0) (get_or s (get_or part i 0) 0 + 1) → Tallying part marks s₀ s' (i + 1)
-  tally_on e s' d = record {
-    same = ap length d ∙ length-set s (get_or part i 0) (get_or s (get_or part i 0) 0 + 1) ∙ t.same;
-    at = λ a k. by_cases (ℕ_discrete a (get_or part i 0)) (here a k) (there a k);
-    past = λ a k. get_or-eq_default s' 0 (omega (arith, ap length d, length-set s (get_or part i 0) (get_or s (get_or part i 0) 0 + 1), t.same));
+module _ (all s₀ s : List ℕ) {rest : List ℕ} (w : ℕ) (later : List ℕ) (t : Tallying all s₀ s rest) (e : rest ≡ w ∷ later) where
+  pub tally_room : ((a : ℕ) → get_or s₀ a 0 < 65535) → get_or s w 0 < 65535
+  tally_room b = by_cases (dec_lt w (length s₀))
+      (λ k. omega (arith, ap (λ x. get_or s w 0 + bit x) (sym (here w later e t.rises)) ∙ t.at w k, b w, bit_bound (mem w all)))
+      (λ k. omega (arith, t.past w (omega arith)))
+
+  pub tally_on : (s' : List ℕ) → s' ≡ set s w (get_or s w 0 + 1) → Tallying all s₀ s' later
+  tally_on s' d = record {
+    same = long ∙ t.same;
+    at = λ a k. by_cases (ℕ_discrete a w)
+        (λ q. rw (d, q, get_or-set_same s w (get_or s w 0 + 1) 0 (omega (arith, t.same)), alone w later e t.rises) (omega (arith, ap (λ x. get_or s w 0 + bit x) (sym (here w later e t.rises)) ∙ t.at w (omega arith))))
+        (λ q. rw (d, get_or-set_other s w a (get_or s w 0 + 1) 0 q) (ap (λ x. get_or s a 0 + bit x) (sym (there w later e t.rises a q)) ∙ t.at a k));
+    past = λ a k. get_or-eq_default s' 0 (omega (arith, long, t.same));
+    rises = (apart w later e t.rises).0;
+    inside = λ a m. t.inside a (subst (λ l. a ∈ l) (sym e) (Memᴰ.tail m));
   }
     where
-      w : ℕ
-      w = get_or part i 0
+      long : length s' ≡ length s
+      long = ap length d ∙ length-set s w (get_or s w 0 + 1)
 
-      before : (a : ℕ) → a < length s₀ → get_or s a 0 + bit (eqb a w || mem a (Rest (i + 1))) ≡ get_or s₀ a 0 + bit (mem a (kept_of part marks))
-      before a k = ap (λ r. get_or s a 0 + bit (mem a r)) (sym (kept_some part marks i h l e)) ∙ t.at a k
-
-      here : (a : ℕ) → a < length s₀ → a ≡ w → get_or s' a 0 + bit (mem a (Rest (i + 1))) ≡ get_or s₀ a 0 + bit (mem a (kept_of part marks))
-      here a k q = rw (d, q, get_or-set_same s w (get_or s w 0 + 1) 0 (omega (arith, t.same)), alone) (omega (arith, rw (eq-eqb w w refl) at (before w (omega arith))))
-
-      there : (a : ℕ) → a < length s₀ → (a ≡ w → ⊥) → get_or s' a 0 + bit (mem a (Rest (i + 1))) ≡ get_or s₀ a 0 + bit (mem a (kept_of part marks))
-      there a k q = rw (d, get_or-set_other s w a (get_or s w 0 + 1) 0 q) (rw (ne_eqb a w q) at (before a k))
-
--- The other way: the counts now, with what the whole gives, are those at first with what is left of the part.
-module _ (part marks s s₀ : List ℕ) (i : ℕ) (h : i < length part) (l : length part ≤ length marks) (up : Ascends part) (t : Tallying part marks s s₀ i) (e : get_or marks i 0 ≡ 1) where
-  abbrev w : ℕ
-  w = get_or part i 0
-
-  here_less : (a : ℕ) → a < length s → a ≡ w → get_or s₀ a 0 + 1 ≡ get_or s a 0 + bit (mem a (kept_of part marks))
-  here_less a k q =
-      let z : mem a (kept_of (drop i part) (drop i marks)) ≡ true = ap (mem a) (kept_some part marks i h l e) ∙ rw (eq-eqb a w q) in
-      ap (λ r. get_or s₀ a 0 + bit r) (sym z) ∙ t.at a k
+-- The other way: the counts now, with what the whole gives, are those at first with what is left.
+module _ (all s s₀ : List ℕ) {rest : List ℕ} (w : ℕ) (later : List ℕ) (t : Tallying all s s₀ rest) (e : rest ≡ w ∷ later) where
+  here_less : w < length s → get_or s₀ w 0 + 1 ≡ get_or s w 0 + bit (mem w all)
+  here_less k = ap (λ x. get_or s₀ w 0 + bit x) (sym (here w later e t.rises)) ∙ t.at w k
 
   -- the atom is counted as it was at first
-  pub untally_room : Positive (kept_of part marks) s₀ → 0 < get_or s w 0
+  pub untally_room : Positive all s₀ → 0 < get_or s w 0
   untally_room p = by_cases (dec_lt w (length s))
-      (λ k. omega (arith, here_less w k refl, p.above w within, bit_bound (mem w (kept_of part marks))))
+      (λ k. omega (arith, here_less k, p.above w within, bit_bound (mem w all)))
       (λ k. let z = t.past w (omega arith) in absurd (omega (arith, p.above w within)))
     where
-      within : w ∈ kept_of part marks
-      within = place_kept part marks i h l e
+      within : w ∈ all
+      within = t.inside w (first_in w later e t.rises)
 
-  pub untally_on : 0 < get_or s w 0 → (s' : List ℕ) → s' ≡ set s w (get_or s w 0 - 1) → Tallying part marks s' s₀ (i + 1)
+  pub untally_on : 0 < get_or s w 0 → (s' : List ℕ) → s' ≡ set s w (get_or s w 0 - 1) → Tallying all s' s₀ later
   untally_on b s' d = record {
-    same = t.same ∙ sym (ap length d ∙ length-set s w (get_or s w 0 - 1));
-    at = λ a k. by_cases (ℕ_discrete a w) (here a (omega (arith, long, k))) (there a (omega (arith, long, k)));
+    same = t.same ∙ sym long;
+    at = λ a k. by_cases (ℕ_discrete a w)
+        (λ q. rw (d, q, get_or-set_same s w (get_or s w 0 - 1) 0 (omega (arith, long)), alone w later e t.rises) (omega (arith, here_less (omega (arith, long)), b)))
+        (λ q. rw (d, get_or-set_other s w a (get_or s w 0 - 1) 0 q) (ap (λ x. get_or s₀ a 0 + bit x) (sym (there w later e t.rises a q)) ∙ t.at a (omega (arith, long, k))));
     past = λ a k. t.past a (omega (arith, long));
+    rises = (apart w later e t.rises).0;
+    inside = λ a m. t.inside a (subst (λ l. a ∈ l) (sym e) (Memᴰ.tail m));
   }
     where
       long : length s' ≡ length s
       long = ap length d ∙ length-set s w (get_or s w 0 - 1)
-
-      here : (a : ℕ) → a < length s → a ≡ w → get_or s₀ a 0 + bit (mem a (kept_of (drop (i + 1) part) (drop (i + 1) marks))) ≡ get_or s' a 0 + bit (mem a (kept_of part marks))
-      here a k q = rw (d, q, get_or-set_same s w (get_or s w 0 - 1) 0 (omega arith), alone part marks s s₀ i h l up t) (omega (arith, here_less w (omega arith) refl, b))
-
-      there : (a : ℕ) → a < length s → (a ≡ w → ⊥) → get_or s₀ a 0 + bit (mem a (kept_of (drop (i + 1) part) (drop (i + 1) marks))) ≡ get_or s' a 0 + bit (mem a (kept_of part marks))
-      there a k q = rw (d, get_or-set_other s w a (get_or s w 0 - 1) 0 q)
-          (rw (ne_eqb a w q) at (ap (λ r. get_or s₀ a 0 + bit (mem a r)) (sym (kept_some part marks i h l e)) ∙ t.at a k))
 
 -- an atom of a kept clause's head is counted
 pub heads_positive : (ws ms hs : List ℕ) (t : ℕ) → Heads ws ms hs → So (entry (view ws ms) t).kept → Positive (entry (view ws ms) t).clause.head hs
@@ -152,8 +135,8 @@ heads_positive ws ms hs t h k = record {
       (λ e. omega arith);
 }
 
-pub tally_end : (part marks s₀ s : List ℕ) (i : ℕ) → length part ≤ i → Tallying part marks s₀ s i → Tallied (kept_of part marks) s₀ s
-tally_end part marks s₀ s i h t = record { same = t.same; at = λ a k. omega (arith, rw (scan_end part (drop i marks) i h) at (t.at a k)) }
+pub tally_end : (all s₀ s : List ℕ) {rest : List ℕ} → rest ≡ [] → Tallying all s₀ s rest → Tallied all s₀ s
+tally_end all s₀ s e t = record { same = t.same; at = λ a k. omega (arith, ap (λ l. get_or s a 0 + bit (mem a l)) (sym e) ∙ t.at a k) }
 
 -- ---- clause by clause
 
@@ -215,6 +198,3 @@ counting_end ws ms s t p h w = record {
       (λ k. w.at a k ∙ ap (λ P. head_count (left P) a) (take_all t (view ws ms) (omega (arith, length_view ws ms))))
       (λ k. get_or-eq_default s 0 (let q : length s ≤ a = omega arith in q) ∙ sym ((no_head_count (left (view ws ms)) a).0 ((in_no_head_iff (left (view ws ms)) a).1 ((left_each (λ c. ¬ (a ∈ c.head)) (view ws ms)).1 (λ i _ m. omega (arith, (view_straight ws ms p i).head_below a m, w.room))))));
 }
-
-pub tallied_of : (l l' s s' : List ℕ) → l' ≡ l → Tallied l s s' → Tallied l' s s'
-tallied_of l l' s s' e t = rw e t

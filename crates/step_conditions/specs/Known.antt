@@ -1,11 +1,11 @@
--- What is known beside the marks: kept heads of an atom, the reach; and a step's words as a step.
+-- What is known beside the marks: kept heads of an atom, the reach; and a step of the code as a step.
 use Rattle.std.specs.Prelude.{◌≡◌, List, ℕ, ◌+◌, ◌-◌, ◌<◌, length, get_or}
 use Rattle.std.proofs.Math.Bool.{So}
 use Rattle.semantics.specs.Lists.{◌∈◌, count, mem, bit}
 use Rattle.semantics.specs.Programs.{Clause}
 use Rattle.rewriting.specs.Marked.{left}
 use Rattle.rewriting.specs.Steps.{step}
-use Rattle.rewriting.specs.Kinds.{Kind, kind_of}
+use Rattle.rewriting.specs.Kinds.{Kind}
 use Rattle.rewriting.specs.Uses.{asks_heads, asks_reach}
 use Rattle.rewriting.specs.Steps as steps
 use Rattle.table.specs.View.{view}
@@ -43,4 +43,4 @@ place_in ws at x a = find ws a (span_of ws at x).from ((span_of ws at x).end - (
 
 -- "four a step: kind, target, partner, atom"
 abbrev pub step_of : Step → steps.Step
-step_of s = step (kind_of s.kind) s.target s.partner s.atom
+step_of s = step s.kind s.target s.partner s.atom

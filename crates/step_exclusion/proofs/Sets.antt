@@ -2,12 +2,12 @@
 use mathlib.Core.Path.{◌≡◌, refl, sym, ap, subst, ◌∙◌}
 use mathlib.Core.Logic.{◌⊎◌, inl, inr, ⊎_elim, by_cases}
 use mathlib.Core.Bool.{Bool, true, false, cond, ◌&&◌, ◌||◌, So, false≢true}
-use mathlib.Core.List.{List, [], ◌∷◌, map}
+use mathlib.Core.List.{List, [], ◌∷◌, ◌++◌, map}
 use Prim.Native.Nat.{ℕ, zero, suc, ◌+◌, ◌≤◌, ◌<◌}
 use native.Mathlib.Omega.{arith}
 use native.Mathlib.Decide.{ℕ_discrete, dec_lt}
-use lib.ListN.{length, get_or, set, replicate, get_or-eq_default}
-use lib.Seq.{get_or-set_same, get_or-set_other}
+use lib.ListN.{length, get_or, set, take, drop, replicate, get_or-eq_default, get_or-append, length-take}
+use lib.Seq.{get_or-set_same, get_or-set_other, get_or-take}
 use Rattle.semantics.specs.Lists.{◌∈◌, any, mem, keep}
 use Rattle.semantics.specs.Programs.{Clause, Atoms, Subset}
 use Rattle.semantics.proofs.Tests.{mem_iff, any_iff, so_ext, or_left, or_right}
@@ -38,10 +38,9 @@ pub record Narrowing (ws ms : List ℕ) (t : ℕ) (ks : List ℕ) : Type 0 where
 entry_past : (ws ms : List ℕ) (s : ℕ) → get_or ws 1 0 ≤ s → entry (view ws ms) s ≡ gone
 entry_past ws ms s h = get_or-eq_default (view ws ms) gone (omega (arith, length_view ws ms))
 
-pub copy_on : (ms ks : List ℕ) (i : ℕ) → i < length ks → ((j : ℕ) → j < i → get_or ks j 0 ≡ get_or ms j 0) → (j : ℕ) → j < i + 1 → get_or (set ks i (get_or ms i 0)) j 0 ≡ get_or ms j 0
-copy_on ms ks i l h j k = by_cases (ℕ_discrete j i)
-    (λ e. rw (e, get_or-set_same ks i (get_or ms i 0) 0 l))
-    (λ e. get_or-set_other ks i j (get_or ms i 0) 0 e ∙ h j (omega arith))
+-- marks that are copied over the first n
+pub copied_marks : (ms old : List ℕ) (n : ℕ) → n ≤ length ms → (i : ℕ) → i < n → get_or (take n ms ++ drop n old) i 0 ≡ get_or ms i 0
+copied_marks ms old n l i h = get_or-append (take n ms) (drop n old) 0 i (simp length-take (omega arith)) ∙ get_or-take n ms i 0 h
 
 pub narrow_start : (ws ms ks : List ℕ) → Passed ws → ((i : ℕ) → i < length ws → get_or ks i 0 ≡ get_or ms i 0) → Narrowing ws ms 0 ks
 narrow_start ws ms ks p h = record {
@@ -101,7 +100,7 @@ module _ (ws ms : List ℕ) (t : ℕ) (ks : List ℕ) (n : Narrowing ws ms t ks)
         lost e d = rw (d, and_false e.kept)
 
 pub narrow_at : (ws ms : List ℕ) (t : ℕ) (ks : List ℕ) (at : ℕ) → at ≡ start_of ws t → Narrowing ws ms t ks → t < get_or ws 1 0 → next_at ws at ≤ length ks → definite (entry (view ws ms) t).clause ≡ false → Narrowing ws ms (t + 1) (set ks at 0)
-narrow_at ws ms t ks at e n h l d = subst (λ x. Narrowing ws ms (t + 1) (set ks x 0)) (sym e) (narrow_on ws ms t ks n h (subst (λ x. next_at ws x ≤ length ks) e l) d)
+narrow_at ws ms t ks i e n h l d = subst (λ x. Narrowing ws ms (t + 1) (set ks x 0)) (sym e) (narrow_on ws ms t ks n h (subst (λ x. next_at ws x ≤ length ks) e l) d)
 
 entry_map : (P : Marked) (s : ℕ) → entry (map narrowed P) s ≡ narrowed (entry P s)
 entry_map [] s = refl
@@ -124,10 +123,6 @@ narrow_end ws ms t ks h n = record {
       (λ l. n.before s l ∙ sym (entry_map (view ws ms) s))
       (λ l. entry_past ws ks s (omega arith) ∙ sym (entry_map (view ws ms) s ∙ ap narrowed (entry_past ws ms s (omega arith)))));
 }
-
--- marks that are the same leave the same
-pub copy_view : (ws ks ms : List ℕ) → Passed ws → ((i : ℕ) → i < length ws → get_or ks i 0 ≡ get_or ms i 0) → view ws ks ≡ view ws ms
-copy_view ws ks ms p h = entries_ext (view ws ks) (view ws ms) (length_view ws ks ∙ sym (length_view ws ms)) (λ s. (narrow_start ws ms ks p h).after s (omega arith))
 
 left_narrowed : (P : Marked) → left (map narrowed P) ≡ keep definite (left P)
 unfolding left

@@ -1,193 +1,131 @@
 // Kind 9 on the words and the marks of a table that passed: the consequences of an atom as bytes, the condition, and the marks after the step.
 #![tactic(auto)]
 
-ghost use Rattle.std.specs.Prelude.{◌≡◌, ℕ, ◌-◌, ◌≤◌, ◌<◌, length, get_or};
+ghost use Rattle.std.specs.Prelude.{◌≡◌, ◌-◌, ◌≤◌, ◌<◌, length};
 ghost use Rattle.std.proofs.Math.Bool.{So};
 ghost use Rattle.semantics.specs.Lists.{any, all};
-ghost use Rattle.rewriting.specs.Marked.{entry, left};
+ghost use Rattle.rewriting.specs.Marked.{left};
 ghost use Rattle.rewriting.specs.Consequences.{definite};
 ghost use Rattle.rewriting.specs.Exclusion.{plain_constraint, occurs, excludes};
 ghost use Rattle.table.specs.Places.{start_of};
-ghost use Rattle.table.specs.View.{view};
-ghost use Rattle.table.specs.Slices.{kept_of};
 ghost use Rattle.table.specs.Clearing.{clear_part, clear_clause, marks_without};
-ghost use Rattle.step_parts.specs.Parts.{Ready};
-ghost use Rattle.step_parts.proofs.Laws.{From, Size};
+ghost use Rattle.step_parts.specs.Reading.{atom_count, clause_count, clause_of, program_of, words_of, marks_of};
 ghost use Rattle.step_reach.specs.Bytes.{in_bytes};
-ghost use Rattle.step_reach.specs.Counts.{Queued, Joined};
-ghost use Rattle.step_exclusion.specs.Exclusions.{Narrowed, ConsequencesIn, Occurring};
+ghost use Rattle.step_reach.specs.Growing.{HasJoined};
+ghost use Rattle.step_exclusion.specs.Exclusions.{Narrowed, ConsequencesIn, Occurring, part_without};
 
-use step_parts::{Part, Single};
+use step_parts::{Indexed, Marked, Part};
+use step_reach::{AtomSet, Closure};
 
 // ---- the consequences of an atom
 
 // Whether clause t has one head atom and no negative atoms.
-pub fn is_definite(words: &[u16], marks: &[u8], index: &[u16], t: usize) -> bool
-    requires { (Ready words.now marks.now index.now) × (t < get_or words.now 1 0) }
-    ensures { result ≡ definite (entry (view words.now marks.now) t).clause }
+pub fn is_definite(program: &Marked, t: usize) -> bool
+    requires { t < clause_count program.now.table }
+    ensures { result ≡ definite (clause_of program.now t) }
 {
-    let head = step_parts::only(words, marks, index, t, Part::Head);
-    match head {
-        Single::One(_b) => step_parts::empty(words, marks, index, t, Part::Neg),
-        Single::Other => false,
-    }
-}
-
-// The marks of the table's words.
-fn copy_marks(words: &[u16], marks: &[u8], only: &mut [u8])
-    requires { (length words.now ≤ length marks.now) × (length words.now ≤ length only.old) }
-    ensures { (i : ℕ) → i < length words.now → get_or only.new i 0 ≡ get_or marks.now i 0 }
-{
-    for i in 0..words.len() {
-        only[i] = marks[i];
-    }
+    program.only(t, Part::Head).is_some() && program.empty(t, Part::Neg)
 }
 
 // The marks with those clauses alone: the consequences of an atom are the reach of what they leave, with the atom.
-pub fn narrow(words: &[u16], marks: &[u8], index: &[u16], only: &mut [u8])
-    requires { (Ready words.now marks.now index.now) × (length words.now ≤ length only.old) }
-    ensures { Narrowed words.now marks.now only.new }
+pub fn narrow(program: &Marked, only: &mut [u8])
+    requires { length (words_of program.now) ≤ length only.old }
+    ensures { Narrowed (words_of program.now) (marks_of program.now) only.new }
 {
-    copy_marks(words, marks, only);
-    for t in 0..table::wide(words[1]) {
-        if is_definite(words, marks, index, t) {
+    let n = program.table.words.len();
+    only[..n].copy_from_slice(&program.marks[..n]);
+    for t in 0..program.table.clause_count() {
+        if is_definite(program, t) {
             continue;
         }
-        let at = step_parts::first_word(words, index, t);
+        let at = program.table.first_word(t);
         only[at] = 0;
     }
 }
 
-// The consequences of the atom: afterwards the byte of an atom is 1 exactly where the atom is one.
-pub fn find_consequences(words: &[u16], marks: &[u8], index: &[u16], atom: u16, bytes: &mut [u8])
-    requires { (Ready words.now marks.now index.now) × ((atom < get_or words.now 0 0) × (get_or words.now 0 0 ≤ length bytes.old)) }
-    ensures { ConsequencesIn words.now marks.now atom bytes.new }
+// The consequences of the atom: the byte of an atom is 1 exactly where the atom is one.
+pub fn find_consequences(program: &Marked, atom: u16) -> AtomSet
+    requires { atom < atom_count program.now.table }
+    ensures { ConsequencesIn (words_of program.now) (marks_of program.now) atom result.bytes }
 {
-    let mut only = [0u8; 8192];
-    narrow(words, marks, index, &mut only);
-    let mut missing = [0u16; 2048];
-    let mut queue = [0u16; 1024];
-    let top = step_reach::close_all(words, &only, index, bytes, &mut missing, &mut queue);
-    step_reach::close_with(
-        words,
-        &only,
-        index,
-        atom,
-        bytes,
-        &mut missing,
-        &mut queue,
-        top,
-    );
+    let mut marks = [0u8; 8192];
+    narrow(program, &mut marks);
+    let definite = Marked {
+        table: program.table,
+        marks: &marks,
+    };
+    let mut closure = Closure::new(&definite);
+    closure.close_with(&definite, atom);
+    closure.set
 }
 
 // ---- the condition
 
 // Whether clause t is a constraint with positive atoms and no negative ones: where it is kept, it can be a target.
-pub fn is_plain(words: &[u16], marks: &[u8], index: &[u16], t: usize) -> bool
-    requires { (Ready words.now marks.now index.now) × (t < get_or words.now 1 0) }
-    ensures { result ≡ plain_constraint (entry (view words.now marks.now) t).clause }
+pub fn is_plain(program: &Marked, t: usize) -> bool
+    requires { t < clause_count program.now.table }
+    ensures { result ≡ plain_constraint (clause_of program.now t) }
 {
-    if !step_parts::empty(words, marks, index, t, Part::Head) {
-        return false;
-    }
-    if !step_parts::empty(words, marks, index, t, Part::Neg) {
-        return false;
-    }
-    !step_parts::empty(words, marks, index, t, Part::Pos)
+    program.empty(t, Part::Head) && program.empty(t, Part::Neg) && !program.empty(t, Part::Pos)
 }
 
-// The atoms of clause t join the set. The queue's length then.
-fn join_clause(
-    words: &[u16],
-    marks: &[u8],
-    index: &[u16],
-    t: usize,
-    bytes: &mut [u8],
-    queue: &mut [u16],
-    top: usize,
-) -> usize
-    requires { (Ready words.now marks.now index.now) × ((t < get_or words.now 1 0) × ((get_or words.now 0 0 ≤ length bytes.old) × (Queued bytes.old queue.old top))) }
-    ensures { Joined (λ a. So (occurs a (entry (view words.now marks.now) t).clause)) bytes.old queue.old top bytes.new queue.new result }
+// The atoms of clause t join the set.
+fn join_clause(program: &Marked, t: usize, set: &mut AtomSet)
+    requires { t < clause_count program.now.table }
+    ensures { HasJoined (λ a. So (occurs a (clause_of program.now t))) set.old set.new }
 {
-    let a = step_reach::join_part(words, marks, index, t, Part::Head, bytes, queue, top);
-    let b = step_reach::join_part(words, marks, index, t, Part::Pos, bytes, queue, a);
-    step_reach::join_part(words, marks, index, t, Part::Neg, bytes, queue, b)
+    set.join_part(program, t, Part::Head);
+    set.join_part(program, t, Part::Pos);
+    set.join_part(program, t, Part::Neg);
 }
 
-// The atoms that occur: afterwards the byte of an atom is 1 exactly where the atom is in a kept clause.
-pub fn find_present(words: &[u16], marks: &[u8], index: &[u16], bytes: &mut [u8])
-    requires { (Ready words.now marks.now index.now) × (get_or words.now 0 0 ≤ length bytes.old) }
-    ensures { Occurring words.now marks.now bytes.new }
+// The atoms that occur: the byte of an atom is 1 exactly where the atom is in a kept clause.
+pub fn find_present(program: &Marked) -> AtomSet
+    ensures { Occurring (words_of program.now) (marks_of program.now) result.bytes }
 {
-    step_reach::clear(bytes);
-    let mut queue = [0u16; 1024];
-    let mut top: usize = 0;
-    for t in 0..table::wide(words[1]) {
-        if !step_parts::kept(words, marks, index, t) {
+    let mut present = AtomSet::new();
+    for t in 0..program.table.clause_count() {
+        if !program.kept(t) {
             continue;
         }
-        top = join_clause(words, marks, index, t, bytes, &mut queue, top);
+        join_clause(program, t, &mut present);
     }
-}
-
-// Whether the atom occurs in a kept clause.
-fn is_present(words: &[u16], marks: &[u8], index: &[u16], atom: u16) -> bool
-    requires { Ready words.now marks.now index.now }
-    ensures { result ≡ any (occurs atom) (left (view words.now marks.now)) }
-{
-    let mut present = [0u8; 1024];
-    find_present(words, marks, index, &mut present);
-    step_reach::is_in(&present, atom)
-}
-
-// Whether every kept atom of the part is in the set.
-fn part_in(part: &[u16], marks: &[u8], bytes: &[u8]) -> bool
-    requires { length part.now ≤ length marks.now }
-    ensures { result ≡ all (in_bytes bytes.now) (kept_of part.now marks.now) }
-{
-    for i in 0..part.len() {
-        if marks[i] != 1 {
-            continue;
-        }
-        if !step_reach::is_in(bytes, part[i]) {
-            return false;
-        }
-    }
-    true
+    present
 }
 
 // Whether every positive atom of clause t is in the set.
-pub fn body_in(words: &[u16], marks: &[u8], index: &[u16], t: usize, bytes: &[u8]) -> bool
-    requires { (Ready words.now marks.now index.now) × (t < get_or words.now 1 0) }
-    ensures { result ≡ all (in_bytes bytes.now) (entry (view words.now marks.now) t).clause.pos }
+pub fn body_in(program: &Marked, t: usize, bytes: &[u8]) -> bool
+    requires { t < clause_count program.now.table }
+    ensures { result ≡ all (in_bytes bytes.now) (clause_of program.now t).pos }
 {
-    let s = step_parts::span(words, index, t, Part::Pos);
-    let a = s.from;
-    let b = s.end;
-    part_in(&words[a..b], &marks[a..b], bytes)
+    program
+        .atoms(t, Part::Pos)
+        .all(|atom| step_reach::is_in(bytes, atom))
 }
 
 // Kind 9's condition for the target t and the atom: question 16.
-pub fn excluded(words: &[u16], marks: &[u8], index: &[u16], t: usize, atom: u16) -> bool
-    requires { (Ready words.now marks.now index.now) × ((t < get_or words.now 1 0) × (atom < get_or words.now 0 0)) }
-    ensures { result ≡ excludes (left (view words.now marks.now)) (entry (view words.now marks.now) t).clause atom }
+pub fn excluded(program: &Marked, t: usize, atom: u16) -> bool
+    requires target { t < clause_count program.now.table }
+    requires atom { atom < atom_count program.now.table }
+    ensures { result ≡ excludes (left (program_of program.now)) (clause_of program.now t) atom }
 {
-    if !is_plain(words, marks, index, t) {
+    if !is_plain(program, t) {
         return false;
     }
-    if !is_present(words, marks, index, atom) {
+    if !step_reach::is_in(&find_present(program).bytes, atom) {
         return false;
     }
-    let mut follows = [0u8; 1024];
-    find_consequences(words, marks, index, atom, &mut follows);
-    body_in(words, marks, index, t, &follows)
+    body_in(program, t, &find_consequences(program, atom).bytes)
 }
 
 // ---- the step
 
 // The marks of the atom among the words of a part.
+// Index loop: a word is read and the mark beside it is written, in two slices at the same place.
 fn clear_part(words: &[u16], marks: &mut [u8], atom: u16, from: usize, end: usize)
-    requires { (from ≤ end) × ((end ≤ length words.now) × (length words.now ≤ length marks.old)) }
+    requires order { from ≤ end }
+    requires words { end ≤ length words.now }
+    requires marks { length words.now ≤ length marks.old }
     ensures { marks.new ≡ clear_part words.now atom from (end - from) marks.old }
 {
     for i in from..end {
@@ -199,37 +137,42 @@ fn clear_part(words: &[u16], marks: &mut [u8], atom: u16, from: usize, end: usiz
 }
 
 // Those of a part of clause t.
-fn clear_in(words: &[u16], marks: &mut [u8], index: &[u16], t: usize, part: Part, atom: u16)
-    requires { (Ready words.now marks.old index.now) × (t < get_or words.now 1 0) }
-    ensures { marks.new ≡ clear_part words.now atom (From words.now (start_of words.now t) part) (Size words.now (start_of words.now t) part) marks.old }
+fn clear_in(table: &Indexed, marks: &mut [u8], t: usize, part: Part, atom: u16)
+    requires marks { length table.now.words.now ≤ length marks.old }
+    requires clause { t < clause_count table.now }
+    ensures { marks.new ≡ part_without table.now.words.now atom t part marks.old }
 {
-    let s = step_parts::span(words, index, t, part);
-    clear_part(words, marks, atom, s.from, s.end);
+    let span = table.span(t, part);
+    clear_part(table.words, marks, atom, span.from, span.end);
 }
 
 // Clause t is deleted where the atom is in its positive body, and else loses it.
-fn clear_clause(words: &[u16], marks: &mut [u8], index: &[u16], t: usize, atom: u16)
-    requires { (Ready words.now marks.old index.now) × (t < get_or words.now 1 0) }
-    ensures { marks.new ≡ clear_clause words.now atom (start_of words.now t) marks.old }
+fn clear_clause(table: &Indexed, marks: &mut [u8], t: usize, atom: u16)
+    requires marks { length table.now.words.now ≤ length marks.old }
+    requires clause { t < clause_count table.now }
+    ensures { marks.new ≡ clear_clause table.now.words.now atom (start_of table.now.words.now t) marks.old }
 {
-    if !step_parts::kept(words, marks, index, t) {
+    let program = Marked {
+        table: *table,
+        marks,
+    };
+    if !program.kept(t) {
         return;
     }
-    if step_parts::has(words, marks, index, t, Part::Pos, atom) {
-        let at = step_parts::first_word(words, index, t);
-        marks[at] = 0;
+    if program.has(t, Part::Pos, atom) {
+        marks[table.first_word(t)] = 0;
         return;
     }
-    clear_in(words, marks, index, t, Part::Head, atom);
-    clear_in(words, marks, index, t, Part::Neg, atom);
+    clear_in(table, marks, t, Part::Head, atom);
+    clear_in(table, marks, t, Part::Neg, atom);
 }
 
 // The step's effect on the marks.
-pub fn remove_atom(words: &[u16], marks: &mut [u8], index: &[u16], atom: u16)
-    requires { Ready words.now marks.old index.now }
-    ensures { marks.new ≡ marks_without words.now marks.old atom }
+pub fn remove_atom(table: &Indexed, marks: &mut [u8], atom: u16)
+    requires { length table.now.words.now ≤ length marks.old }
+    ensures { marks.new ≡ marks_without table.now.words.now marks.old atom }
 {
-    for t in 0..table::wide(words[1]) {
-        clear_clause(words, marks, index, t, atom);
+    for t in 0..table.clause_count() {
+        clear_clause(table, marks, t, atom);
     }
 }

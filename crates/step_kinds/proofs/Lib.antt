@@ -1,2 +1,2 @@
 pub mod Applies
-pub mod Numbers
+pub mod Cases

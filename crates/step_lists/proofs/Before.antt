@@ -15,13 +15,12 @@ use Rattle.answers.specs.declared.CallQuestion.TheVariants.{MarksLength, ListLen
 use Rattle.answers.specs.declared.StepQuestion.{StepQuestion}
 use Rattle.answers.specs.declared.StepQuestion.TheVariants.{KindKnown, TargetKept, PartnerKept, AtomKnown, AtomMatches, AtomHeaded, ConditionHolds}
 use Rattle.answers.specs.declared.Refusal.TheVariants.{Call, Step}
-use Rattle.answers.specs.declared.Answer.{Answer}
-use Rattle.answers.specs.declared.Answer.TheVariants.{Accepted, Refused}
+use Rattle.answers.specs.Answers.{Answer}
+use Rattle.std.specs.Prelude.{Ok, Err}
 use Rattle.answers.specs.Refusals.{refusal_number}
 use Rattle.answers.specs.Answers.{ask}
 use Rattle.answers.proofs.Asked.{ask_pair, ask_both}
-use Rattle.table.specs.declared.Checked.{Checked}
-use Rattle.table.specs.declared.Checked.TheVariants as checked
+use Rattle.table.specs.Questions.{Checked}
 use Rattle.table.specs.Questions.{table_of, on_table}
 use Rattle.table.specs.StepWords.{kind_at, step_at}
 use Rattle.table.specs.View.{view, all_kept}
@@ -41,7 +40,7 @@ module _ {A : Type 0} where
 
 unfoldable pub steps_before : List ℕ → List ℕ → List ℕ → ℕ → ℕ → Outcome
 unfolding questions_before marks_after
-steps_before ws ms ls k zero = record { answer = Accepted k; marks = ms }
+steps_before ws ms ls k zero = record { answer = Ok k; marks = ms }
 steps_before ws ms ls k (suc left) =
     questions_before (λ q. leaving ms (Step q k)) (get_or ws 0 0) (view ws ms) (kind_at ls k) (step_at ls k)
     (steps_before ws (marks_after ws ms (step_at ls k)) ls (k + 1) left)
@@ -57,7 +56,7 @@ check_before ws ms ls =
 -- ---- as before, or refused by 32
 
 abbrev pub At32 : Outcome → Type 0
-At32 o = (k : ℕ) × (o.answer ≡ Refused (Step AtomHeaded k))
+At32 o = (k : ℕ) × (o.answer ≡ Err (Step AtomHeaded k))
 
 -- what is answered now, beside what was answered
 abbrev Now : Outcome → Outcome → Type 0
@@ -93,15 +92,15 @@ checked_on ws ms ls = table (table_of ws)
     (ask_pair Now (leaving ms) (leaving ms) (list_fits ls) (Call ListLength) _ _ (inl refl) (steps_on ws ls (length ls / 4) 0 (all_kept ws ms))))
   where
     table : (c : Checked) {a b : Outcome} → Now a b → Now (on_table (leaving ms) c a) (on_table (leaving ms) c b)
-    table (checked.Valid t) h = h
-    table (checked.Refused r) h = inl refl
+    table (Ok t) h = h
+    table (Err r) h = inl refl
 
 -- ---- and never both
 
 -- the number of the question that was answered no, or 0
 abbrev said_number : Answer → ℕ
-said_number (Accepted k) = 0
-said_number (Refused r) = refusal_number r
+said_number (Ok k) = 0
+said_number (Err r) = refusal_number r
 
 abbrev No32 : Outcome → Type 0
 No32 o = said_number o.answer ≢ 32
@@ -133,8 +132,8 @@ checked_no ws ms ls = table (table_of ws) refl _
     (ask_both No32 (leaving ms) (list_fits ls) (Call ListLength) _ (λ e. omega arith) (steps_no ws ls (length ls / 4) 0 (all_kept ws ms))))
   where
     table : (c : Checked) → table_of ws ≡ c → (a : Outcome) → No32 a → No32 (on_table (leaving ms) c a)
-    table (checked.Valid t) e a h = h
-    table (checked.Refused r) e a h = λ q. omega (arith, (table_refused ws r e).0, q)
+    table (Ok t) e a h = h
+    table (Err r) e a h = λ q. omega (arith, (table_refused ws r e).0, q)
 
 -- What a list is answered, or the marks that it leaves, changes exactly where it is refused by 32 now.
 pub changed_exactly : (ws ms ls : List ℕ) → (check_list ws ms ls ≢ check_before ws ms ls) ↔ At32 (check_list ws ms ls)

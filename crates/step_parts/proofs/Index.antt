@@ -21,6 +21,8 @@ use Rattle.table.proofs.Places.{passed_good, start_suc}
 use Rattle.table.proofs.View.{start_le, part_mem, entry_view}
 use Rattle.step_parts.specs.declared.Part.{Part}
 use Rattle.step_parts.specs.declared.Part.TheVariants.{Head, Pos, Neg}
+use Rattle.step_parts.specs.declared.marked.Marked.{Marked}
+use Rattle.step_parts.specs.Reading.{atom_count, clause_count, clause_of}
 use Rattle.step_parts.specs.Parts.{part_of, span_of, Stands, last_at, before_at, owner_at, Latest, Indexed}
 use Rattle.table.proofs.Walks.{passed_end}
 use Rattle.step_parts.proofs.Laws.{From, Size, part_at, span_rises}
@@ -255,6 +257,20 @@ kept_stands ws ms x a t h m =
     let o = span_order ws (start_of ws t) x in
     (q.0, record { clause = h; from = q.1; to = omega (arith, q.1, q.2); atom = q.3 }, q.4)
 
+part_length : (ws ms : List ℕ) (o k : ℕ) → length (part ws ms o k) ≤ k
+unfolding part
+part_length ws ms o zero = omega arith
+part_length ws ms o (suc k) = go (eqb (get_or ms o 0) 1) (part_length ws ms (suc o) k)
+  where
+    go : (b : Bool) → length (part ws ms (suc o) k) ≤ k → length (cond b (get_or ws o 0 ∷ part ws ms (suc o) k) (part ws ms (suc o) k)) ≤ suc k
+    go true h = omega arith
+    go false h = omega arith
+
+part_inside : (ws : List ℕ) (at : ℕ) (x : Part) → (span_of ws at x).end ≤ next_at ws at
+part_inside ws at Head = omega arith
+part_inside ws at Pos = omega arith
+part_inside ws at Neg = omega arith
+
 -- an atom stands once in a part
 pub stands_once : {ws : List ℕ} {x : Part} {a t i j : ℕ} → Passed ws → Stands ws x a t i → Stands ws x a t j → i ≡ j
 stands_once {ws} {x} {a} {t} {i} {j} p s q =
@@ -262,3 +278,20 @@ stands_once {ws} {x} {a} {t} {i} {j} p s q =
     let e : get_or ws i 0 ≡ get_or ws j 0 = s.atom ∙ sym q.atom in
     by_cases (dec_lt i j) (λ l. absurd (omega (arith, r i j s.from l (omega (arith, s.from, q.to)))))
     (λ l. by_cases (dec_lt j i) (λ k. absurd (omega (arith, r j i q.from k (omega (arith, q.from, s.to))))) (λ k. omega arith))
+
+-- ---- the atoms of a part of a program's clause
+
+module _ (p : Marked) (t : ℕ) (h : t < clause_count p.table) (x : Part) where
+  -- each is one of the table's atoms
+  pub part_below : (a : ℕ) → a ∈ part_of x (clause_of p t) → (a < atom_count p.table) × (a < 1024)
+  part_below a m =
+      let (i, s, e) = kept_stands p.table.words.now p.marks.now x a t h m in
+      let (u, v) = stands_in s in
+      (subst (λ b. b < get_or p.table.words.now 0 0) s.atom ((passed_good _ p.table.placed.passed t h).below i u v), (stands_small p.table.placed.passed s).0)
+
+  -- and they are few
+  pub part_few : length (part_of x (clause_of p t)) ≤ 8192
+  part_few =
+      let f = (passed_good _ p.table.placed.passed t h).fits in
+      let o = part_inside p.table.words.now (start_of p.table.words.now t) x in
+      omega (arith, ap length (view_part p.table.words.now p.marks.now t x h), part_length p.table.words.now p.marks.now (From p.table.words.now (start_of p.table.words.now t) x) (Size p.table.words.now (start_of p.table.words.now t) x), o, f, (passed_limits _ p.table.placed.passed).short)

@@ -12,7 +12,7 @@ use lib.Dec.{eqb}
 use lib.ListN.{length, get_or, take, drop, length-take, length-drop}
 use lib.Seq.{get_or-take, get_or-drop}
 use borrow.Author.Tests.{eqb-true, eq-eqb, ne_eqb}
-use Rattle.semantics.specs.Lists.{◌∈◌, null, mem, within}
+use Rattle.semantics.specs.Lists.{◌∈◌, mem, within}
 use Rattle.semantics.proofs.Tests.{mem_iff, so_ext, so_false}
 use Rattle.rewriting.specs.Marked.{entry}
 use Rattle.table.specs.Places.{head_at, pos_at, neg_at, next_at, start_of}
@@ -25,8 +25,8 @@ use Rattle.table.specs.Questions.{Passed}
 use Rattle.step_parts.specs.declared.Part.{Part}
 use Rattle.step_parts.specs.declared.Part.TheVariants.{Head, Pos, Neg}
 use Rattle.step_parts.specs.declared.Bounds.{Bounds}
-use Rattle.step_parts.specs.declared.Single.TheVariants.{One, Other}
-use Rattle.step_parts.specs.Parts.{part_of, span_of, Spanned, Placed, Ready, Ascends, Sought, FirstKept, single_of}
+use Rattle.step_parts.specs.declared.marked.Marked.{Marked}
+use Rattle.step_parts.specs.Parts.{part_of, span_of, Spanned, Placed, Ready, Ascends, Sought}
 
 -- ---- kept words by their places
 
@@ -75,16 +75,12 @@ module _ (part marks : List ℕ) (atom at : ℕ) (up : Ascends part) (s : Sought
       (λ k. (mem_iff _ _).1 (subst (λ x. x ∈ kept_of part marks) e (place_kept part marks at h l (eqb-true _ _ k))))
       (λ m. let q = kept_place part marks atom ((mem_iff _ _).0 m) in eq-eqb _ _ (ap (λ i. get_or marks i 0) (sym (sought_place q.0 q.1 q.2)) ∙ q.3))
 
--- ---- halves of a part that ascends
+-- what stands from a place on in a part that ascends
 
-module _ (part : List ℕ) (atom mid : ℕ) (up : Ascends part) where
-  pub seek_low : mid < length part → get_or part mid 0 < atom → (i : ℕ) → i < mid + 1 → get_or part i 0 < atom
-  seek_low l h i k = by_cases (dec_lt i mid) (λ q. omega (arith, up.rises i mid q l)) (λ q. let e : i ≡ mid = omega arith in rw e h)
+pub seek_high : (part : List ℕ) (atom mid : ℕ) → Ascends part → atom ≤ get_or part mid 0 → (i : ℕ) → mid ≤ i → i < length part → atom ≤ get_or part i 0
+seek_high part atom mid up h i k l = by_cases (dec_lt mid i) (λ q. omega (arith, up.rises mid i q l)) (λ q. let e : i ≡ mid = omega arith in rw e h)
 
-  pub seek_high : atom ≤ get_or part mid 0 → (i : ℕ) → mid ≤ i → i < length part → atom ≤ get_or part i 0
-  seek_high h i k l = by_cases (dec_lt mid i) (λ q. omega (arith, up.rises mid i q l)) (λ q. let e : i ≡ mid = omega arith in rw e h)
-
--- ---- the first kept word
+-- ---- kept words from a place on
 
 module _ (part marks : List ℕ) (i : ℕ) (h : i < length part) (l : length part ≤ length marks) where
   pub kept_some : get_or marks i 0 ≡ 1 → kept_of (drop i part) (drop i marks) ≡ get_or part i 0 ∷ kept_of (drop (i + 1) part) (drop (i + 1) marks)
@@ -92,13 +88,6 @@ module _ (part marks : List ℕ) (i : ℕ) (h : i < length part) (l : length par
 
   pub kept_on : (get_or marks i 0 ≡ 1 → ⊥) → kept_of (drop i part) (drop i marks) ≡ kept_of (drop (i + 1) part) (drop (i + 1) marks)
   kept_on e = scan_step part marks i h (omega arith) ∙ rw (ne_eqb (get_or marks i 0) 1 e)
-
-module _ (part marks : List ℕ) (from i : ℕ) where
-  pub kept_here : i < length part → length part ≤ length marks → get_or marks i 0 ≡ 1 → kept_of (drop from part) (drop from marks) ≡ kept_of (drop i part) (drop i marks) → FirstKept part marks from i
-  kept_here h l e q = record { within = omega arith; some = λ _. q ∙ kept_some part marks i h l e; none = λ z. absurd (omega arith) }
-
-  pub kept_end : length part ≤ i → kept_of (drop from part) (drop from marks) ≡ kept_of (drop i part) (drop i marks) → FirstKept part marks from (length part)
-  kept_end h q = record { within = omega arith; some = λ z. absurd (omega arith); none = λ _. q ∙ scan_end part (drop i marks) i h }
 
 -- ---- clauses by their starts
 
@@ -111,6 +100,10 @@ kept_entry ws ms index r t at h e = rw e (sym (ap (λ x. x.kept) (entry_view ws 
 
 pub start_next : (ws : List ℕ) (t at r : ℕ) → at ≡ start_of ws t → r ≡ next_at ws at → r ≡ start_of ws (t + 1)
 start_next ws t at r e q = q ∙ ap (next_at ws) e ∙ sym (start_suc ws 2 t) ∙ ap (start_of ws) (sym (add-one t))
+
+-- a table with its marks has what the two had
+pub ready : (p : Marked) → Ready p.table.words.now p.marks.now p.table.index.now
+ready p = record { placed = p.table.placed; marks = p.long }
 
 -- ---- a clause's part as slices of the words and the marks
 
@@ -184,23 +177,6 @@ module _ (a am l : List ℕ) (i : ℕ) (h : i < length a) (long : length a ≤ l
 
 pub within_end : (a am l : List ℕ) (i : ℕ) → length a ≤ i → within (kept_of (drop i a) (drop i am)) l ≡ true
 within_end a am l i h = ap (λ k. within k l) (scan_end a (drop i am) i h)
-
--- ---- no kept atom, one, more
-
-pub empty_by : (part marks : List ℕ) (r : ℕ) → FirstKept part marks 0 r → eqb r (length part) ≡ null (kept_of part marks)
-empty_by part marks r f = by_cases (dec_lt r (length part))
-    (λ h. ne_eqb r (length part) (λ e. omega arith) ∙ sym (ap null (f.some h)))
-    (λ h. let e : r ≡ length part = omega (arith, f.within) in eq-eqb r (length part) e ∙ sym (ap null (f.none e)))
-
-module _ (part marks : List ℕ) (i : ℕ) (f : FirstKept part marks 0 i) where
-  pub single_none : length part ≤ i → Other ≡ single_of (kept_of part marks)
-  single_none h = sym (ap single_of (f.none (omega (arith, f.within))))
-
-  pub single_two : (j : ℕ) → i < length part → FirstKept part marks (i + 1) j → j < length part → Other ≡ single_of (kept_of part marks)
-  single_two j h g k = sym (ap single_of (f.some h ∙ ap (λ l. get_or part i 0 ∷ l) (g.some k)))
-
-  pub single_one : (j : ℕ) → i < length part → FirstKept part marks (i + 1) j → length part ≤ j → One (get_or part i 0) ≡ single_of (kept_of part marks)
-  single_one j h g k = sym (ap single_of (f.some h ∙ ap (λ l. get_or part i 0 ∷ l) (g.none (omega (arith, g.within)))))
 
 span_within : (ws : List ℕ) (at : ℕ) (x : Part) → (head_at at ≤ (span_of ws at x).from) × ((span_of ws at x).end ≤ next_at ws at)
 span_within ws at Head = (omega arith, omega arith)

@@ -1,14 +1,11 @@
 -- The parts of a clause by name, where their words stand, and what the index of a table holds.
-use Rattle.std.specs.Prelude.{◌≡◌, List, [], ◌∷◌, ℕ, ◌+◌, ◌≤◌, ◌<◌, length, get_or, drop}
+use Rattle.std.specs.Prelude.{◌≡◌, List, [], ◌∷◌, ℕ, ◌+◌, ◌≤◌, ◌<◌, length, get_or, Option, Some, None}
 use Rattle.semantics.specs.Programs.{Clause}
 use Rattle.table.specs.Questions.{Passed}
 use Rattle.table.specs.Places.{head_at, pos_at, neg_at, next_at, start_of}
-use Rattle.table.specs.Slices.{kept_of}
 use Rattle.step_parts.specs.declared.Part.{Part}
 use Rattle.step_parts.specs.declared.Part.TheVariants.{Head, Pos, Neg}
 use Rattle.step_parts.specs.declared.Bounds.{Bounds}
-use Rattle.step_parts.specs.declared.Single.{Single}
-use Rattle.step_parts.specs.declared.Single.TheVariants.{One, Other}
 
 -- "h head atoms, p positive body atoms and q negative body atoms"
 abbrev pub part_of : Part → Clause → List ℕ
@@ -83,14 +80,8 @@ pub record Sought (part : List ℕ) (atom r : ℕ) : Type 0 where
   pub below : (i : ℕ) → i < r → get_or part i 0 < atom
   pub above : (i : ℕ) → r ≤ i → i < length part → atom ≤ get_or part i 0
 
--- r is the place of the first kept word from a place on, or the part's end
-pub record FirstKept (part marks : List ℕ) (from r : ℕ) : Type 0 where
-  pub within : r ≤ length part
-  pub some : r < length part → kept_of (drop from part) (drop from marks) ≡ get_or part r 0 ∷ kept_of (drop (r + 1) part) (drop (r + 1) marks)
-  pub none : r ≡ length part → kept_of (drop from part) (drop from marks) ≡ []
-
 -- the only element of a list
-abbrev pub single_of : List ℕ → Single
-single_of [] = Other
-single_of (b ∷ []) = One b
-single_of (b ∷ c ∷ l) = Other
+abbrev pub single_of : List ℕ → Option ℕ
+single_of [] = None
+single_of (b ∷ []) = Some b
+single_of (b ∷ c ∷ l) = None

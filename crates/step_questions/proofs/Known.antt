@@ -1,56 +1,51 @@
--- What is known from step to step: the kept heads and the reach, where a kind asks for them, and after a step is made.
-use mathlib.Core.Path.{◌≡◌, sym, subst, ◌∙◌}
-use mathlib.Core.Bool.{Bool, true, false, So, false≢true, true≢false}
+-- What is known after a step is made.
+use mathlib.Core.Path.{◌≡◌, refl, sym, subst, ◌∙◌}
+use mathlib.Core.Bool.{Bool, true, not, So}
 use mathlib.Core.List.{List}
 use Prim.Native.Nat.{ℕ, ◌≤◌, ◌<◌}
-use lib.ListN.{get_or}
-use Rattle.semantics.proofs.Tests.{not_so}
-use Rattle.rewriting.specs.Marked.{entry}
-use Rattle.rewriting.specs.Steps.{applies}
-use Rattle.rewriting.specs.Kinds.{kind_of}
+use native.Mathlib.Omega.{arith}
+use lib.Dec.{eqb}
+use lib.ListN.{length, get_or}
+use Rattle.rewriting.specs.Marked.{entry, left}
+use Rattle.rewriting.specs.Steps.{Step, atom_headed, applies}
+use Rattle.rewriting.specs.Kinds.{loop, on_target}
 use Rattle.rewriting.specs.Uses.{drops, asks_heads}
 use Rattle.rewriting.proofs.Effect.{target_kept_lem}
-use Rattle.rewriting.proofs.Rows.{kind_of_on_target}
+use Rattle.table.specs.Questions.{Passed}
 use Rattle.table.specs.View.{view}
 use Rattle.table.specs.Effects.{marks_after}
-use Rattle.step_parts.specs.Parts.{Ready}
-use Rattle.step_conditions.specs.declared.Step.{Step}
-use Rattle.step_conditions.specs.Known.{step_of, Heads, Tallied}
+use Rattle.step_reach.specs.Bytes.{Reached}
+use Rattle.step_conditions.specs.Known.{Tallied, Known}
 use Rattle.step_conditions.proofs.After.{heads_stay, heads_lowered, reached_stays, reached_idle}
+use Rattle.step_conditions.proofs.Heads.{no_head_is}
 use Rattle.step_conditions.proofs.Tests.{step_fits}
-use Rattle.step_questions.specs.declared.Memo.{Memo}
-use Rattle.step_questions.specs.Verdicts.{Counted, Found, Ready_for, Reach_stays}
+use Rattle.step_questions.specs.declared.memory.Memory.{Memory}
+use Rattle.step_questions.specs.Remembered.{Holding}
 
-pub none_asked : {A : Type 0} (b : Bool) → b ≡ false → (false ≡ true → A) × (So b → false ≡ true)
-none_asked b e = (λ x. absurd (false≢true x), λ x. absurd (true≢false (sym x ∙ e)))
+-- 32 by the count of the kept heads, which kind 7 asks for
+pub headed_loop : (ws ms hs rs : List ℕ) (s : Step) (b : Bool) → s.kind ≡ loop → Known s.kind ws ms hs rs → b ≡ eqb (get_or hs s.atom 0) 0 → not b ≡ atom_headed (view ws ms) s
+unfolding atom_headed
+headed_loop ws ms hs rs s b k h e = rw (k, e, no_head_is (left (view ws ms)) s.atom (get_or hs s.atom 0) ((h.heads (subst (λ j. So (asks_heads j)) (sym k) refl)).is s.atom))
 
-pub ready_for : (k : ℕ) (ws ms hs rs : List ℕ) (a b : Bool) → Counted k ws ms hs a → Found k ws ms rs b → Ready_for k ws ms hs rs (record { heads = a; reached = b })
-ready_for k ws ms hs rs a b h r = record { holding = record { heads = h.0; reached = r.0 }; known = record { heads = λ x. h.0 (h.1 x); reached = λ x. r.0 (r.1 x) } }
-
--- what a step leaves known, and the marks after it
-abbrev Left_known : List ℕ → List ℕ → Step → Memo → List ℕ → List ℕ → Memo → Type 0
-Left_known ws ms s m ms' hs' m' = (ms' ≡ marks_after ws ms (step_of s)) × ((m'.heads ≡ true → Heads ws ms' hs') × Reach_stays ws ms ms' m m')
-
-module _ (ws ms index : List ℕ) (r : Ready ws ms index) (s : Step) (ok : So (applies (get_or ws 0 0) (view ws ms) (step_of s))) where
+module _ (ws ms : List ℕ) (passed : Passed ws) (long : length ws ≤ length ms) (s : Step) (ok : So (applies (get_or ws 0 0) (view ws ms) s)) where
   pub target_fits : (t : ℕ) → t ≡ s.target → (t < get_or ws 1 0) × So (entry (view ws ms) t).kept
-  target_fits t e = rw e ((step_fits (get_or ws 0 0) ws ms (step_of s) ok).0, target_kept_lem (get_or ws 0 0) (view ws ms) (step_of s) ok)
+  target_fits t e = rw e ((step_fits (get_or ws 0 0) ws ms s ok).0, target_kept_lem (get_or ws 0 0) (view ws ms) s ok)
 
-  module _ (ms' hs : List ℕ) (m : Memo) (e : ms' ≡ marks_after ws ms (step_of s)) (k : m.heads ≡ true → Heads ws ms hs) where
-    pub after_drop : drops (kind_of s.kind) ≡ true → Left_known ws ms s m ms' hs m
-    after_drop d = (
-      e,
-      (
-        λ q. rw e (heads_stay ws ms r.placed.passed r.marks (get_or ws 0 0) (step_of s) ok d hs (k q)),
-        record { stays = λ rs g q. rw e (reached_stays ws ms r.placed.passed r.marks (get_or ws 0 0) (step_of s) ok d rs (g q)) },
-      ),
-    )
+  -- a literal was dropped
+  pub after_drop : So (drops s.kind) → (m : Memory) → Holding ws ms m → Holding ws (marks_after ws ms s) m
+  after_drop d m h = record {
+    room = h.room;
+    heads = λ q. heads_stay ws ms passed long (get_or ws 0 0) s ok d m.heads.now (h.heads q);
+    reached = λ q. reached_stays ws ms passed long (get_or ws 0 0) s ok d m.reached.now (h.reached q);
+  }
 
-    module _ (t : ℕ) (z : t ≡ s.target) (on : s.kind ≤ 8) (d : drops (kind_of s.kind) ≡ false) (hs' : List ℕ) (f : m.heads ≡ true → Tallied (entry (view ws ms) t).clause.head hs' hs) where
-      lowered : m.heads ≡ true → Heads ws ms' hs'
-      lowered q = rw e (heads_lowered ws ms r.placed.passed r.marks (get_or ws 0 0) (step_of s) (kind_of_on_target s.kind on) ok (not_so d) hs hs' (k q) (subst (λ i. Tallied (entry (view ws ms) i).clause.head hs' hs) z (f q)))
-
-      pub after_idle : asks_heads (kind_of s.kind) ≡ true → Left_known ws ms s m ms' hs' m
-      after_idle x = (e, (lowered, record { stays = λ rs g q. rw e (reached_idle ws ms r.placed.passed r.marks (get_or ws 0 0) (step_of s) ok (not_so d) x rs (g q)) }))
-
-      pub after_deletion : Left_known ws ms s m ms' hs' (record { heads = m.heads; reached = false })
-      after_deletion = (e, (lowered, record { stays = λ rs g q. absurd (false≢true q) }))
+  -- a clause was deleted: the numbers of kept heads were lowered, and the reach is as it was where it is known still
+  pub after_deletion : So (on_target s.kind) → ¬ So (drops s.kind) → (t : ℕ) → t ≡ s.target → (m m' : Memory) → Holding ws ms m
+      → (m.heads_known ≡ true → Tallied (entry (view ws ms) t).clause.head m'.heads.now m.heads.now) → m'.heads_known ≡ m.heads_known → length m'.heads.now ≡ length m.heads.now
+      → m'.reached.now ≡ m.reached.now → (m'.reach_known ≡ true → So (asks_heads s.kind) × (m'.reach_known ≡ m.reach_known))
+      → Holding ws (marks_after ws ms s) m'
+  after_deletion on d t e m m' h f k l r g = record {
+    room = (omega (arith, h.room.0, l), rw r h.room.1);
+    heads = λ q. let x = sym k ∙ q in heads_lowered ws ms passed long (get_or ws 0 0) s on ok d m.heads.now m'.heads.now (h.heads x) (subst (λ i. Tallied (entry (view ws ms) i).clause.head m'.heads.now m.heads.now) e (f x));
+    reached = λ q. let w = g q in subst (Reached ws (marks_after ws ms s)) (sym r) (reached_idle ws ms passed long (get_or ws 0 0) s ok d w.0 m.reached.now (h.reached (sym w.1 ∙ q)));
+  }

@@ -12,13 +12,14 @@ use lib.ListN.{length, get_or, set, take}
 use lib.Seq.{get_or-set_same, get_or-set_other}
 use borrow.Author.Tests.{eq-eqb, ne_eqb, ltb-true}
 use Rattle.semantics.specs.Lists.{◌∈◌, count, mem, ascending}
-use Rattle.semantics.proofs.Tests.{and_iff, not_iff, all_iff, mem_iff, so_by, so_false, so_ext, count_none}
+use Rattle.semantics.proofs.Tests.{and_iff, not_iff, all_iff, mem_iff, so_by, so_false, so_ext, count_none, count_bound}
 use Rattle.rewriting.specs.Marked.{entry, left}
 use Rattle.rewriting.specs.Reach.{closed}
 use Rattle.rewriting.proofs.Left.{closed_left, kept_lt}
 use Rattle.rewriting.proofs.Reach.{closed_iff}
 use Rattle.table.specs.Questions.{Passed}
 use Rattle.table.specs.View.{view}
+use Rattle.table.proofs.Encoding.{passed_limits}
 use Rattle.table.proofs.View.{length_view}
 use Rattle.table.proofs.Parts.{view_straight}
 use Rattle.step_parts.specs.Parts.{Stands, owner_at, Latest}
@@ -26,8 +27,8 @@ use Rattle.step_parts.specs.declared.Part.TheVariants.{Pos}
 use Rattle.step_parts.proofs.Walk.{latest_less, latest_above}
 use Rattle.step_parts.proofs.Index.{stands_in, stands_clause, stands_small, stands_kept, kept_stands, stands_once}
 use Rattle.step_reach.specs.Bytes.{in_bytes}
-use Rattle.step_reach.specs.Counts.{Queued, Joined, QueueSpread, lacks, Fired, Rest, CountRoom, Due, Lowered, ReachSettled, WithSettled}
-use Rattle.step_reach.proofs.Queue.{take_more, take_sub, queued_few, queued_at, spread_none}
+use Rattle.step_reach.specs.Counts.{Queued, Joined, QueueSpread, lacks, Fired, Rest, Due, Lowered, ReachSettled, WithSettled}
+use Rattle.step_reach.proofs.Queue.{queued_same, take_more, take_sub, queued_few, queued_at}
 
 -- ---- how many pass a test
 
@@ -79,6 +80,24 @@ module _ (q : List ℕ) (k : ℕ) (h : k < length q) (b : ℕ) (e : b ≡ get_or
       (ap not ((mem_iff b (take (k + 1) q)).1 ((take_more q k b h).1 (inr e))))
       others
 
+-- distinct atoms from `low` on and below n are few
+few_from : (l : List ℕ) (low n : ℕ) → low ≤ n → So (ascending l) → ((a : ℕ) → a ∈ l → (low ≤ a) × (a < n)) → low + length l ≤ n
+unfolding ascending
+few_from [] low n h s f = omega arith
+few_from (x ∷ l) low n h s f =
+    let w = (and_iff _ _).0 s in
+    let (u, v) = f x (Memᴰ.head refl) in
+    let r = few_from l (x + 1) n (omega arith) w.1 (λ a m. (let k = ltb-true x a ((all_iff (λ y. ltb x y) l).0 w.0 a m) in omega arith, (f a (Memᴰ.tail m)).1)) in
+    omega arith
+
+-- a clause has few positive atoms
+pub few_pos : (ws ms : List ℕ) (t : ℕ) → Passed ws → length (entry (view ws ms) t).clause.pos ≤ 1024
+few_pos ws ms t p = let s = view_straight ws ms p t in omega (arith, few_from (entry (view ws ms) t).clause.pos 0 (get_or ws 0 0) (omega arith) s.pos (λ a m. (omega arith, s.pos_below a m)), (passed_limits ws p).few_atoms)
+
+-- a count is small
+pub lacks_few : (ws ms taken : List ℕ) (t : ℕ) → Passed ws → lacks ws ms taken t ≤ 1024
+lacks_few ws ms taken t p = omega (arith, few_pos ws ms t p, count_bound (λ a. not (mem a taken)) (entry (view ws ms) t).clause.pos)
+
 -- ---- a clause is counted
 
 pub none_left : (l : List ℕ) (c : ℕ) → c ≡ length l → c ≡ 0 → (a : ℕ) → ¬ (a ∈ l)
@@ -104,12 +123,6 @@ rest_enter ws ms t c missing l e r g f = record {
 -- ---- an atom is counted off at a place
 
 module _ (ws ms s missing q : List ℕ) (top t i : ℕ) where
-  pub lowered_past : Queued s q top → (get_or ms i 0 ≡ 1 → ⊥) → Lowered ws ms s missing q top t i s missing q top
-  lowered_past z n = record { spread = spread_none (view ws ms) s q top z; counts = rw (ne_eqb (get_or ms i 0) 1 n); fired = λ e. absurd (n e) }
-
-  pub due_left : Due ws ms s missing t i → get_or ms i 0 ≡ 1 → (u : ℕ) → u ≡ t → get_or missing u 0 - 1 ≡ 0 → (a : ℕ) → a ∈ (entry (view ws ms) u).clause.pos → So (in_bytes s a)
-  due_left d e u h z a m = d.last e (let w = d.some e in let v = rw h at z in omega arith) a (rw h at m)
-
   pub lowered_here : get_or ms i 0 ≡ 1 → t < length missing → (u : ℕ) → u ≡ t → {s' q' : List ℕ} {top' : ℕ} → QueueSpread (view ws ms) s q top s' q' top' → Fired s' (entry (view ws ms) u) (get_or missing u 0 - 1)
       → Lowered ws ms s missing q top t i s' (set missing u (get_or missing u 0 - 1)) q' top'
   lowered_here e l u h g f = record {
@@ -117,9 +130,6 @@ module _ (ws ms s missing q : List ℕ) (top t i : ℕ) where
     counts = rw (eq-eqb (get_or ms i 0) 1 e, h);
     fired = λ _. rw (h, get_or-set_same missing t (get_or missing t 0 - 1) 0 l) (rw h at f);
   }
-
-pub room_same : {ws s missing s' missing' : List ℕ} → CountRoom ws s missing → length s' ≡ length s → length missing' ≡ length missing → CountRoom ws s' missing'
-room_same r e d = record { bytes = omega (arith, r.bytes); counts = omega (arith, r.counts) }
 
 -- ---- an atom is counted off, place by place
 
@@ -130,13 +140,16 @@ pub record CountingOff (ws ms : List ℕ) (b : ℕ) (taken : List ℕ) (i : ℕ)
   pub heads : (t : ℕ) → t < get_or ws 1 0 → Fired s (entry (view ws ms) t) (get_or missing t 0)
   pub inside : (a : ℕ) → a ∈ taken → So (in_bytes s a)
 
+pub counting_as : {ws ms : List ℕ} {b : ℕ} {taken : List ℕ} {i j : ℕ} {s missing : List ℕ} → i ≡ j → CountingOff ws ms b taken i s missing → CountingOff ws ms b taken j s missing
+counting_as {ws} {ms} {b} {taken} {s = s} {missing = missing} e w = subst (λ k. CountingOff ws ms b taken k s missing) e w
+
 pub walk_start : (ws ms index : List ℕ) (k : ℕ) {s q missing : List ℕ} {top i : ℕ} → Passed ws → k < top → Rest ws ms (get_or ws 1 0) k s missing q top
     → Latest ws index Pos (get_or q k 0) (length ws) i → CountingOff ws ms (get_or q k 0) (take (k + 1) q) i s missing
 walk_start ws ms index k {s} {q} {missing} {top} {i} p h r w = record {
   late = λ t j st e l. r.exact t st.clause ∙ lacks_less q k fits (get_or q k 0) refl (entry (view ws ms) t).clause.pos (view_straight ws ms p t).pos (stands_kept ms st e) (r.queued.once k h);
   done = λ t l f. r.exact t l ∙ lacks_same q k fits (get_or q k 0) refl (entry (view ws ms) t).clause.pos (λ m. let (j, st, e) = kept_stands ws ms Pos (get_or q k 0) t l m in w.none t j st (f j st e) (stands_small p st).1);
   heads = r.heads;
-  inside = λ a m. (r.queued.same a).1 (⊎_elim (λ v. take_sub k top q (omega arith) v) (λ e. subst (λ x. x ∈ take top q) (sym e) (queued_at k r.queued h)) ((take_more q k a fits).0 m));
+  inside = λ a m. (queued_same r.queued a).1 (⊎_elim (λ v. take_sub k top q (omega arith) v) (λ e. subst (λ x. x ∈ take top q) (sym e) (queued_at k r.queued h)) ((take_more q k a fits).0 m));
 }
   where
     fits : k < length q
@@ -200,7 +213,7 @@ walk_end ws ms k b i q h w e g = record {
 pub rest_closed : (ws ms : List ℕ) (k : ℕ) {s missing q : List ℕ} {top : ℕ} → Rest ws ms (get_or ws 1 0) k s missing q top → top ≤ k → So (closed (in_bytes s) (left (view ws ms)))
 rest_closed ws ms k {s} {missing} {q} {top} r h = (closed_iff (in_bytes s) (left (view ws ms))).1 ((closed_left (in_bytes s) (view ws ms)).1 (λ t e p.
     let l : t < get_or ws 1 0 = omega (arith, kept_lt (view ws ms) t e, length_view ws ms) in
-    r.heads t l e (r.exact t l ∙ (lacks_none (take k q) (entry (view ws ms) t).clause.pos).1 (λ a m. take_sub top k q h ((r.queued.same a).0 (p a m))))))
+    r.heads t l e (r.exact t l ∙ (lacks_none (take k q) (entry (view ws ms) t).clause.pos).1 (λ a m. take_sub top k q h ((queued_same r.queued a).0 (p a m))))))
 
 pub settled_closed : (ws ms : List ℕ) {s missing q : List ℕ} {top : ℕ} → ReachSettled ws ms s missing q top → So (closed (in_bytes s) (left (view ws ms)))
 settled_closed ws ms {top = top} z = rest_closed ws ms top z.rest (omega arith)

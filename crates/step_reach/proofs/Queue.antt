@@ -1,36 +1,34 @@
 -- The set as bytes and the queue of its atoms: an atom joins, the atoms of a part join, the head of a clause joins.
 use mathlib.Core.Path.{◌≡◌, refl, sym, ap, subst, ◌∙◌}
 use mathlib.Core.Logic.{◌↔◌, ◌⊎◌, inl, inr, ⊎_elim, by_cases}
-use mathlib.Core.Bool.{false, So, false≢true}
+use mathlib.Core.Bool.{So}
 use mathlib.Core.List.Memᴰ
-use mathlib.Core.List.{List, [], ◌∷◌, ◌++◌}
+use mathlib.Core.List.{List, [], ◌∷◌, ◌++◌, append_assoc, append-nil}
 use Prim.Native.Nat.{ℕ, zero, suc, ◌+◌, ◌-◌, ◌≤◌, ◌<◌}
 use native.Mathlib.Omega.{arith}
 use native.Mathlib.Decide.{ℕ_discrete, dec_lt}
 use native.Mathlib.Numerals.{add-one}
 use lib.Dec.{eqb}
-use lib.ListN.{length, get_or, set, take, drop, replicate, length-set, length-take, length-drop}
-use lib.Seq.{get_or-set_same, get_or-set_other, get_or-take, get_or-drop, take-suc, take-set-le, take-set-lt}
+use lib.ListN.{length, get_or, set, take, replicate, length-set, length-take}
+use lib.Seq.{get_or-set_same, get_or-set_other, get_or-take, take-suc, take-set-le, take-set-lt}
 use borrow.Author.Tests.{eqb-true, eq-eqb, ne_eqb}
-use Rattle.semantics.specs.Lists.{◌∈◌}
+use Rattle.semantics.specs.Lists.{◌∈◌, mem}
 use Rattle.semantics.specs.Programs.{Subset}
-use Rattle.semantics.proofs.Tests.{count_bound}
+use Rattle.semantics.proofs.Tests.{mem_iff, so_ext, not_so, count_bound}
 use Rattle.rewriting.specs.Marked.{Marked, entry, left}
 use Rattle.rewriting.proofs.Left.{closed_left}
 use Rattle.rewriting.proofs.Reach.{closed_iff}
 use Rattle.table.specs.Questions.{Passed}
-use Rattle.table.specs.Slices.{kept_of}
+use Rattle.table.specs.View.{view}
 use Rattle.table.proofs.Encoding.{passed_limits}
-use Rattle.table.proofs.Places.{passed_good}
 use Rattle.table.proofs.View.{count_set}
-use Rattle.step_parts.specs.Parts.{Spanned, Stands}
+use Rattle.step_parts.specs.Parts.{part_of}
 use Rattle.step_parts.specs.declared.Part.{Part}
-use Rattle.step_parts.specs.declared.Bounds.{Bounds}
-use Rattle.step_parts.proofs.Laws.{kept_place, place_kept, part_words}
-use Rattle.step_parts.proofs.Index.{stands_in}
+use Rattle.step_parts.specs.declared.Part.TheVariants.{Head, Pos, Neg}
+use Rattle.table.proofs.Parts.{view_straight}
 use Rattle.step_reach.specs.Bytes.{in_bytes}
-use Rattle.step_reach.specs.Counts.{ones, Queued, Joined, QueueSpread, Fired}
-use Rattle.step_reach.proofs.Laws.{grown_none, grown_trans, none_in}
+use Rattle.step_reach.specs.Counts.{ones, Queued, Joined, QueueSpread}
+use Rattle.step_reach.proofs.Laws.{grown_none, grown_trans, none_in, is_out}
 
 -- ---- the queue
 
@@ -56,6 +54,14 @@ take_sub (suc j) (suc n) [] h m = m
 take_sub (suc j) (suc n) (x ∷ q) h (Memᴰ.head e) = Memᴰ.head e
 take_sub (suc j) (suc n) (x ∷ q) h (Memᴰ.tail m) = Memᴰ.tail (take_sub j n q (omega arith) m)
 
+-- the set has the atoms of the queue
+pub queued_same : {s q : List ℕ} {top : ℕ} → Queued s q top → (a : ℕ) → So (in_bytes s a) ↔ (a ∈ take top q)
+queued_same {s} {q} {top} z a = (λ m. (mem_iff a (take top q)).0 (sym (z.same a) ∙ m), λ m. z.same a ∙ (mem_iff a (take top q)).1 m)
+
+-- bytes and a queue of the same atoms
+same_by : (s l : List ℕ) (a : ℕ) → (So (in_bytes s a) → a ∈ l) → (a ∈ l → So (in_bytes s a)) → in_bytes s a ≡ mem a l
+same_by s l a f g = so_ext (in_bytes s a) (mem a l) (λ m. (mem_iff a l).1 (f m)) (λ m. g ((mem_iff a l).0 m))
+
 ones_few : (s : List ℕ) → ones (take 1024 s) ≤ 1024
 ones_few s = let l : length (take 1024 s) ≤ 1024 = simp length-take (omega arith) in omega (arith, count_bound (λ x. eqb x 1) (take 1024 s))
 
@@ -73,7 +79,7 @@ queued_at {s} {q} {top} k z h = go top h (omega (arith, queued_few z, z.room))
 -- nothing has joined yet
 pub queued_none : (k : ℕ) (s q : List ℕ) → s ≡ replicate k 0 → 1024 ≤ length q → Queued s q 0
 queued_none k s q e h = subst (λ s. Queued s q 0) (sym e) (record {
-  same = λ a. (λ m. absurd (none_in k a m), λ m. absurd (Memᴰ.not-nil m));
+  same = λ a. same_by (replicate k 0) [] a (λ m. absurd (none_in k a m)) (λ m. absurd (Memᴰ.not-nil m));
   once = λ j l. absurd (omega arith);
   below = λ a m. absurd (Memᴰ.not-nil m);
   size = sym (zeros 1024 k);
@@ -127,68 +133,119 @@ module _ (s q : List ℕ) (top a : ℕ) (z : Queued s q top) (h : a < 1024) (l :
       longer = omega arith;
       before = λ j g. take-set-le j q top a g;
       queued = record {
-        same = λ b. (
-          λ m. (more_at b).1 (by_cases (ℕ_discrete b a) (λ e. inr e) (λ e. inl ((z.same b).0 (old b e m)))),
-          λ m. ⊎_elim (λ w. stays b ((z.same b).1 w)) (λ e. new b e) ((more_at b).0 m),
-        );
+        same = λ b. same_by _ _ b
+            (λ m. (more_at b).1 (by_cases (ℕ_discrete b a) (λ e. inr e) (λ e. inl ((queued_same z b).0 (old b e m)))))
+            (λ m. ⊎_elim (λ w. stays b ((queued_same z b).1 w)) (λ e. new b e) ((more_at b).0 m));
         once = λ j g. by_cases (dec_lt j top)
             (λ k m. z.once j k (rw (get_or-set_other q top j a 0 (λ e. omega arith), take-set-le j q top a (omega arith)) at m))
-            (λ k. let e : j ≡ top = omega arith in rw (e, here, take-set-le top q top a (omega arith)) (λ m. n (eqb-true _ _ ((z.same a).1 m))));
+            (λ k. let e : j ≡ top = omega arith in rw (e, here, take-set-le top q top a (omega arith)) (λ m. n (eqb-true _ _ ((queued_same z a).1 m))));
         below = λ b m. ⊎_elim (λ w. z.below b w) (λ e. rw e h) ((more_at b).0 m);
         size = sym size_more;
         room = rw (length-set q top a) z.room;
       };
     }
 
+-- ---- an atom leaves the queue and the sets
+
+-- an atom whose byte is cleared is not in the set, and the others are as they were
+pub left_out : (s : List ℕ) (b a : ℕ) → b < length s → a ≡ b → ¬ So (in_bytes (set s b 0) a)
+left_out s b a l e = not_so (rw (e, get_or-set_same s b 0 0 l))
+
+pub others_in : (s : List ℕ) (b a : ℕ) → (a ≡ b → ⊥) → in_bytes (set s b 0) a ≡ in_bytes s a
+others_in s b a n = ap (λ x. eqb x 1) (get_or-set_other s b a 0 0 n)
+
+-- the last atom's place is one less than their number
+pub last_one : {s q : List ℕ} {top : ℕ} → 0 < top → Queued s q top → Queued s q (top - 1 + 1)
+last_one {s} {q} {top} h z = subst (Queued s q) (let e : top ≡ top - 1 + 1 = omega arith in e) z
+
+-- the last atom of the queue
+module _ (s q : List ℕ) (k : ℕ) (z : Queued s q (k + 1)) where
+  abbrev a : ℕ
+  a = get_or q k 0
+
+  there : k < length q
+  there = omega (arith, queued_few z, z.room)
+
+  pub queued_below : a < 1024
+  queued_below = z.below a (queued_at k z (omega arith))
+
+  once : ¬ (a ∈ take k q)
+  once = z.once k (omega arith)
+
+  was_in : So (in_bytes s a)
+  was_in = (queued_same z a).1 (queued_at k z (omega arith))
+
+  -- it has a byte
+  pub queued_byte : a < length s
+  queued_byte = by_cases (dec_lt a (length s)) (λ l. l) (λ l. absurd (not_so (is_out s a (omega arith)) was_in))
+
+  size_less : k ≡ ones (take 1024 (set s a 0))
+  size_less =
+      let l : a < length (take 1024 s) = simp length-take (omega (arith, queued_byte, queued_below)) in
+      let e = rw (get_or-take 1024 s a 0 queued_below, was_in) at (count_set (λ x. eqb x 1) (take 1024 s) a 0 l) in
+      omega (arith, e, z.size, ap ones (take-set-lt 1024 s a 0 queued_below))
+
+  -- without it
+  pub queued_less : Queued (set s a 0) q k
+  queued_less = record {
+    same = λ c. same_by _ _ c
+        (λ m. by_cases (ℕ_discrete c a)
+        (λ e. absurd (left_out s a c queued_byte e m))
+        (λ e. ⊎_elim (λ w. w) (λ d. absurd (e d)) ((take_more q k c there).0 ((queued_same z c).0 (sym (others_in s a c e) ∙ m)))))
+        (λ m. others_in s a c (λ e. once (subst (λ x. x ∈ take k q) e m)) ∙ (queued_same z c).1 (take_sub k (k + 1) q (omega arith) m));
+    once = λ j l. z.once j (omega arith);
+    below = λ c m. z.below c (take_sub k (k + 1) q (omega arith) m);
+    size = size_less;
+    room = z.room;
+  }
+
 -- ---- the atoms of a part join
 
--- the kept atoms among the first i of a part
-abbrev pub Among : List ℕ → List ℕ → ℕ → ℕ → Type 0
-Among part marks i a = (j : ℕ) × (j < i) × (get_or marks j 0 ≡ 1) × (get_or part j 0 ≡ a)
-
-pub joined_none : (part marks s q : List ℕ) (top : ℕ) → Queued s q top → Joined (Among part marks 0) s q top s q top
-joined_none part marks s q top z = record { holds = λ a x. absurd (omega (arith, x.1)); only = λ T k f. k; more = λ b k. k; long = refl; longer = omega arith; before = λ j g. refl; queued = z }
+joined_none : (s q : List ℕ) (top : ℕ) → Queued s q top → Joined (λ a. a ∈ []) s q top s q top
+joined_none s q top z = record { holds = λ a m. absurd (Memᴰ.not-nil m); only = λ T k f. k; more = λ b k. k; long = refl; longer = omega arith; before = λ j g. refl; queued = z }
 
 joined_as : {X Y : ℕ → Type 0} {s q s' q' : List ℕ} {k k' : ℕ} → ((a : ℕ) → X a → Y a) → ((a : ℕ) → Y a → X a) → Joined X s q k s' q' k' → Joined Y s q k s' q' k'
 joined_as f g j = record { holds = λ a y. j.holds a (g a y); only = λ T h t. j.only T h (λ a x. t a (f a x)); more = j.more; long = j.long; longer = j.longer; before = j.before; queued = j.queued }
 
-module _ (part marks : List ℕ) (i : ℕ) {s q s' q' : List ℕ} {k k' : ℕ} (j : Joined (Among part marks i) s q k s' q' k') where
-  later : (a : ℕ) → Among part marks i a → Among part marks (i + 1) a
-  later a x = (x.0, omega (arith, x.1), x.2, x.3)
+-- The atoms of l have joined, but for those of the rest, which ends it.
+pub record Joining (l rest s q : List ℕ) (k : ℕ) (s' q' : List ℕ) (k' : ℕ) : Type 0 where
+  pub first : List ℕ
+  pub all : l ≡ first ++ rest
+  pub joined : Joined (λ a. a ∈ first) s q k s' q' k'
 
-  pub joined_past : (get_or marks i 0 ≡ 1 → ⊥) → Joined (Among part marks (i + 1)) s q k s' q' k'
-  joined_past n = joined_as later (λ a x. (x.0, by_cases (ℕ_discrete x.0 i) (λ e. absurd (n (subst (λ u. get_or marks u 0 ≡ 1) e x.2))) (λ e. omega (arith, x.1)), x.2, x.3)) j
+pub joining_none : (l rest s q : List ℕ) (k : ℕ) → l ≡ rest → Queued s q k → Joining l rest s q k s q k
+joining_none l rest s q k e z = record { first = []; all = e; joined = joined_none s q k z }
 
-  pub joined_on : {s'' q'' : List ℕ} {k'' : ℕ} → get_or marks i 0 ≡ 1 → Joined (λ a. a ≡ get_or part i 0) s' q' k' s'' q'' k'' → Joined (Among part marks (i + 1)) s q k s'' q'' k''
-  joined_on e g = record {
-    holds = λ a x. by_cases (ℕ_discrete x.0 i) (λ d. g.holds a (sym x.3 ∙ ap (λ u. get_or part u 0) d)) (λ d. g.more a (j.holds a (x.0, omega (arith, x.1), x.2, x.3)));
-    only = λ T h t. g.only T (j.only T h (λ a x. t a (later a x))) (λ a x. t a (i, omega arith, e, sym x));
-    more = λ a m. g.more a (j.more a m);
-    long = g.long ∙ j.long;
-    longer = omega (arith, g.longer, j.longer);
-    before = λ u h. g.before u (omega (arith, j.longer)) ∙ j.before u h;
-    queued = g.queued;
+module _ {l rest s q s' q' : List ℕ} {k k' : ℕ} (j : Joining l rest s q k s' q' k') where
+  pub joining_next : {x : ℕ} {more : List ℕ} → rest ≡ x ∷ more → x ∈ l
+  joining_next {x} {more} e = subst (λ l. x ∈ l) (sym (j.all ∙ ap (λ r. j.first ++ r) e)) (Memᴰ.append_right j.first (Memᴰ.head refl))
+
+  pub joining_on : {x : ℕ} {more s'' q'' : List ℕ} {k'' : ℕ} → rest ≡ x ∷ more → Joined (λ a. a ≡ x) s' q' k' s'' q'' k'' → Joining l more s q k s'' q'' k''
+  joining_on {x} {more} e g = record {
+    first = j.first ++ (x ∷ []);
+    all = j.all ∙ ap (λ r. j.first ++ r) e ∙ sym (append_assoc j.first (x ∷ []) more);
+    joined = record {
+      holds = λ a m. ⊎_elim (λ w. g.more a (j.joined.holds a w)) (λ w. g.holds a (Memᴰ.eq_of_singleton w)) (Memᴰ.append_cases j.first m);
+      only = λ T h t. g.only T (j.joined.only T h (λ a m. t a (Memᴰ.append_left (x ∷ []) m))) (λ a d. t a (Memᴰ.append_right j.first (Memᴰ.head d)));
+      more = λ a m. g.more a (j.joined.more a m);
+      long = g.long ∙ j.joined.long;
+      longer = omega (arith, g.longer, j.joined.longer);
+      before = λ u h. g.before u (omega (arith, j.joined.longer)) ∙ j.joined.before u h;
+      queued = g.queued;
+    };
   }
 
-  pub joined_end : length part ≤ length marks → i ≡ length part → Joined (λ a. a ∈ kept_of part marks) s q k s' q' k'
-  joined_end l e = joined_as (λ a x. subst (λ b. b ∈ kept_of part marks) x.3 (place_kept part marks x.0 (omega (arith, x.1)) l x.2)) (λ a m. let w = kept_place part marks a m in (w.0, omega (arith, w.1), w.3, w.2)) j
+  pub joining_end : rest ≡ [] → (l' : List ℕ) → l ≡ l' → Joined (λ a. a ∈ l') s q k s' q' k'
+  joining_end e l' d = let same : j.first ≡ l' = sym (j.all ∙ ap (λ r. j.first ++ r) e ∙ append-nil j.first) ∙ d in joined_as (λ a m. subst (λ l. a ∈ l) same m) (λ a m. subst (λ l. a ∈ l) (sym same) m) j.joined
 
-pub joined_of : {l l' s q s' q' : List ℕ} {k k' : ℕ} → l' ≡ l → Joined (λ a. a ∈ l) s q k s' q' k' → Joined (λ a. a ∈ l') s q k s' q' k'
-joined_of e j = joined_as (λ a m. subst (λ l. a ∈ l) (sym e) m) (λ a m. subst (λ l. a ∈ l) e m) j
-
--- a part's atoms have bytes, and there are few of them
-module _ (ws : List ℕ) (t : ℕ) (x : Part) (b : Bounds) (p : Passed ws) (h : t < get_or ws 1 0) (r : Spanned ws t x b) where
-  pub part_small : (n : ℕ) → get_or ws 0 0 ≤ n → (i : ℕ) → i < length (part_words ws b) → (get_or (part_words ws b) i 0 < 1024) × (get_or (part_words ws b) i 0 < n)
-  part_small n f i l =
-      let k : i < b.end - b.from = omega (arith, simp (length-take, length-drop) at l) in
-      let e : get_or (part_words ws b) i 0 ≡ get_or ws (b.from + i) 0 = get_or-take (b.end - b.from) (drop b.from ws) i 0 k ∙ get_or-drop b.from ws i 0 in
-      let st : Stands ws x (get_or ws (b.from + i) 0) t (b.from + i) = record { clause = h; from = subst (λ b'. b'.from ≤ b.from + i) r.is (omega arith); to = subst (λ b'. b.from + i < b'.end) r.is (omega arith); atom = refl } in
-      let (u, v) = stands_in st in
-      let a = (passed_good ws p t h).below (b.from + i) u v in
-      (omega (arith, (passed_limits ws p).few_atoms), omega arith)
-
-  pub part_short : length (part_words ws b) ≤ 8192
-  part_short = simp (length-take, length-drop) (omega (arith, r.fits, (passed_limits ws p).short))
+-- the atoms of a part are few
+pub part_small : (ws ms : List ℕ) (t : ℕ) (x : Part) → Passed ws → (a : ℕ) → a ∈ part_of x (entry (view ws ms) t).clause → (a < get_or ws 0 0) × (a < 1024)
+part_small ws ms t x p a m = let w = below x m in (w, omega (arith, w, (passed_limits ws p).few_atoms))
+  where
+    below : (x : Part) → a ∈ part_of x (entry (view ws ms) t).clause → a < get_or ws 0 0
+    below Head m = (view_straight ws ms p t).head_below a m
+    below Pos m = (view_straight ws ms p t).pos_below a m
+    below Neg m = (view_straight ws ms p t).neg_below a m
 
 -- ---- the set and the queue grow
 
@@ -214,6 +271,3 @@ spread_head P t e p j = record {
   before = j.before;
   queued = j.queued;
 }
-
-pub fired_gone : (P : Marked) (t : ℕ) (s : List ℕ) (c : ℕ) → (entry P t).kept ≡ false → Fired s (entry P t) c
-fired_gone P t s c h k = absurd (false≢true (sym h ∙ k))

@@ -1,6 +1,6 @@
 -- The reach by counts and a queue: the atoms of the set in the order in which they joined, of which the first k are taken; and for each clause
 -- how many of its positive atoms are not among those.
-use Rattle.std.specs.Prelude.{◌≡◌, ◌↔◌, not, cond, List, ℕ, ◌-◌, ◌≤◌, ◌<◌, eqb, length, get_or, take, set}
+use Rattle.std.specs.Prelude.{◌≡◌, not, cond, List, ℕ, ◌-◌, ◌≤◌, ◌<◌, eqb, length, get_or, take, set}
 use Rattle.std.proofs.Math.Bool.{So}
 use Rattle.semantics.specs.Lists.{◌∈◌, mem, count}
 use Rattle.semantics.specs.Programs.{Atoms, Subset}
@@ -15,7 +15,7 @@ ones s = count (λ x. eqb x 1) s
 
 -- The first `top` words of the queue are the atoms of the set, each once, and all below 1,024.
 pub record Queued (s queue : List ℕ) (top : ℕ) : Type 0 where
-  pub same : (a : ℕ) → So (in_bytes s a) ↔ (a ∈ take top queue)
+  pub same : (a : ℕ) → in_bytes s a ≡ mem a (take top queue)
   pub once : (j : ℕ) → j < top → ¬ (get_or queue j 0 ∈ take j queue)
   pub below : (a : ℕ) → a ∈ take top queue → a < 1024
   pub size : top ≡ ones (take 1024 s)
@@ -53,11 +53,6 @@ pub record Rest (ws ms : List ℕ) (m k : ℕ) (s missing queue : List ℕ) (top
   pub taken : k ≤ top
   pub exact : (t : ℕ) → t < m → get_or missing t 0 ≡ lacks ws ms (take k queue) t
   pub heads : (t : ℕ) → t < m → Fired s (entry (view ws ms) t) (get_or missing t 0)
-
--- Room for a count of each clause, and a byte for each atom.
-pub record CountRoom (ws s missing : List ℕ) : Type 0 where
-  pub bytes : get_or ws 0 0 ≤ length s
-  pub counts : 2048 ≤ length missing
 
 -- Where place i is kept, a positive atom of clause t is still to be counted off; and the last one leaves none outside the set.
 pub record Due (ws ms s missing : List ℕ) (t i : ℕ) : Type 0 where

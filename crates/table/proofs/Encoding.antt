@@ -14,10 +14,9 @@ use borrow.Author.Tests.{le-leb, leb-true}
 use Rattle.semantics.specs.Lists.{◌∈◌}
 use Rattle.semantics.specs.Programs.{Clause, Program, program}
 use Rattle.semantics.proofs.Tests.{and_iff}
-use Rattle.table.specs.declared.Walk.{Walk}
-use Rattle.table.specs.declared.Walk.TheVariants.{To, Stop}
+use Rattle.table.specs.Questions.{Walk}
+use Rattle.std.specs.Prelude.{Ok, Err}
 use Rattle.table.specs.declared.Table.{Table}
-use Rattle.table.specs.declared.Checked.TheVariants.{Valid}
 use Rattle.table.specs.Questions.{on_walk, part_from, parts_from, clause_from, clauses_from, all_used, table_numbers, table_of, Passed}
 use Rattle.answers.specs.Answers.{ask}
 use Rattle.table.specs.Encoding.{clause_words, clauses_words, encode, OrderedClause, Within}
@@ -38,7 +37,7 @@ program_encode P = ap (program P.atoms) (clauses_stand (encode P) 2 P.clauses []
 -- ---- the words of a program within the limits pass
 
 pub clause_of_lem : (ws : List ℕ) (n at : ℕ) (c : Clause) (r : List ℕ) → drop at ws ≡ clause_words c ++ r → OrderedClause n c
-    → clause_from ws n at ≡ To (at + 3 + length c.head + length c.pos + length c.neg)
+    → clause_from ws n at ≡ Ok (at + 3 + length c.head + length c.pos + length c.neg)
 unfolding clause_from parts_from on_walk ask
 clause_of_lem ws n at c r e g =
     let s = stands ws at c r e in
@@ -54,7 +53,7 @@ clause_of_lem ws n at c r e g =
     (atoms_of (Word AtomBelow) (Word Ascending) ws c.neg _ n _ s.neg g.neg)
 
 clauses_of_lem : (ws : List ℕ) (n at : ℕ) (cs : List Clause) (r : List ℕ) → drop at ws ≡ clauses_words cs ++ r → ((c : Clause) → c ∈ cs → OrderedClause n c)
-    → (e : ℕ) × (clauses_from ws n (length cs) at ≡ To e) × (drop e ws ≡ r) × (e ≡ at + length (clauses_words cs))
+    → (e : ℕ) × (clauses_from ws n (length cs) at ≡ Ok e) × (drop e ws ≡ r) × (e ≡ at + length (clauses_words cs))
 unfolding clauses_from clauses_words on_walk
 clauses_of_lem ws n at [] r e g = (at, refl, e, sym (add-zero at))
 clauses_of_lem ws n at (c ∷ cs) r e g =
@@ -89,7 +88,7 @@ pub record Sound (ws : List ℕ) (n at : ℕ) : Type 0 where
   pub ordered : OrderedClause n (clause_of ws at)
   pub words : drop at ws ≡ clause_words (clause_of ws at) ++ drop (next_at ws at) ws
 
-pub clause_inv : (ws : List ℕ) (n at e : ℕ) → at ≤ length ws → clause_from ws n at ≡ To e → Sound ws n at × (e ≡ next_at ws at)
+pub clause_inv : (ws : List ℕ) (n at e : ℕ) → at ≤ length ws → clause_from ws n at ≡ Ok e → Sound ws n at × (e ≡ next_at ws at)
 unfolding clause_from parts_from
 clause_inv ws n at e in-range h =
     let (t1, h1) = ask_inv _ _ _ e h in
@@ -104,9 +103,9 @@ clause_inv ws n at e in-range h =
     let a : at + 3 + H - (at + 3) ≡ H = omega arith in
     let b : at + 3 + H + P - (at + 3 + H) ≡ P = omega arith in
     let d : at + 3 + H + P + Q - (at + 3 + H + P) ≡ Q = omega arith in
-    let (r1, q1) = atoms_inv (Word AtomBelow) (Word Ascending) ws n 0 (at + 3) H x1 (subst (λ k. part_from ws n 0 (at + 3) k ≡ To x1) a w1) (omega arith) in
-    let (r2, q2) = atoms_inv (Word AtomBelow) (Word Ascending) ws n 0 (at + 3 + H) P x2 (subst (λ k. part_from ws n 0 (at + 3 + H) k ≡ To x2) b w2) (omega arith) in
-    let (r3, q3) = atoms_inv (Word AtomBelow) (Word Ascending) ws n 0 (at + 3 + H + P) Q e (subst (λ k. part_from ws n 0 (at + 3 + H + P) k ≡ To e) d h4) (omega arith) in
+    let (r1, q1) = atoms_inv (Word AtomBelow) (Word Ascending) ws n 0 (at + 3) H x1 (subst (λ k. part_from ws n 0 (at + 3) k ≡ Ok x1) a w1) (omega arith) in
+    let (r2, q2) = atoms_inv (Word AtomBelow) (Word Ascending) ws n 0 (at + 3 + H) P x2 (subst (λ k. part_from ws n 0 (at + 3 + H) k ≡ Ok x2) b w2) (omega arith) in
+    let (r3, q3) = atoms_inv (Word AtomBelow) (Word Ascending) ws n 0 (at + 3 + H + P) Q e (subst (λ k. part_from ws n 0 (at + 3 + H + P) k ≡ Ok e) d h4) (omega arith) in
     let p1 = cut ws (at + 3) H in
     let p2 = cut ws (at + 3 + H) P in
     let p3 = cut ws (at + 3 + H + P) Q in
@@ -120,7 +119,7 @@ clause_inv ws n at e in-range h =
       q3,
     )
 
-pub clause_within : (ws : List ℕ) (n at e : ℕ) → at ≤ length ws → clause_from ws n at ≡ To e → e ≤ length ws
+pub clause_within : (ws : List ℕ) (n at e : ℕ) → at ≤ length ws → clause_from ws n at ≡ Ok e → e ≤ length ws
 clause_within ws n at e l h = let (s, q) = clause_inv ws n at e l h in omega (arith, s.fits)
 
 pub length_clauses_of : (ws : List ℕ) (m at : ℕ) → length (clauses_of ws m at) ≡ m
@@ -128,14 +127,14 @@ unfolding clauses_of
 length_clauses_of ws zero at = refl
 length_clauses_of ws (suc m) at = ap suc (length_clauses_of ws m (next_at ws at))
 
-clauses_inv : (ws : List ℕ) (n m at e : ℕ) → at ≤ length ws → clauses_from ws n m at ≡ To e
+clauses_inv : (ws : List ℕ) (n m at e : ℕ) → at ≤ length ws → clauses_from ws n m at ≡ Ok e
     → ((c : Clause) → c ∈ clauses_of ws m at → OrderedClause n c) × (drop at ws ≡ clauses_words (clauses_of ws m at) ++ drop e ws)
 unfolding clauses_from clauses_words clauses_of
 clauses_inv ws n zero at e l h = let q : at ≡ e = cc in (λ c m. absurd (mathlib.Core.List.Memᴰ.not-nil m), ap (λ i. drop i ws) q)
 clauses_inv ws n (suc m) at e l h =
     let (d, a, h1) = on_inv _ _ e h in
     let (g, q) = clause_inv ws n at d l a in
-    let (gs, ts) = clauses_inv ws n m (next_at ws at) e g.fits (subst (λ x. clauses_from ws n m x ≡ To e) q h1) in (
+    let (gs, ts) = clauses_inv ws n m (next_at ws at) e g.fits (subst (λ x. clauses_from ws n m x ≡ Ok e) q h1) in (
       each g.ordered gs,
       g.words ∙ ap (λ x. clause_words (clause_of ws at) ++ x) ts ∙ sym (append_assoc (clause_words (clause_of ws at)) (clauses_words (clauses_of ws m (next_at ws at))) (drop e ws)),
     )
@@ -144,10 +143,10 @@ clauses_inv ws n (suc m) at e l h =
     each g gs c (Memᴰ.head e) = rw e g
     each g gs c (Memᴰ.tail k) = gs c k
 
-used_inv : (ws : List ℕ) (w : Walk) (t : Table) → all_used ws w ≡ Valid t → (e : ℕ) × (w ≡ To e) × (length ws ≤ e) × (t ≡ table_numbers ws)
+used_inv : (ws : List ℕ) (w : Walk) (t : Table) → all_used ws w ≡ Ok t → (e : ℕ) × (w ≡ Ok e) × (length ws ≤ e) × (t ≡ table_numbers ws)
 unfolding all_used on_walk
-used_inv ws (To e) t h = let (a, h1) = ask_table_inv _ _ _ t h in (e, refl, leb-true (length ws) e a, cc)
-used_inv ws (Stop r) t h = let z : ◌≡◌ {A = ℕ} 0 1 = cc in absurd (omega arith)
+used_inv ws (Ok e) t h = let (a, h1) = ask_table_inv _ _ _ t h in (e, refl, leb-true (length ws) e a, cc)
+used_inv ws (Err r) t h = let z : ◌≡◌ {A = ℕ} 0 1 = cc in absurd (omega arith)
 
 -- what questions 1 to 3 and 8 say, and that the clauses pass
 pub record Limits (ws : List ℕ) : Type 0 where
@@ -156,10 +155,10 @@ pub record Limits (ws : List ℕ) : Type 0 where
   pub few_atoms : get_or ws 0 0 ≤ 1024
   pub few_clauses : get_or ws 1 0 ≤ 2048
   pub end : ℕ
-  pub clauses : clauses_from ws (get_or ws 0 0) (get_or ws 1 0) 2 ≡ To end
+  pub clauses : clauses_from ws (get_or ws 0 0) (get_or ws 1 0) 2 ≡ Ok end
   pub used : length ws ≤ end
 
-pub valid_inv : (ws : List ℕ) (t : Table) → table_of ws ≡ Valid t → Limits ws × (t ≡ table_numbers ws)
+pub valid_inv : (ws : List ℕ) (t : Table) → table_of ws ≡ Ok t → Limits ws × (t ≡ table_numbers ws)
 unfolding table_of
 valid_inv ws t h =
     let (s1, h1) = ask_table_inv _ _ _ t h in
@@ -170,8 +169,8 @@ valid_inv ws t h =
     (record { long = leb-true _ _ x; short = leb-true _ _ y; few_atoms = leb-true _ _ s2; few_clauses = leb-true _ _ s3; end = e; clauses = a; used = l }, q)
 
 -- A table that the check takes has passed.
-pub valid_passed : (ws : List ℕ) (t : Table) → table_of ws ≡ Valid t → Passed ws × (t ≡ table_numbers ws)
-valid_passed ws t h = let q = (valid_inv ws t h).1 in (record { valid = h ∙ ap Valid q }, q)
+pub valid_passed : (ws : List ℕ) (t : Table) → table_of ws ≡ Ok t → Passed ws × (t ≡ table_numbers ws)
+valid_passed ws t h = let q = (valid_inv ws t h).1 in (record { valid = h ∙ ap Ok q }, q)
 
 pub passed_limits : (ws : List ℕ) → Passed ws → Limits ws
 passed_limits ws p = (valid_inv ws (table_numbers ws) p.valid).0

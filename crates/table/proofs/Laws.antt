@@ -4,14 +4,12 @@ use mathlib.Core.Path.{◌≡◌, refl}
 use mathlib.Core.Bool.{Bool, true, false}
 use native.Mathlib.Omega.{arith}
 use Rattle.answers.specs.declared.Refusal.{Refusal}
-use Rattle.table.specs.declared.Walk.{Walk}
-use Rattle.table.specs.declared.Walk.TheVariants.{To, Stop}
+use Rattle.table.specs.Questions.{Walk}
+use Rattle.std.specs.Prelude.{Ok, Err}
 use Rattle.table.specs.declared.Table.{Table}
-use Rattle.table.specs.declared.Checked.{Checked}
-use Rattle.table.specs.declared.Checked.TheVariants.{Valid, Refused}
+use Rattle.table.specs.Questions.{Checked}
 use Rattle.answers.specs.Answers.{ask}
-use Rattle.answers.specs.declared.Answer.{Answer}
-use Rattle.answers.specs.declared.Answer.TheVariants as answer
+use Rattle.answers.specs.Answers.{Answer}
 use Rattle.answers.proofs.Asked.{refused_taken}
 use Rattle.table.specs.Questions.{on_walk, on_table}
 
@@ -19,36 +17,36 @@ use Rattle.table.specs.Questions.{on_walk, on_table}
 pub one_left : (i e : ℕ) → i < e → e - i ≡ suc (e - (i + 1))
 one_left i e h = omega arith
 
-pub ask_inv : (t : Bool) (r : Refusal) (w : Walk) (e : ℕ) → ask Stop t r w ≡ To e → (t ≡ true) × (w ≡ To e)
+pub ask_inv : (t : Bool) (r : Refusal) (w : Walk) (e : ℕ) → ask Err t r w ≡ Ok e → (t ≡ true) × (w ≡ Ok e)
 unfolding ask
 ask_inv true r w e h = (refl, h)
 ask_inv false r w e h = let z : ◌≡◌ {A = ℕ} 0 1 = cc in absurd (omega arith)
 
-pub ask_table_inv : (t : Bool) (r : Refusal) (w : Checked) (v : Table) → ask Refused t r w ≡ Valid v → (t ≡ true) × (w ≡ Valid v)
+pub ask_table_inv : (t : Bool) (r : Refusal) (w : Checked) (v : Table) → ask Err t r w ≡ Ok v → (t ≡ true) × (w ≡ Ok v)
 unfolding ask
 ask_table_inv true r w e h = (refl, h)
 ask_table_inv false r w e h = let z : ◌≡◌ {A = ℕ} 0 1 = cc in absurd (omega arith)
 
-pub on_inv : (w : Walk) (f : ℕ → Walk) (e : ℕ) → on_walk Stop w f ≡ To e → (d : ℕ) × (w ≡ To d) × (f d ≡ To e)
+pub on_inv : (w : Walk) (f : ℕ → Walk) (e : ℕ) → on_walk Err w f ≡ Ok e → (d : ℕ) × (w ≡ Ok d) × (f d ≡ Ok e)
 unfolding on_walk
-on_inv (To d) f e h = (d, refl, h)
-on_inv (Stop r) f e h = let z : ◌≡◌ {A = ℕ} 0 1 = cc in absurd (omega arith)
+on_inv (Ok d) f e h = (d, refl, h)
+on_inv (Err r) f e h = let z : ◌≡◌ {A = ℕ} 0 1 = cc in absurd (omega arith)
 
 -- ---- a call that is taken
 
-pub walk_taken : (w : Walk) (f : ℕ → Answer) (k : ℕ) → on_walk answer.Refused w f ≡ answer.Accepted k → (e : ℕ) × (w ≡ To e) × (f e ≡ answer.Accepted k)
+pub walk_taken : (w : Walk) (f : ℕ → Answer) (k : ℕ) → on_walk Err w f ≡ Ok k → (e : ℕ) × (w ≡ Ok e) × (f e ≡ Ok k)
 unfolding on_walk
-walk_taken (To e) f k h = (e, refl, h)
-walk_taken (Stop r) f k h = absurd (refused_taken r k h)
+walk_taken (Ok e) f k h = (e, refl, h)
+walk_taken (Err r) f k h = absurd (refused_taken r k h)
 
-pub on_taken : (c : Checked) (a : Answer) (k : ℕ) → on_table answer.Refused c a ≡ answer.Accepted k → (t : Table) × (c ≡ Valid t) × (a ≡ answer.Accepted k)
+pub on_taken : (c : Checked) (a : Answer) (k : ℕ) → on_table Err c a ≡ Ok k → (t : Table) × (c ≡ Ok t) × (a ≡ Ok k)
 unfolding on_table
-on_taken (Valid t) a k h = (t, refl, h)
-on_taken (Refused r) a k h = absurd (refused_taken r k h)
+on_taken (Ok t) a k h = (t, refl, h)
+on_taken (Err r) a k h = absurd (refused_taken r k h)
 
 module _ {A B : Type 0} where
   -- a part of what is answered
   pub table_part : (g : A → B) (stop : Refusal → A) (c : Checked) (a : A) → g (on_table stop c a) ≡ on_table (λ r. g (stop r)) c (g a)
   unfolding on_table
-  table_part g stop (Valid t) a = refl
-  table_part g stop (Refused r) a = refl
+  table_part g stop (Ok t) a = refl
+  table_part g stop (Err r) a = refl

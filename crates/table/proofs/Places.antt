@@ -13,7 +13,7 @@ use lib.Seq.{get_or-take, get_or-drop}
 use borrow.Author.Tests.{ltb-true}
 use Rattle.semantics.specs.Lists.{◌∈◌, all, ascending}
 use Rattle.semantics.proofs.Tests.{and_iff, all_iff}
-use Rattle.table.specs.declared.Walk.TheVariants.{To}
+use Rattle.std.specs.Prelude.{Ok}
 use Rattle.table.specs.Questions.{clauses_from, Passed}
 use Rattle.table.specs.Encoding.{Ordered}
 use Rattle.table.specs.Places.{cut, head_at, pos_at, neg_at, next_at, start_from, start_of}
@@ -75,14 +75,14 @@ sound_good ws n at s =
 
 -- ---- clauses by their numbers
 
-clauses_sound : (ws : List ℕ) (n m at e t : ℕ) → at ≤ length ws → clauses_from ws n m at ≡ To e → t < m → Sound ws n (start_from ws at t)
+clauses_sound : (ws : List ℕ) (n m at e t : ℕ) → at ≤ length ws → clauses_from ws n m at ≡ Ok e → t < m → Sound ws n (start_from ws at t)
 unfolding clauses_from start_from
 clauses_sound ws n zero at e t l h k = absurd (omega arith)
 clauses_sound ws n (suc m) at e zero l h k = let (d, a, h1) = on_inv _ _ e h in (clause_inv ws n at d l a).0
 clauses_sound ws n (suc m) at e (suc t) l h k =
     let (d, a, h1) = on_inv _ _ e h in
     let (g, q) = clause_inv ws n at d l a in
-    clauses_sound ws n m (next_at ws at) e t g.fits (subst (λ x. clauses_from ws n m x ≡ To e) q h1) (omega arith)
+    clauses_sound ws n m (next_at ws at) e t g.fits (subst (λ x. clauses_from ws n m x ≡ Ok e) q h1) (omega arith)
 
 pub passed_sound : (ws : List ℕ) → Passed ws → (t : ℕ) → t < get_or ws 1 0 → Sound ws (get_or ws 0 0) (start_of ws t)
 passed_sound ws p t h = let l = passed_limits ws p in clauses_sound ws (get_or ws 0 0) (get_or ws 1 0) 2 l.end t l.long l.clauses h

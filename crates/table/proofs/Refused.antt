@@ -11,15 +11,13 @@ use Rattle.semantics.proofs.Tests.{and_iff}
 use Rattle.answers.specs.declared.WordQuestion.TheVariants.{AtomBelow, Ascending}
 use Rattle.answers.specs.declared.Refusal.{Refusal}
 use Rattle.answers.specs.declared.Refusal.TheVariants.{Word}
-use Rattle.table.specs.declared.Walk.{Walk}
-use Rattle.table.specs.declared.Walk.TheVariants.{To, Stop}
-use Rattle.table.specs.declared.Checked.{Checked}
-use Rattle.table.specs.declared.Checked.TheVariants.{Valid, Refused}
+use Rattle.table.specs.Questions.{Walk}
+use Rattle.std.specs.Prelude.{Ok, Err}
+use Rattle.table.specs.Questions.{Checked}
 use Rattle.answers.specs.Refusals.{refusal_number, refusal_place}
 use Rattle.table.specs.Questions.{on_walk, atoms_from, part_from, parts_from, clause_from, clauses_from, all_used, table_of, on_table, Passed}
 use Rattle.answers.specs.Answers.{ask, Small}
-use Rattle.answers.specs.declared.Answer.{Answer}
-use Rattle.answers.specs.declared.Answer.TheVariants as answer
+use Rattle.answers.specs.Answers.{Answer}
 use Rattle.table.proofs.Encoding.{valid_passed}
 
 -- ---- walks over words, whatever is said of a refusal
@@ -27,18 +25,18 @@ use Rattle.table.proofs.Encoding.{valid_passed}
 module _ (Q : Refusal → Type 0) (b : ℕ) where
   -- a walk comes to a place of at most b, or is refused as Q says
   abbrev pub Near : Walk → Type 0
-  Near (To e) = e ≤ b
-  Near (Stop r) = Q r
+  Near (Ok e) = e ≤ b
+  Near (Err r) = Q r
 
-  pub near_ask : (t : Bool) (r : Refusal) (w : Walk) → Q r → (t ≡ true → Near w) → Near (ask Stop t r w)
+  pub near_ask : (t : Bool) (r : Refusal) (w : Walk) → Q r → (t ≡ true → Near w) → Near (ask Err t r w)
   unfolding ask
   near_ask true r w h y = y refl
   near_ask false r w h y = h
 
-  near_on : (w : Walk) (f : ℕ → Walk) → Near w → ((e : ℕ) → e ≤ b → Near (f e)) → Near (on_walk Stop w f)
+  near_on : (w : Walk) (f : ℕ → Walk) → Near w → ((e : ℕ) → e ≤ b → Near (f e)) → Near (on_walk Err w f)
   unfolding on_walk
-  near_on (To e) f h k = k e h
-  near_on (Stop r) f h k = h
+  near_on (Ok e) f h k = k e h
+  near_on (Err r) f h k = h
 
   -- atoms asked one by one
   pub atoms_near : (below above : ℕ → Refusal) → ((i : ℕ) → i ≤ b → Q (below i)) → ((i : ℕ) → i ≤ b → Q (above i)) → (ws : List ℕ) (n low at k : ℕ) → at + k ≤ b → Near (atoms_from below above ws n low at k)
@@ -72,18 +70,18 @@ module _ (ws : List ℕ) where
   clauses_near n (suc m) at h = near_on _ _ _ _ (clause_near n at h) (λ e l. clauses_near n m e l)
 
   abbrev Checks : Checked → Type 0
-  Checks (Valid t) = Unit {0}
-  Checks (Refused r) = Among 8192 r
+  Checks (Ok t) = Unit {0}
+  Checks (Err r) = Among 8192 r
 
-  checks_ask : (t : Bool) (r : Refusal) (c : Checked) → Among 8192 r → (t ≡ true → Checks c) → Checks (ask Refused t r c)
+  checks_ask : (t : Bool) (r : Refusal) (c : Checked) → Among 8192 r → (t ≡ true → Checks c) → Checks (ask Err t r c)
   unfolding ask
   checks_ask true r c h y = y refl
   checks_ask false r c h y = h
 
   used_checks : (w : Walk) → length ws ≤ 8192 → Walks w → Checks (all_used ws w)
   unfolding all_used on_walk
-  used_checks (To e) l h = checks_ask _ _ _ (omega arith, omega arith) (λ _. tt)
-  used_checks (Stop r) l h = (h.0, omega (arith, h.1))
+  used_checks (Ok e) l h = checks_ask _ _ _ (omega arith, omega arith) (λ _. tt)
+  used_checks (Err r) l h = (h.0, omega (arith, h.1))
 
   table_checks : Checks (table_of ws)
   unfolding table_of
@@ -92,7 +90,7 @@ module _ (ws : List ℕ) where
       checks_ask _ _ _ (omega arith, omega arith) (λ _.
       checks_ask _ _ _ (omega arith, omega arith) (λ _. used_checks _ (leb-true (length ws) 8192 b) (clauses_near _ _ 2 (leb-true _ _ a)))))
 
-  pub table_refused : (r : Refusal) → table_of ws ≡ Refused r → (refusal_number r ≤ 8) × (refusal_place r ≤ 8192)
+  pub table_refused : (r : Refusal) → table_of ws ≡ Err r → (refusal_number r ≤ 8) × (refusal_place r ≤ 8192)
   table_refused r q = rw q at table_checks
 
 -- ---- values and places that leave room for a number
@@ -101,15 +99,15 @@ module _ (ws : List ℕ) where
 abbrev pub NearBy : ℕ → Walk → Type 0
 NearBy b w = Near (λ r. refusal_place r ≤ b) b w
 
-pub small_walk : (b : ℕ) → b ≤ 65536 → (w : Walk) (f : ℕ → Answer) → NearBy b w → ((e : ℕ) → Small (f e)) → Small (on_walk answer.Refused w f)
+pub small_walk : (b : ℕ) → b ≤ 65536 → (w : Walk) (f : ℕ → Answer) → NearBy b w → ((e : ℕ) → Small (f e)) → Small (on_walk Err w f)
 unfolding on_walk
-small_walk b l (To e) f h k = k e
-small_walk b l (Stop r) f h k = omega arith
+small_walk b l (Ok e) f h k = k e
+small_walk b l (Err r) f h k = omega arith
 
-pub small_table : (ws : List ℕ) (a : Answer) → (Passed ws → Small a) → Small (on_table answer.Refused (table_of ws) a)
+pub small_table : (ws : List ℕ) (a : Answer) → (Passed ws → Small a) → Small (on_table Err (table_of ws) a)
 unfolding on_table
 small_table ws a k = go (table_of ws) refl
   where
-    go : (c : Checked) → table_of ws ≡ c → Small (on_table answer.Refused c a)
-    go (Valid t) q = k (valid_passed ws t q).0
-    go (Refused r) q = omega (arith, (table_refused ws r q).1)
+    go : (c : Checked) → table_of ws ≡ c → Small (on_table Err c a)
+    go (Ok t) q = k (valid_passed ws t q).0
+    go (Err r) q = omega (arith, (table_refused ws r q).1)

@@ -14,7 +14,7 @@ use borrow.Author.Tests.{le-leb, leb-true, lt-ltb, ltb-true}
 use Rattle.semantics.specs.Lists.{◌∈◌, all, ascending}
 use Rattle.semantics.proofs.Tests.{and_iff, all_iff}
 use Rattle.answers.specs.declared.Refusal.{Refusal}
-use Rattle.table.specs.declared.Walk.TheVariants.{To}
+use Rattle.std.specs.Prelude.{Ok}
 use Rattle.table.specs.Questions.{atoms_from}
 use Rattle.answers.specs.Answers.{ask}
 use Rattle.table.specs.Encoding.{Ordered}
@@ -63,18 +63,18 @@ rising_iff n xs = (rising_to n 0 xs, λ o. rising_from n 0 xs o (λ a m. omega a
 -- ---- what is asked of its words, whatever the refusals
 
 module _ (below above : ℕ → Refusal) where
-  atoms_from_lem : (ws xs r : List ℕ) (n low at : ℕ) → drop at ws ≡ xs ++ r → Rising n low xs → atoms_from below above ws n low at (length xs) ≡ To (at + length xs)
+  atoms_from_lem : (ws xs r : List ℕ) (n low at : ℕ) → drop at ws ≡ xs ++ r → Rising n low xs → atoms_from below above ws n low at (length xs) ≡ Ok (at + length xs)
   unfolding atoms_from ask
-  atoms_from_lem ws [] r n low at e g = ap To (sym (add-zero at))
+  atoms_from_lem ws [] r n low at e g = ap Ok (sym (add-zero at))
   atoms_from_lem ws (x ∷ xs) r n low at e g =
       let v : get_or ws at 0 ≡ x = ap (λ i. get_or ws i 0) (sym (add-zero at)) ∙ word_at ws at 0 x (x ∷ xs ++ r) e refl in
       let m : at + 1 + length xs ≡ at + suc (length xs) = omega arith in
       rw (v, lt-ltb x n g.0, le-leb low x g.1, atoms_from_lem ws xs r n (x + 1) (at + 1) (past ws (x ∷ []) (xs ++ r) at e) g.2, m)
 
-  pub atoms_of : (ws xs r : List ℕ) (n at : ℕ) → drop at ws ≡ xs ++ r → Ordered n xs → atoms_from below above ws n 0 at (length xs) ≡ To (at + length xs)
+  pub atoms_of : (ws xs r : List ℕ) (n at : ℕ) → drop at ws ≡ xs ++ r → Ordered n xs → atoms_from below above ws n 0 at (length xs) ≡ Ok (at + length xs)
   atoms_of ws xs r n at e o = atoms_from_lem ws xs r n 0 at e ((rising_iff n xs).1 o)
 
-  pub atoms_inv : (ws : List ℕ) (n low at k e : ℕ) → atoms_from below above ws n low at k ≡ To e → at + k ≤ length ws → Rising n low (cut ws at k) × (e ≡ at + k)
+  pub atoms_inv : (ws : List ℕ) (n low at k e : ℕ) → atoms_from below above ws n low at k ≡ Ok e → at + k ≤ length ws → Rising n low (cut ws at k) × (e ≡ at + k)
   unfolding atoms_from
   atoms_inv ws n low at zero e h l = (tt, let q : at ≡ e = cc in omega arith)
   atoms_inv ws n low at (suc k) e h l =

@@ -9,7 +9,7 @@ use native.Mathlib.Nat.{sub-zero}
 use lib.ListN.{length, get_or}
 use Rattle.semantics.specs.Lists.{all}
 use Rattle.semantics.specs.Programs.{Clause}
-use Rattle.table.specs.declared.Walk.TheVariants.{To}
+use Rattle.std.specs.Prelude.{Ok}
 use Rattle.table.specs.Questions.{clauses_from, Passed}
 use Rattle.table.specs.Encoding.{OrderedClause}
 use Rattle.table.specs.Places.{next_at, start_from, start_of}
@@ -20,13 +20,13 @@ use Rattle.table.proofs.Places.{passed_sound, start_suc}
 
 -- ---- where a clause starts
 
-clauses_to : (ws : List ℕ) (n m at e : ℕ) → at ≤ length ws → clauses_from ws n m at ≡ To e → (e ≡ start_from ws at m) × (e ≤ length ws)
+clauses_to : (ws : List ℕ) (n m at e : ℕ) → at ≤ length ws → clauses_from ws n m at ≡ Ok e → (e ≡ start_from ws at m) × (e ≤ length ws)
 unfolding clauses_from start_from
 clauses_to ws n zero at e l h = let q : at ≡ e = cc in (sym q, omega arith)
 clauses_to ws n (suc m) at e l h =
     let (d, a, h1) = on_inv _ _ e h in
     let (g, q) = clause_inv ws n at d l a in
-    clauses_to ws n m (next_at ws at) e g.fits (subst (λ x. clauses_from ws n m x ≡ To e) q h1)
+    clauses_to ws n m (next_at ws at) e g.fits (subst (λ x. clauses_from ws n m x ≡ Ok e) q h1)
 
 -- the last clause of a table that passed ends with its last word
 pub passed_end : (ws : List ℕ) → Passed ws → start_of ws (get_or ws 1 0) ≡ length ws

@@ -11,7 +11,7 @@ pub fn head_of(words: &[u16], at: usize) -> &[u16]
     ensures { result.now ≡ (clause_of words.now at).head }
 {
     let a = at + 3;
-    let b = a + table::wide(words[at]);
+    let b = a + usize::from(words[at]);
     &words[a..b]
 }
 
@@ -20,8 +20,8 @@ pub fn pos_of(words: &[u16], at: usize) -> &[u16]
     requires { next_at words.now at ≤ length words.now }
     ensures { result.now ≡ (clause_of words.now at).pos }
 {
-    let a = at + 3 + table::wide(words[at]);
-    let b = a + table::wide(words[at + 1]);
+    let a = at + 3 + usize::from(words[at]);
+    let b = a + usize::from(words[at + 1]);
     &words[a..b]
 }
 
@@ -30,7 +30,7 @@ pub fn neg_of(words: &[u16], at: usize) -> &[u16]
     requires { next_at words.now at ≤ length words.now }
     ensures { result.now ≡ (clause_of words.now at).neg }
 {
-    let a = at + 3 + table::wide(words[at]) + table::wide(words[at + 1]);
-    let b = a + table::wide(words[at + 2]);
+    let a = at + 3 + usize::from(words[at]) + usize::from(words[at + 1]);
+    let b = a + usize::from(words[at + 2]);
     &words[a..b]
 }

@@ -5,57 +5,59 @@ ghost use Rattle.std.specs.Prelude.{◌≡◌, ◌-◌, ◌≤◌, length};
 ghost use Rattle.table.specs.Questions.{part_from, parts_from, clause_from, table_of};
 
 use answers::{CallQuestion, Refusal, WordQuestion};
-use table::{Checked, Table, Walk};
+use table::Table;
 
 // Questions 6 and 7 for the words from `at` up to `end`.
-pub fn check_part(words: &[u16], at: usize, end: usize, atoms: u16) -> Walk
+pub fn check_part(words: &[u16], at: usize, end: usize, atoms: u16) -> Result<usize, Refusal>
     requires { (at ≤ end) × (end ≤ length words.now) }
     ensures { result ≡ part_from words.now atoms 0 at (end - at) }
 {
+    // The place is what a refusal names, so the loop goes by it.
     let mut low: u16 = 0;
     for i in at..end {
         let w = words[i];
         if atoms <= w {
-            return Walk::Stop(Refusal::Word(WordQuestion::AtomBelow, i));
+            return Err(Refusal::Word(WordQuestion::AtomBelow, i));
         }
         if w < low {
-            return Walk::Stop(Refusal::Word(WordQuestion::Ascending, i));
+            return Err(Refusal::Word(WordQuestion::Ascending, i));
         }
         low = w + 1;
     }
-    Walk::To(end)
+    Ok(end)
 }
 
 // The three parts of a clause: the words from `a` to `b`, from `b` to `c` and from `c` to `d`.
-pub fn check_parts(words: &[u16], a: usize, b: usize, c: usize, d: usize, atoms: u16) -> Walk
+pub fn check_parts(
+    words: &[u16],
+    a: usize,
+    b: usize,
+    c: usize,
+    d: usize,
+    atoms: u16,
+) -> Result<usize, Refusal>
     requires { (a ≤ b) × ((b ≤ c) × ((c ≤ d) × (d ≤ length words.now))) }
     ensures { result ≡ parts_from words.now atoms a b c d }
 {
-    let head = check_part(words, a, b, atoms);
-    let Walk::To(_) = head else {
-        return head;
-    };
-    let pos = check_part(words, b, c, atoms);
-    let Walk::To(_) = pos else {
-        return pos;
-    };
+    check_part(words, a, b, atoms)?;
+    check_part(words, b, c, atoms)?;
     check_part(words, c, d, atoms)
 }
 
 // Questions 4 to 7 for the clause whose first word is at `at`.
-pub fn check_clause(words: &[u16], at: usize, atoms: u16) -> Walk
+pub fn check_clause(words: &[u16], at: usize, atoms: u16) -> Result<usize, Refusal>
     requires { at ≤ length words.now }
     ensures { result ≡ clause_from words.now atoms at }
 {
     let left = words.len() - at;
     if left < 3 {
-        return Walk::Stop(Refusal::Word(WordQuestion::CountsLeft, at));
+        return Err(Refusal::Word(WordQuestion::CountsLeft, at));
     }
-    let h = table::wide(words[at]);
-    let p = table::wide(words[at + 1]);
-    let q = table::wide(words[at + 2]);
+    let h = usize::from(words[at]);
+    let p = usize::from(words[at + 1]);
+    let q = usize::from(words[at + 2]);
     if left - 3 < h + p + q {
-        return Walk::Stop(Refusal::Word(WordQuestion::LiteralsLeft, at));
+        return Err(Refusal::Word(WordQuestion::LiteralsLeft, at));
     }
     let a = at + 3;
     let b = a + h;
@@ -64,37 +66,30 @@ pub fn check_clause(words: &[u16], at: usize, atoms: u16) -> Walk
 }
 
 // Questions 1 to 8.
-pub fn check_table(words: &[u16]) -> Checked
+pub fn check_table(words: &[u16]) -> Result<Table, Refusal>
     ensures { result ≡ table_of words.now }
 {
     let len = words.len();
     if len < 2 {
-        return Checked::Refused(Refusal::Call(CallQuestion::TableLength));
+        return Err(Refusal::Call(CallQuestion::TableLength));
     }
     if Table::MAX_WORDS < len {
-        return Checked::Refused(Refusal::Call(CallQuestion::TableLength));
+        return Err(Refusal::Call(CallQuestion::TableLength));
     }
     let atoms = words[0];
     if Table::MAX_ATOMS < atoms {
-        return Checked::Refused(Refusal::Word(WordQuestion::AtomLimit, 0));
+        return Err(Refusal::Word(WordQuestion::AtomLimit, 0));
     }
     let clauses = words[1];
     if Table::MAX_CLAUSES < clauses {
-        return Checked::Refused(Refusal::Word(WordQuestion::ClauseLimit, 1));
+        return Err(Refusal::Word(WordQuestion::ClauseLimit, 1));
     }
     let mut at: usize = 2;
     for k in 0..clauses {
-        match check_clause(words, at, atoms) {
-            Walk::To(next) => {
-                at = next;
-            }
-            Walk::Stop(r) => {
-                return Checked::Refused(r);
-            }
-        }
+        at = check_clause(words, at, atoms)?;
     }
     if at < len {
-        return Checked::Refused(Refusal::Word(WordQuestion::AllUsed, at));
+        return Err(Refusal::Word(WordQuestion::AllUsed, at));
     }
-    Checked::Valid(Table::new(atoms, clauses, len))
+    Ok(Table::new(atoms, clauses, len))
 }

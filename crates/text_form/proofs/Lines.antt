@@ -21,11 +21,9 @@ use Rattle.answers.specs.declared.Refusal.TheVariants.{Byte}
 use Rattle.table.specs.Encoding.{Ordered}
 use Rattle.table.specs.Places.{cut}
 use Rattle.table.proofs.Stands.{past}
-use Rattle.text_form.specs.declared.Span.{Span}
-use Rattle.text_form.specs.declared.Span.TheVariants.{Value, Missing}
 use Rattle.text_form.specs.Digits.{width, places, digits, others, commas}
 use Rattle.text_form.specs.Render.{line_text}
-use Rattle.text_form.specs.Reader.{Read, done, stop, then, starts, run, ended, span_at, numbers, on_span, value_of, value_at, number_at, count_at, all_below, list_of, list_at}
+use Rattle.text_form.specs.Reader.{Span, Value, Missing, Read, done, stop, then, starts, run, ended, span_at, numbers, on_span, value_of, value_at, number_at, count_at, all_below, list_of, list_at}
 use Rattle.answers.specs.Answers.{ask}
 use Rattle.text_form.proofs.Numbers.{FourDigits, numbers_of, numbers_inv}
 

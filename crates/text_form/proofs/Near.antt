@@ -12,13 +12,11 @@ use Rattle.answers.specs.declared.ByteQuestion.{ByteQuestion}
 use Rattle.answers.specs.declared.ByteQuestion.TheVariants.{TextAtomLimit, TextClauseLimit, TextAtomBelow, LineThere, ValueInForm, WordLimit, TextAllUsed}
 use Rattle.answers.specs.declared.Refusal.{Refusal}
 use Rattle.answers.specs.declared.Refusal.TheVariants.{Byte}
-use Rattle.answers.specs.declared.Answer.TheVariants.{Refused}
+use Rattle.std.specs.Prelude.{Err}
 use Rattle.answers.specs.Refusals.{byte_number, refusal_number, refusal_place}
 use Rattle.table.specs.Encoding.{clause_words, encode}
-use Rattle.text_form.specs.declared.Span.{Span}
-use Rattle.text_form.specs.declared.Span.TheVariants.{Value, Missing}
 use Rattle.text_form.specs.Render.{head_key, pos_key, neg_key, atoms_key, clauses_key}
-use Rattle.text_form.specs.Reader.{Read, done, stop, then, on_span, value_of, value_at, number_at, count_at, list_of, list_at, clause_at, clauses_at, rest_at, program_at, read_text, answer_of, read_answer}
+use Rattle.text_form.specs.Reader.{Span, Value, Missing, Read, done, stop, then, on_span, value_of, value_at, number_at, count_at, list_of, list_at, clause_at, clauses_at, rest_at, program_at, read_text, answer_of, read_answer}
 use Rattle.answers.specs.Answers.{ask, Small}
 use Rattle.text_form.proofs.Lines.{line_inv}
 use Rattle.text_form.proofs.Texts.{read_inv}
@@ -122,10 +120,10 @@ read_small ts room = go (read_text ts room) refl (text_near ts room)
     go (stop s) q h = h.0
 
 -- "question 7 is never met from text"
-pub never_seven : (ts : List ℕ) (room : ℕ) (r : Refusal) → read_answer ts room ≡ Refused r → refusal_number r ≢ 7
+pub never_seven : (ts : List ℕ) (room : ℕ) (r : Refusal) → read_answer ts room ≡ Err r → refusal_number r ≢ 7
 unfolding read_answer
 never_seven ts room r h = go (read_text ts room) (text_near ts room) h
   where
-    go : (x : Read Program) → Near 65536 x → answer_of x ≡ Refused r → refusal_number r ≢ 7
+    go : (x : Read Program) → Near 65536 x → answer_of x ≡ Err r → refusal_number r ≢ 7
     go (done P e) n h = let z : ◌≡◌ {A = ℕ} 0 1 = cc in absurd (omega arith)
     go (stop s) n h = let z : s ≡ r = cc in subst (λ r. refusal_number r ≢ 7) z n.1

@@ -9,10 +9,8 @@ use native.Mathlib.Decide.{dec_lt}
 use lib.Dec.{leb, eqb}
 use borrow.Author.Tests.{le-leb, leb-true, eqb-true}
 use Rattle.semantics.proofs.Tests.{and_iff}
-use Rattle.text_form.specs.declared.Next.{Next}
-use Rattle.text_form.specs.declared.Next.TheVariants.{Digit, Comma, Bad}
 use Rattle.text_form.specs.Digits.{digits, others, commas}
-use Rattle.text_form.specs.Reader.{next_of, Scanned, emit, on_next, scan, numbers}
+use Rattle.text_form.specs.Reader.{Next, Digit, Comma, Bad, next_of, Scanned, emit, on_next, scan, numbers}
 use Rattle.text_form.proofs.Widths.{digits_one, digits_more, digits_last}
 
 -- ---- one byte

@@ -1,6 +1,6 @@
 -- Reading a text: questions 22 to 27 of document 01, with 2, 3 and 6, asked in its order. The first no, or the program.
 -- A list may be in any order and repeat an atom (document 02, slip 5): what is kept of it ascends, so that question 7 is never met.
-use Rattle.std.specs.Prelude.{ℕ, zero, suc, ◌+◌, ◌-◌, ◌*◌, List, [], ◌∷◌, Bool, true, false, ◌&&◌, ◌||◌, not, cond, length, get_or, drop, ltb, leb, eqb}
+use Rattle.std.specs.Prelude.{ℕ, zero, suc, ◌+◌, ◌-◌, ◌*◌, List, [], ◌∷◌, Bool, true, false, ◌&&◌, ◌||◌, not, cond, length, get_or, drop, ltb, leb, eqb, Ok, Err}
 use Rattle.semantics.specs.Lists.{all}
 use Rattle.semantics.specs.Programs.{Clause, Program, program}
 use Rattle.sorting.specs.Sorting.{sorted}
@@ -11,12 +11,7 @@ use Rattle.answers.specs.declared.Refusal.{Refusal}
 use Rattle.answers.specs.declared.Refusal.TheVariants.{Call, Byte}
 use Rattle.table.specs.Encoding.{clause_words, encode}
 use Rattle.table.specs.Places.{cut}
-use Rattle.text_form.specs.declared.Span.{Span}
-use Rattle.text_form.specs.declared.Span.TheVariants.{Value, Missing}
-use Rattle.text_form.specs.declared.Next.{Next}
-use Rattle.text_form.specs.declared.Next.TheVariants.{Digit, Comma, Bad}
-use Rattle.answers.specs.declared.Answer.{Answer}
-use Rattle.answers.specs.declared.Answer.TheVariants.{Accepted, Refused}
+use Rattle.answers.specs.Answers.{Answer}
 use Rattle.text_form.specs.Render.{atoms_key, clauses_key, head_key, pos_key, neg_key}
 use Rattle.answers.specs.Answers.{ask, written}
 
@@ -31,6 +26,11 @@ module _ {A B : Type 0} where
   then (stop r) f = stop r
 
 -- ---- "24 Is it there with its key, "=" and a line feed?"
+
+-- where a line's value stands: from its first byte up to the line feed
+pub data Span : Type 0 where
+  Value : ℕ → ℕ → Span
+  Missing : Span
 
 -- the list begins with the key
 unfoldable pub starts : List ℕ → List ℕ → Bool
@@ -52,6 +52,12 @@ unfoldable pub span_at : List ℕ → List ℕ → ℕ → Span
 span_at ts key at = cond (starts key (drop at ts)) (ended ts (at + length key) (at + length key + run (drop (at + length key) ts))) Missing
 
 -- ---- "25 Is the value in form?"
+
+-- what a byte of a value is: a digit, with the number so far, the comma after a number, or neither
+pub data Next : Type 0 where
+  Digit : ℕ → Next
+  Comma : Next
+  Bad : Next
 
 -- A byte of a value, where `begun` says that a number has begun, which is v so far: "A number has one to four digits and no
 -- leading zero, save 0 itself", so that a number begun takes a digit more if it is not 0 and at most 999.
@@ -155,8 +161,8 @@ read_text ts room = ask stop (leb (length ts) 65536) (Call TextLength) (ask stop
 -- ---- what the call answers, and what the table slice holds afterwards
 
 abbrev pub answer_of : Read Program → Answer
-answer_of (done P e) = Accepted (length (encode P))
-answer_of (stop r) = Refused r
+answer_of (done P e) = Ok (length (encode P))
+answer_of (stop r) = Err r
 
 -- what reading the text answers, given a table slice of `room` words
 unfoldable pub read_answer : List ℕ → ℕ → Answer

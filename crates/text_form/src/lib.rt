@@ -1,64 +1,37 @@
 // The text form of a program: the types of its reader and writer. The definitions are in specs/, the theorems in proofs/.
 #![tactic(auto)]
 
-ghost use Rattle.std.specs.Prelude.{◌≡◌};
+ghost use Rattle.std.specs.Prelude.{◌≡◌, ◌≤◌, length};
 
-use answers::Refusal;
-
-// Where a line's value stands: from its first byte up to the line feed.
+// Why the numbers of a value are not stored as they stand: one is not above the one before it, or the value is not in form.
 #[derive(Clone, Copy)]
-pub enum Span {
-    Value(usize, usize),
-    Missing,
-}
-
-// What a byte of a value is: a digit, with the number so far, the comma after a number, or neither.
-#[derive(Clone, Copy)]
-pub enum Next {
-    Digit(u16),
-    Comma,
-    Bad,
-}
-
-// What stands at a place of a value: a number, with the place past it and its comma, or nothing in form.
-#[derive(Clone, Copy)]
-pub enum Item {
-    Number(u16, usize),
-    Nothing,
-}
-
-// What the numbers of a value are: so many that ascend, some not above the one before, or not in form.
-#[derive(Clone, Copy)]
-pub enum Order {
-    Ascends(usize),
+pub enum Disorder {
     Unordered,
     Malformed,
 }
 
-// What a value's numbers come to: so many, or a bound of them all; or the value is not in form.
+// A place in a text.
 #[derive(Clone, Copy)]
-pub enum Form {
-    Numbers(usize),
-    Malformed,
-}
-
-// A place in the text.
-#[derive(Clone, Copy)]
-pub struct Cursor {
+pub struct Cursor<'a> {
+    pub text: &'a [u8],
     pub at: usize,
+    pub ghost inside: { at ≤ length text.now },
 }
 
-impl Cursor {
-    pub fn new(at: usize) -> Cursor
-        ensures { result ≡ record { at = at } }
+impl<'a> Cursor<'a> {
+    // That place in the text.
+    pub fn new(text: &'a [u8], at: usize) -> Cursor<'a>
+        requires { at ≤ length text.now }
+        ensures place { result.at ≡ at }
+        ensures same_text { result.text.now ≡ text.now }
     {
-        Cursor { at }
+        Cursor { text, at }
     }
 }
 
-// What is read from a cursor: a number or how many words, with the next cursor; or the first question answered no.
+// What a line or several come to: a number or how many words, with the next cursor.
 #[derive(Clone, Copy)]
-pub enum Line {
-    Got(usize, Cursor),
-    Stop(Refusal),
+pub struct Line<'a> {
+    pub count: usize,
+    pub next: Cursor<'a>,
 }

@@ -1,4 +1,6 @@
 pub mod Laws
+pub mod Digits
+pub mod Fields
 pub mod Values
 pub mod Marks
 pub mod Answers

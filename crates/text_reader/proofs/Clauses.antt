@@ -8,16 +8,15 @@ use lib.ListN.{length, length-append, set}
 use lib.Seq.{sets}
 use Rattle.answers.specs.declared.Refusal.{Refusal}
 use Rattle.text_form.specs.declared.Cursor.{Cursor}
-use Rattle.text_form.specs.declared.Line.TheVariants.{Got}
 use Rattle.semantics.specs.Programs.{Clause}
 use Rattle.table.specs.Encoding.{clause_words, clauses_words}
 use Rattle.text_form.specs.Render.{head_key, pos_key, neg_key}
 use Rattle.text_form.specs.Reader.{Read, done, stop, then, list_at, clause_at, clauses_at}
-use Rattle.text_form.specs.Stored.{Stores, list_words}
+use Rattle.text_form.specs.declared.Line.{Line}
+use Rattle.text_form.specs.Stored.{Held, list_words}
 use Rattle.text_form.proofs.Lines.{list_inv}
 use Rattle.table.proofs.Slices.{sets_append, set_sets}
 use Rattle.text_form.proofs.Texts.{clause_inv}
-use Rattle.text_lines.proofs.Answers.{stores_done, Held}
 
 -- a clause's words, the counts stored last
 pub clause_stored : (w H P Q : List ℕ) (u h p q : ℕ) → length H ≡ h → length P ≡ p → length Q ≡ q
@@ -29,12 +28,9 @@ clause_stored w H P Q u h p q eh ep eq =
 
 -- ---- a part that was read
 
-module _ (ts key : List ℕ) (n used at k : ℕ) (cur : Cursor) (w w' : List ℕ) (H : Held list_words (list_at ts key n used at) k cur used w w') where
-  pub part_room : used + k ≤ 8192
-  part_room = omega (arith, (list_inv ts key H.thing n used at cur.at H.read).fits, H.count)
-
-  pub part_next : cur.at ≤ length ts
-  part_next = (list_inv ts key H.thing n used at cur.at H.read).next
+module _ (ts t key : List ℕ) (n used at : ℕ) (line : Line) (w w' : List ℕ) (H : Held list_words (list_at ts key n used at) t line used w w') where
+  pub part_room : used + line.count ≤ 8192
+  part_room = omega (arith, (list_inv ts key H.thing n used at line.next.at H.read).fits, H.count)
 
 -- ---- a clause
 
@@ -43,25 +39,29 @@ module _ (ts : List ℕ) (n used at : ℕ) where
   unfolding clause_at then
   head_stop r e = rw e
 
-  module _ (h : ℕ) (c1 : Cursor) (w w1 : List ℕ) (H : Held list_words (list_at ts head_key n (used + 3) at) h c1 (used + 3) w w1) where
-    pub pos_stop : (r : Refusal) → list_at ts pos_key n (used + 3 + h) c1.at ≡ stop r → clause_at ts n used at ≡ stop r
+  module _ (h : Line) (w w1 : List ℕ) (H : Held list_words (list_at ts head_key n (used + 3) at) ts h (used + 3) w w1) where
+    pub pos_stop : (r : Refusal) → list_at ts pos_key n (used + 3 + h.count) h.next.at ≡ stop r → clause_at ts n used at ≡ stop r
     unfolding clause_at then
     pos_stop r e = rw (H.read, H.count, e)
 
-    module _ (p : ℕ) (c2 : Cursor) (w2 : List ℕ) (P : Held list_words (list_at ts pos_key n (used + 3 + h) c1.at) p c2 (used + 3 + h) w1 w2) where
-      pub neg_stop : (r : Refusal) → list_at ts neg_key n (used + 3 + h + p) c2.at ≡ stop r → clause_at ts n used at ≡ stop r
+    module _ (p : Line) (w2 : List ℕ) (P : Held list_words (list_at ts pos_key n (used + 3 + h.count) h.next.at) ts p (used + 3 + h.count) w1 w2) where
+      pub neg_stop : (r : Refusal) → list_at ts neg_key n (used + 3 + h.count + p.count) p.next.at ≡ stop r → clause_at ts n used at ≡ stop r
       unfolding clause_at then
       neg_stop r e = rw (H.read, H.count, P.read, P.count, e)
 
-      pub clause_read : (q : ℕ) (c3 : Cursor) (w3 w' : List ℕ) → Held list_words (list_at ts neg_key n (used + 3 + h + p) c2.at) q c3 (used + 3 + h + p) w2 w3 → w' ≡ set (set (set w3 used h) (used + 1) p) (used + 2) q
-          → Stores clause_words (clause_at ts n used at) (Got (3 + h + p + q) c3) used w w'
+      pub clause_read : (q : Line) (w3 w' : List ℕ) → Held list_words (list_at ts neg_key n (used + 3 + h.count + p.count) p.next.at) ts q (used + 3 + h.count + p.count) w2 w3
+          → w' ≡ set (set (set w3 used h.count) (used + 1) p.count) (used + 2) q.count
+          → Held clause_words (clause_at ts n used at) ts (record { count = 3 + h.count + p.count + q.count; next = q.next }) used w w'
       unfolding clause_at then
-      clause_read q c3 w3 w' Q e =
-          let d : clause_at ts n used at ≡ done (record { head = H.thing; pos = P.thing; neg = Q.thing }) c3.at = rw (H.read, H.count, P.read, P.count, Q.read) in
-          let l : length (clause_words (record { head = H.thing; pos = P.thing; neg = Q.thing })) ≡ 3 + h + p + q =
-          omega (arith, length-append H.thing (P.thing ++ Q.thing), length-append P.thing Q.thing, H.count, P.count, Q.count) in
-          let s : w3 ≡ sets (sets (sets w (used + 3) H.thing) (used + 3 + h) P.thing) (used + 3 + h + p) Q.thing = rw (← H.stored, ← P.stored, ← Q.stored) in
-          stores_done clause_words (clause_at ts n used at) _ _ _ used w w' d l (e ∙ ap (λ z. set (set (set z used h) (used + 1) p) (used + 2) q) s ∙ clause_stored w H.thing P.thing Q.thing used h p q H.count P.count Q.count)
+      clause_read q w3 w' Q e =
+          let s : w3 ≡ sets (sets (sets w (used + 3) H.thing) (used + 3 + h.count) P.thing) (used + 3 + h.count + p.count) Q.thing = rw (← H.stored, ← P.stored, ← Q.stored) in
+          record {
+            thing = record { head = H.thing; pos = P.thing; neg = Q.thing };
+            read = rw (H.read, H.count, P.read, P.count, Q.read);
+            count = omega (arith, length-append H.thing (P.thing ++ Q.thing), length-append P.thing Q.thing, H.count, P.count, Q.count);
+            stored = e ∙ ap (λ z. set (set (set z used h.count) (used + 1) p.count) (used + 2) q.count) s ∙ clause_stored w H.thing P.thing Q.thing used h.count p.count q.count H.count P.count Q.count;
+            same_text = Q.same_text;
+          }
 
 -- ---- clauses, as far as they are read
 
@@ -102,13 +102,13 @@ unfolding clauses_at then
 clauses_one ts n m k used at j e c l d t = let q : m - k ≡ suc (m - (k + 1)) = omega arith in rw (q, d, t)
 
 module _ (ts : List ℕ) (n m at₀ k used at : ℕ) (w₀ w : List ℕ) (l : k < m) (g : Going ts n m at₀ k used at w₀ w) where
-  pub going_on : (w' : List ℕ) (j : ℕ) (cur : Cursor) → Held clause_words (clause_at ts n used at) j cur used w w' → Going ts n m at₀ (k + 1) (used + j) cur.at w₀ w'
-  going_on w' j cur h =
+  pub going_on : (w' : List ℕ) (t : List ℕ) (line : Line) → Held clause_words (clause_at ts n used at) t line used w w' → Going ts n m at₀ (k + 1) (used + line.count) line.next.at w₀ w'
+  going_on w' t line h =
       let c = h.thing in
-      let i = clause_inv ts n used at cur.at c h.read in
+      let i = clause_inv ts n used at line.next.at c h.read in
       record {
         cs = g.cs ++ c ∷ [];
-        whole = g.whole ∙ ap (join_all g.cs) (clauses_one ts n m k used at j cur.at c l h.read h.count) ∙ join_one g.cs c (clauses_at ts n (m - (k + 1)) (used + j) cur.at);
+        whole = g.whole ∙ ap (join_all g.cs) (clauses_one ts n m k used at line.count line.next.at c l h.read h.count) ∙ join_one g.cs c (clauses_at ts n (m - (k + 1)) (used + line.count) line.next.at);
         stored = h.stored ∙ ap (λ z. sets z used (clause_words c)) g.stored ∙ ap (λ z. sets (sets w₀ 2 (clauses_words g.cs)) z (clause_words c)) g.count ∙ sym (sets_append w₀ 2 (clauses_words g.cs) (clause_words c)) ∙ ap (sets w₀ 2) (sym (words_one g.cs c));
         count = omega (arith, ap length (words_one g.cs c), length-append (clauses_words g.cs) (clause_words c), g.count, h.count);
         room = omega (arith, i.fits, h.count);
@@ -122,10 +122,15 @@ module _ (ts : List ℕ) (n m at₀ k used at : ℕ) (w₀ w : List ℕ) (l : k 
       let a : clauses_at ts n (m - k) used at ≡ stop r = rw (q, d) in
       g.whole ∙ ap (join_all g.cs) a
 
-pub going_end : (ts : List ℕ) (n m at₀ k used at : ℕ) (w₀ w : List ℕ) → m ≤ k → Going ts n m at₀ k used at w₀ w
-    → Stores clauses_words (clauses_at ts n m 2 at₀) (Got (used - 2) (record { at = at })) 2 w₀ w
+pub going_end : (ts : List ℕ) (n m at₀ k used : ℕ) (next : Cursor) (w₀ w : List ℕ) → m ≤ k → Going ts n m at₀ k used next.at w₀ w → next.text.now ≡ ts
+    → Held clauses_words (clauses_at ts n m 2 at₀) ts (record { count = used - 2; next = next }) 2 w₀ w
 unfolding clauses_at
-going_end ts n m at₀ k used at w₀ w l g =
+going_end ts n m at₀ k used next w₀ w l g e =
     let z : m - k ≡ 0 = omega arith in
-    let d : clauses_at ts n m 2 at₀ ≡ done g.cs at = g.whole ∙ rw z (ap (λ x. done x at) (append-nil g.cs)) in
-    stores_done clauses_words (clauses_at ts n m 2 at₀) g.cs (used - 2) at 2 w₀ w d (omega (arith, g.count)) g.stored
+    record {
+      thing = g.cs;
+      read = g.whole ∙ rw z (ap (λ x. done x next.at) (append-nil g.cs));
+      count = omega (arith, g.count);
+      stored = g.stored;
+      same_text = e;
+    }

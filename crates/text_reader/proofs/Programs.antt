@@ -1,9 +1,9 @@
 -- The answers for a whole text, by what its lines give.
 use Prim.Native.Nat.{ℕ, ◌+◌, ◌≤◌, ◌<◌}
 use mathlib.Core.Path.{◌≡◌, refl, sym, ap, ◌∙◌}
-use mathlib.Core.List.{List}
+use mathlib.Core.List.{List, ◌++◌}
 use native.Mathlib.Omega.{arith}
-use lib.ListN.{length, take, set}
+use lib.ListN.{length, take, drop, set}
 use lib.Seq.{sets}
 use borrow.Author.Tests.{le-leb, lt-leb}
 use Rattle.answers.specs.declared.Refusal.{Refusal}
@@ -11,18 +11,16 @@ use Rattle.answers.specs.declared.CallQuestion.TheVariants.{TextLength, TableSli
 use Rattle.answers.specs.declared.Refusal.TheVariants.{Call, Byte}
 use Rattle.answers.specs.declared.ByteQuestion.{ByteQuestion}
 use Rattle.answers.specs.declared.ByteQuestion.TheVariants.{TextAtomLimit, TextClauseLimit, TextAllUsed}
-use Rattle.text_form.specs.declared.Cursor.{Cursor}
-use Rattle.text_form.specs.declared.Line.TheVariants.{Got}
+use Rattle.text_form.specs.declared.Line.{Line}
 use Rattle.semantics.specs.Programs.{Clause, program}
 use Rattle.table.specs.Encoding.{clauses_words, encode}
 use Rattle.text_form.specs.Render.{atoms_key, clauses_key}
-use Rattle.answers.specs.declared.Answer.TheVariants.{Accepted, Refused}
+use Rattle.std.specs.Prelude.{Ok, Err}
 use Rattle.text_form.specs.Reader.{done, stop, then, number_at, count_at, clauses_at, rest_at, program_at, read_text, read_answer, table_after}
 use Rattle.answers.specs.Answers.{ask}
-use Rattle.text_form.specs.Stored.{Stores}
+use Rattle.text_form.specs.Stored.{Held}
 use Rattle.answers.proofs.Slices.{copied}
 use Rattle.text_form.proofs.Texts.{clauses_inv, read_inv}
-use Rattle.text_lines.proofs.Answers.{stores_done, Held}
 
 -- ---- a line with a limit
 
@@ -52,13 +50,18 @@ module _ (ts : List ℕ) (n m at : ℕ) where
     unfolding rest_at then ask
     bytes_left l = rw (h, lt-leb (length ts) e l)
 
-    pub all_read : (k : ℕ) (w w1 w' : List ℕ) → length ts ≤ e → length (clauses_words cs) ≡ k → w1 ≡ set (set w 0 n) 1 m → w' ≡ sets w1 2 (clauses_words cs)
-        → Stores encode (rest_at ts n m at) (Got (2 + k) (record { at = e })) 0 w w'
+    pub all_read : (line : Line) (w w1 w' : List ℕ) → line.next.at ≡ e → line.next.text.now ≡ ts → length ts ≤ e → length (clauses_words cs) ≡ line.count → w1 ≡ set (set w 0 n) 1 m → w' ≡ sets w1 2 (clauses_words cs)
+        → Held encode (rest_at ts n m at) ts (record { count = 2 + line.count; next = line.next }) 0 w w'
     unfolding rest_at then ask encode
-    all_read k w w1 w' l q s t =
-        let d : rest_at ts n m at ≡ done (program n cs) e = rw (h, le-leb (length ts) e l) in
+    all_read line w w1 w' p t l q s u =
         let i : length cs ≡ m = (clauses_inv ts n m 2 at e cs (omega arith) h).count in
-        stores_done encode (rest_at ts n m at) _ _ _ 0 w w' d (omega (arith, q)) (t ∙ ap (λ z. sets z 2 (clauses_words cs)) s ∙ rw i)
+        record {
+          thing = program n cs;
+          read = rw (h, le-leb (length ts) e l, p);
+          count = omega (arith, q);
+          stored = u ∙ ap (λ z. sets z 2 (clauses_words cs)) s ∙ rw i;
+          same_text = t;
+        }
 
 -- ---- the lines
 
@@ -93,18 +96,18 @@ module _ (ts table : List ℕ) where
     on_text l = rw (le-leb (length ts) 65536 a, le-leb 8192 (length table) l)
 
   -- a refusal changes nothing
-  pub call_stop : (r : Refusal) → read_text ts (length table) ≡ stop r → (Refused r ≡ read_answer ts (length table)) × (table ≡ table_after ts table)
+  pub call_stop : (r : Refusal) → read_text ts (length table) ≡ stop r → (Err r ≡ read_answer ts (length table)) × (table ≡ table_after ts table)
   unfolding read_answer table_after
   call_stop r h = rw h (refl, refl)
 
   -- the text is read, and its n words stand at the start of a local array w
-  module _ (w₀ w : List ℕ) (n : ℕ) (cur : Cursor) (a : length ts ≤ 65536) (b : 8192 ≤ length table) (h : Held encode (program_at ts) n cur 0 w₀ w) where
-    pub call_short : n ≤ 8192
+  module _ (w₀ w : List ℕ) (line : Line) (a : length ts ≤ 65536) (b : 8192 ≤ length table) (h : Held encode (program_at ts) ts line 0 w₀ w) where
+    pub call_short : line.count ≤ 8192
     call_short =
-        let r = read_inv ts (length table) h.thing cur.at (on_text a b ∙ h.read) in
+        let r = read_inv ts (length table) h.thing line.next.at (on_text a b ∙ h.read) in
         omega (arith, ap (λ P. length (encode P)) r.kept, r.form.within.few_words, h.count)
 
     -- the words are copied
-    pub call_done : (x : List ℕ) → n ≤ length w → x ≡ sets table 0 (take n w) → (Accepted n ≡ read_answer ts (length table)) × (x ≡ table_after ts table)
+    pub call_done : (y : List ℕ) → line.count ≤ length w → y ≡ take line.count w → (Ok line.count ≡ read_answer ts (length table)) × (y ++ drop line.count table ≡ table_after ts table)
     unfolding read_answer table_after
-    call_done x f q = rw (on_text a b, h.read) (ap Accepted (sym h.count), copied table w₀ w x (encode h.thing) n f (omega (arith, call_short)) h.stored h.count q)
+    call_done y f q = rw (on_text a b, h.read) (ap Ok (sym h.count), copied table w₀ w (y ++ drop line.count table) (encode h.thing) line.count f h.stored h.count (ap (λ z. z ++ drop line.count table) q))

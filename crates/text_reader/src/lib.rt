@@ -1,137 +1,138 @@
 // The reader of the text form, line by line: questions 22, 23 and 27, with 2 and 3.
 #![tactic(auto)]
 
-ghost use Rattle.std.specs.Prelude.{◌≡◌, ◌+◌, ◌≤◌, length, set};
+ghost use Rattle.std.specs.Prelude.{◌≡◌, ◌+◌, ◌≤◌, ◌<◌, length, set};
 ghost use Rattle.table.specs.Encoding.{clause_words, clauses_words, encode};
 ghost use Rattle.text_form.specs.Reader.{count_at, clause_at, clauses_at, rest_at, program_at, read_answer, table_after};
-ghost use Rattle.text_form.specs.Stored.{number_answer, Stores};
+ghost use Rattle.text_form.specs.Stored.{Numbers, Stores};
+
+// Casts by `as` lose nothing, which the check proves: `try_from` would give an error that never comes.
 
 use answers::{Answer, ByteQuestion, CallQuestion, Refusal};
 use table::Table;
 use text_form::{Cursor, Line};
 
 // A line whose value is a number up to a limit, which question 2 or 3 asks.
-pub fn read_count(text: &[u8], key: &[u8], limit: u16, q: ByteQuestion, c: Cursor) -> Line
-    requires { c.at ≤ length text.now }
-    ensures { result ≡ number_answer (count_at text.now key.now limit q c.at) }
+pub fn read_count<'a>(
+    c: Cursor<'a>,
+    key: &[u8],
+    limit: u16,
+    q: ByteQuestion,
+) -> Result<Line<'a>, Refusal>
+    ensures { Numbers (count_at c.entry.text.now key.now limit q c.entry.at) c.entry.text.now result }
 {
-    let at = c.at;
-    let line = text_lines::read_number(text, key, c);
-    let Line::Got(n, _) = line else {
-        return line;
-    };
-    if table::wide(limit) < n {
-        return Line::Stop(Refusal::Byte(q, at));
+    let line = text_lines::read_number(c, key)?;
+    if usize::from(limit) < line.count {
+        return Err(Refusal::Byte(q, c.at));
     }
-    line
+    Ok(line)
 }
 
 // The three counts of a clause.
-fn put_counts(words: &mut [u16], at: usize, h: usize, p: usize, q: usize)
-    requires { (at ≤ 8192) × ((h ≤ 8192) × ((p ≤ 8192) × (q ≤ 8192))) }
+fn put_counts(words: &mut [u16; Table::MAX_WORDS], at: usize, h: usize, p: usize, q: usize)
+    requires place { at + 2 < 8192 }
+    requires head { h ≤ 8192 }
+    requires pos { p ≤ 8192 }
+    requires neg { q ≤ 8192 }
     ensures { words.new ≡ set (set (set words.old at h) (at + 1) p) (at + 2) q }
 {
-    text_lines::put_word(words, at, text_lines::narrow(h));
-    text_lines::put_word(words, at + 1, text_lines::narrow(p));
-    text_lines::put_word(words, at + 2, text_lines::narrow(q));
+    words[at] = h as u16;
+    words[at + 1] = p as u16;
+    words[at + 2] = q as u16;
 }
 
+// The words and the place `used` stay two parameters: the counts, which stand before the lists, are stored last, so that a struct of both would be wound back.
 // A clause: its three lines. Its words are stored from the place `used` on.
-pub fn read_clause(text: &[u8], atoms: u16, words: &mut [u16], used: usize, c: Cursor) -> Line
-    requires { (c.at ≤ length text.now) × ((used ≤ 8192) × (length words.old ≡ 8192)) }
-    ensures { Stores clause_words (clause_at text.now atoms used c.at) result used words.old words.new }
+pub fn read_clause<'a>(
+    c: Cursor<'a>,
+    atoms: u16,
+    words: &mut [u16; Table::MAX_WORDS],
+    used: usize,
+) -> Result<Line<'a>, Refusal>
+    requires { used ≤ 8192 }
+    ensures { Stores clause_words (clause_at c.entry.text.now atoms used c.entry.at) c.entry.text.now result used words.old words.new }
 {
     let a = used + 3;
-    let head = text_lines::read_list(text, b"head=", atoms, words, a, c);
-    let Line::Got(h, c1) = head else {
-        return head;
-    };
-    let b = a + h;
-    let pos = text_lines::read_list(text, b"pos=", atoms, words, b, c1);
-    let Line::Got(p, c2) = pos else {
-        return pos;
-    };
-    let d = b + p;
-    let neg = text_lines::read_list(text, b"neg=", atoms, words, d, c2);
-    let Line::Got(q, c3) = neg else {
-        return neg;
-    };
-    put_counts(words, used, h, p, q);
-    Line::Got(3 + h + p + q, c3)
+    let head = text_lines::read_list(c, b"head=", atoms, words, a)?;
+    let b = a + head.count;
+    let pos = text_lines::read_list(head.next, b"pos=", atoms, words, b)?;
+    let d = b + pos.count;
+    let neg = text_lines::read_list(pos.next, b"neg=", atoms, words, d)?;
+    put_counts(words, used, head.count, pos.count, neg.count);
+    Ok(Line {
+        count: 3 + head.count + pos.count + neg.count,
+        next: neg.next,
+    })
 }
 
 // The lines of the clauses: their words are stored from word 2 on.
-fn read_clauses(text: &[u8], atoms: u16, clauses: u16, words: &mut [u16], c: Cursor) -> Line
-    requires { (c.at ≤ length text.now) × (length words.old ≡ 8192) }
-    ensures { Stores clauses_words (clauses_at text.now atoms clauses 2 c.at) result 2 words.old words.new }
+fn read_clauses<'a>(
+    c: Cursor<'a>,
+    atoms: u16,
+    clauses: u16,
+    words: &mut [u16; Table::MAX_WORDS],
+) -> Result<Line<'a>, Refusal>
+    ensures { Stores clauses_words (clauses_at c.entry.text.now atoms clauses 2 c.entry.at) c.entry.text.now result 2 words.old words.new }
 {
     let mut used: usize = 2;
     let mut here = c;
-    let mut k: u16 = 0;
-    while k < clauses {
-        k += 1;
-        match read_clause(text, atoms, words, used, here) {
-            Line::Got(n, next) => {
-                used += n;
-                here = next;
-            }
-            Line::Stop(r) => {
-                return Line::Stop(r);
-            }
-        }
+    for k in 0..clauses {
+        let line = read_clause(here, atoms, words, used)?;
+        used += line.count;
+        here = line.next;
     }
-    Line::Got(used - 2, here)
+    Ok(Line {
+        count: used - 2,
+        next: here,
+    })
 }
 
 // What follows the first two lines, and question 27: the whole table's words are stored from word 0 on.
-fn read_rest(text: &[u8], atoms: u16, clauses: u16, words: &mut [u16], c: Cursor) -> Line
-    requires { (c.at ≤ length text.now) × (length words.old ≡ 8192) }
-    ensures { Stores encode (rest_at text.now atoms clauses c.at) result 0 words.old words.new }
+fn read_rest<'a>(
+    c: Cursor<'a>,
+    atoms: u16,
+    clauses: u16,
+    words: &mut [u16; Table::MAX_WORDS],
+) -> Result<Line<'a>, Refusal>
+    ensures { Stores encode (rest_at c.entry.text.now atoms clauses c.entry.at) c.entry.text.now result 0 words.old words.new }
 {
-    text_lines::put_word(words, 0, atoms);
-    text_lines::put_word(words, 1, clauses);
-    let line = read_clauses(text, atoms, clauses, words, c);
-    let Line::Got(k, next) = line else {
-        return line;
-    };
-    let end = next.at;
-    if end < text.len() {
-        return Line::Stop(Refusal::Byte(ByteQuestion::TextAllUsed, end));
+    words[0] = atoms;
+    words[1] = clauses;
+    let line = read_clauses(c, atoms, clauses, words)?;
+    let end = line.next.at;
+    if end < c.text.len() {
+        return Err(Refusal::Byte(ByteQuestion::TextAllUsed, end));
     }
-    Line::Got(2 + k, next)
+    Ok(Line {
+        count: 2 + line.count,
+        next: line.next,
+    })
 }
 
 // The lines of a whole text.
-fn read_program(text: &[u8], words: &mut [u16]) -> Line
-    requires { length words.old ≡ 8192 }
-    ensures { Stores encode (program_at text.now) result 0 words.old words.new }
+fn read_program<'a>(
+    text: &'a [u8],
+    words: &mut [u16; Table::MAX_WORDS],
+) -> Result<Line<'a>, Refusal>
+    ensures { Stores encode (program_at text.now) text.now result 0 words.old words.new }
 {
-    let first = read_count(
-        text,
+    let atoms = read_count(
+        Cursor::new(text, 0),
         b"atoms=",
         Table::MAX_ATOMS,
         ByteQuestion::TextAtomLimit,
-        Cursor::new(0),
-    );
-    let Line::Got(atoms, c1) = first else {
-        return first;
-    };
-    let second = read_count(
-        text,
+    )?;
+    let clauses = read_count(
+        atoms.next,
         b"clauses=",
         Table::MAX_CLAUSES,
         ByteQuestion::TextClauseLimit,
-        c1,
-    );
-    let Line::Got(clauses, c2) = second else {
-        return second;
-    };
+    )?;
     read_rest(
-        text,
-        text_lines::narrow(atoms),
-        text_lines::narrow(clauses),
+        clauses.next,
+        atoms.count as u16,
+        clauses.count as u16,
         words,
-        c2,
     )
 }
 
@@ -140,17 +141,18 @@ pub fn read_text(text: &[u8], table: &mut [u16]) -> Answer
     ensures { (result ≡ read_answer text.now (length table.old)) × (table.new ≡ table_after text.now table.old) }
 {
     if 65536 < text.len() {
-        return Answer::Refused(Refusal::Call(CallQuestion::TextLength));
+        return Err(Refusal::Call(CallQuestion::TextLength));
     }
     if table.len() < Table::MAX_WORDS {
-        return Answer::Refused(Refusal::Call(CallQuestion::TableSlice));
+        return Err(Refusal::Call(CallQuestion::TableSlice));
     }
-    let mut words = [0u16; 8192];
+    let mut words = [0u16; Table::MAX_WORDS];
     match read_program(text, &mut words) {
-        Line::Got(n, _) => {
-            answers::copy_words(table, &words, n);
-            Answer::Accepted(n)
+        Ok(line) => {
+            let n = line.count;
+            table[..n].copy_from_slice(&words[..n]);
+            Ok(n)
         }
-        Line::Stop(r) => Answer::Refused(r),
+        Err(r) => Err(r),
     }
 }

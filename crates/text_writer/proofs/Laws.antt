@@ -1,12 +1,12 @@
 -- Bytes written one after the other: numbers, lists and lines.
 use Prim.Native.Nat.{ℕ, suc, ◌+◌, ◌-◌, ◌/◌, ◌%◌, ◌^◌, ◌≤◌, ◌<◌}
 use mathlib.Core.Path.{◌≡◌, refl, sym, ap, ◌∙◌}
-use mathlib.Core.List.{List, [], ◌∷◌, ◌++◌}
+use mathlib.Core.List.{List, [], ◌∷◌, ◌++◌, append_assoc}
 use native.Mathlib.Omega.{arith}
 use native.Mathlib.Nat.{div-div-eq-div-mul, pow-suc}
 use native.Mathlib.Numerals.{add-one}
-use lib.ListN.{length, length-append, get_or, drop, set, drop_of_length-le}
-use lib.Seq.{sets, length-sets, drop-cons}
+use lib.ListN.{length, length-append, get_or, take, drop, set, drop_of_length-le}
+use lib.Seq.{sets, sets-eq, length-sets, drop-cons, drop-drop}
 use Rattle.text_form.specs.Digits.{width, places, digits, others, commas}
 use Rattle.text_form.specs.Render.{line_text}
 use Rattle.text_form.specs.Stored.{Puts}
@@ -17,6 +17,9 @@ use Rattle.table.proofs.Slices.{sets_append, set_sets}
 
 pub puts_none : (w : List ℕ) (at : ℕ) (bs : List ℕ) → bs ≡ [] → Puts w w at at bs
 puts_none w at bs e = record { next = omega (arith, ap length e); holds = ap (sets w at) (sym e) }
+
+pub puts_long : (w w1 : List ℕ) (a b : ℕ) (xs : List ℕ) → Puts w w1 a b xs → length w1 ≡ length w
+puts_long w w1 a b xs p = ap length p.holds ∙ length-sets w a xs
 
 pub puts_then : (w w1 w2 : List ℕ) (a b c : ℕ) (xs ys : List ℕ) → Puts w w1 a b xs → Puts w1 w2 b c ys → Puts w w2 a c (xs ++ ys)
 puts_then w w1 w2 a b c xs ys p q = record {
@@ -50,45 +53,47 @@ module _ (w w₀ : List ℕ) (n at : ℕ) (r whole : List ℕ) (l : Left w w₀ 
 
 -- ---- digits
 
--- A number of w digits is being written into `old` from `at` on: its last j decimal places are stored, and the number without them is left.
+-- A number of w digits is being written into `old` from `at` on: its last decimal places are stored, all but j, and the number without them is left.
 pub record Placed (old out : List ℕ) (at v w left j : ℕ) : Type 0 where
   pub most : j ≤ w
-  pub rest : left ≡ v / 10 ^ j
-  pub holds : out ≡ sets old (at + (w - j)) (places v j)
+  pub rest : left ≡ v / 10 ^ (w - j)
+  pub holds : out ≡ sets old (at + j) (places v (w - j))
 
-pub placed_start : (out : List ℕ) (at v w : ℕ) → Placed out out at v w v 0
+pub placed_start : (out : List ℕ) (at v w : ℕ) → Placed out out at v w v w
 unfolding places
-placed_start out at v w = record { most = omega arith; rest = omega arith; holds = refl }
+placed_start out at v w = let z : w - w ≡ 0 = omega arith in record { most = omega arith; rest = rw z (omega arith); holds = rw z refl }
 
 module _ (old out : List ℕ) (at v w left j : ℕ) (s : Placed old out at v w left j) where
   pub placed_long : length out ≡ length old
-  placed_long = ap length s.holds ∙ length-sets old (at + (w - j)) (places v j)
+  placed_long = ap length s.holds ∙ length-sets old (at + j) (places v (w - j))
 
-  pub placed_on : j < w → Placed old (set out (at + (w - (j + 1))) (48 + left % 10)) at v w (left / 10) (j + 1)
+  pub placed_on : (i : ℕ) → j ≡ i + 1 → Placed old (set out (at + i) (48 + left % 10)) at v w (left / 10) i
   unfolding places
-  placed_on h =
-      let p = at + (w - suc j) in
-      let q : at + (w - j) ≡ suc p = omega arith in
+  placed_on i h =
+      let m = s.most in
+      let q : at + j ≡ suc (at + i) = omega arith in
+      let k : w - i ≡ suc (w - j) = omega arith in
       record {
         most = omega arith;
-        rest = rw (s.rest, add-one j, pow-suc 10 j, div-div-eq-div-mul);
-        holds = rw (s.rest, s.holds, q, add-one j) (set_sets old (suc p) p (48 + v / 10 ^ j % 10) (places v j) (omega arith));
+        rest = rw (s.rest, k, pow-suc 10 (w - j), div-div-eq-div-mul);
+        holds = rw (s.rest, s.holds, q, k) (set_sets old (suc (at + i)) (at + i) (48 + v / 10 ^ (w - j) % 10) (places v (w - j)) (omega arith));
       }
 
-  pub placed_end : w ≤ j → w ≡ width v → Puts old out at (at + w) (digits v)
+  pub placed_end : j ≡ 0 → w ≡ width v → Puts old out at (at + w) (digits v)
   unfolding digits
   placed_end l e =
-      let q : j ≡ width v = omega (arith, s.most) in
-      let z : at + (w - j) ≡ at = omega arith in
+      let q : w - j ≡ width v = omega arith in
+      let z : at + j ≡ at = omega arith in
       record { next = omega (arith, places_length v (width v)); holds = s.holds ∙ rw (z, q) }
 
 -- ---- bytes
 
-pub bytes_on : (out bs : List ℕ) (at i : ℕ) → i < length bs → sets out (at + i) (drop i bs) ≡ sets (set out (at + i) (get_or bs i 0)) (at + (i + 1)) (drop (i + 1) bs)
-bytes_on out bs at i h = let q : at + (i + 1) ≡ suc (at + i) = omega arith in rw (q, drop-cons bs i 0 h, add-one i)
-
-pub bytes_end : (out bs : List ℕ) (at i : ℕ) → length bs ≤ i → sets out (at + i) (drop i bs) ≡ out
-bytes_end out bs at i h = rw (drop_of_length-le bs h)
+-- bytes copied over those from `at` on
+pub puts_copied : (w ys bs : List ℕ) (at : ℕ) → at + length bs ≤ length w → ys ≡ bs → Puts w (take at w ++ (ys ++ drop (at + length bs - at) (drop at w))) at (at + length bs) bs
+puts_copied w ys bs at h e =
+    let k : at + length bs - at ≡ length bs = omega arith in
+    let d : drop (length bs) (drop at w) ≡ drop (at + length bs) w = drop-drop (length bs) at w in
+    record { next = refl; holds = rw (e, k, d) (sym (append_assoc (take at w) bs (drop (at + length bs) w)) ∙ sym (sets-eq bs w at h)) }
 
 -- ---- a list
 
@@ -100,22 +105,19 @@ pub others_end : (xs : List ℕ) (i : ℕ) → length xs ≤ i → others (drop 
 unfolding others
 others_end xs i h = rw (drop_of_length-le xs h)
 
-pub commas_none : (xs : List ℕ) → length xs ≡ 0 → commas xs ≡ []
+module _ (x : ℕ) (xs : List ℕ) where
+  pub commas_length : length (commas (x ∷ xs)) ≡ length (digits x) + length (others xs)
+  unfolding commas
+  commas_length = length-append (digits x) (others xs)
+
+  pub commas_puts : (w w1 w2 : List ℕ) (a b c : ℕ) → Puts w w1 a b (digits x) → Puts w1 w2 b c (others xs) → Puts w w2 a c (commas (x ∷ xs))
+  unfolding commas
+  commas_puts w w1 w2 a b c p q = puts_then w w1 w2 a b c (digits x) (others xs) p q
+
+pub commas_none : (w : List ℕ) (at : ℕ) (xs : List ℕ) → length xs ≡ 0 → Puts w w at at (commas xs)
 unfolding commas
-commas_none [] h = refl
-commas_none (x ∷ xs) h = absurd (omega arith)
-
-pub commas_some : (xs : List ℕ) (v : ℕ) → (length xs ≡ 0 → ⊥) → v ≡ get_or xs 0 0 → commas xs ≡ digits v ++ others (drop 1 xs)
-unfolding commas
-commas_some [] v h e = absurd (h refl)
-commas_some (x ∷ xs) v h e = rw e
-
-module _ (xs : List ℕ) (v : ℕ) (h : length xs ≡ 0 → ⊥) (e : v ≡ get_or xs 0 0) where
-  pub commas_length : length (commas xs) ≡ length (digits v) + length (others (drop 1 xs))
-  commas_length = ap length (commas_some xs v h e) ∙ length-append (digits v) (others (drop 1 xs))
-
-  pub commas_puts : (w w1 w2 : List ℕ) (a b c : ℕ) → Puts w w1 a b (digits v) → Puts w1 w2 b c (others (drop 1 xs)) → Puts w w2 a c (commas xs)
-  commas_puts w w1 w2 a b c p q = rw (commas_some xs v h e) (puts_then w w1 w2 a b c (digits v) (others (drop 1 xs)) p q)
+commas_none w at [] h = puts_none w at [] refl
+commas_none w at (x ∷ xs) h = absurd (omega arith)
 
 -- ---- a line
 

@@ -9,8 +9,8 @@ unfolding on_table
 returns-in_default c = rw (← c.check_table-checked.ensures, c.in_default.is)
 
 pub refusal_code-requires : goal.refusal_code-requires
-refusal_code-requires c = omega (arith, (table_refused c.args.words.now c.in-Refused.r (cc (c.check_table-checked.ensures, c.in-Refused.is))).1)
+refusal_code-requires c = omega (arith, (table_refused c.args.words.now c.in-Err.r (cc (c.check_table-checked.ensures, c.in-Err.is))).1)
 
 pub returns : goal.returns
 unfolding on_table
-returns c = rw (← c.check_table-checked.ensures, c.in-Refused.is) c.refusal_code.ensures
+returns c = rw (← c.check_table-checked.ensures, c.in-Err.is) c.refusal_code.ensures

@@ -1,27 +1,32 @@
 -- `reduce_filter::put_steps` meets its contract. The loop's invariant: the lines of the steps left, written from here on, give them all. Assumes nothing.
-use mathlib.Core.Path.{refl, ap}
+use mathlib.Core.Path.{sym, ◌∙◌}
 use native.Mathlib.Omega.{arith}
-use native.Mathlib.Nat.{sub-zero}
-use Rattle.text_writer.proofs.Laws.{left_start, left_end}
-use Rattle.reduce_filter.specs.Output.{step_lines}
-use Rattle.reduce_filter.proofs.Laws.{steps_room, steps_left, steps_none}
-use borrow.Author.Rules.{rules}
+use Rattle.std.proofs.lemmas.List.{length_push}
+use Rattle.text_writer.proofs.Laws.{puts_long, left_end}
+use Rattle.reduce_filter.proofs.Laws.{step_before, step_words, step_rest, steps_over, steps_room, steps_left, steps_none}
 use Rattle.reduce_filter.proofs.put_steps.Goals as goal
 
-pub loop-k-init : goal.loop-k-init
-loop-k-init c = (search rules, (refl, left_start _ _ _ _ (ap (step_lines c.args.list.now 0) (sub-zero c.args.s))))
+pub put_line-requires : goal.put_line-requires
+put_line-requires c =
+    let t = c.in-Some.ensures.steps.1 in
+    let e = sym c.loop-step.invariant.rest ∙ t.0 in
+    let n = t.1 ∙ c.loop-step.invariant.size in
+    rw (step_words _ _ _ c.requires.inside _ _ e n) (record { room = steps_room _ _ _ (step_before _ _ _ c.requires.inside _ _ e n) _ _ _ _ _ c.loop-step.invariant.left c.requires.room })
 
-pub put_step-n-requires : goal.put_step-n-requires
-put_step-n-requires c = (omega (arith, c.requires.0), steps_room _ _ _ _ c.loop-k-test.true _ _ _ _ _ c.loop-k.invariant.1.1 c.requires.1)
+pub loop-step-preserved : goal.loop-step-preserved
+loop-step-preserved c =
+    let t = c.in-Some.ensures.steps.1 in
+    let e = sym c.loop-step.invariant.rest ∙ t.0 in
+    let n = t.1 ∙ c.loop-step.invariant.size in
+    let written = rw (step_words _ _ _ c.requires.inside _ _ e n) at c.put_line.ensures.written in
+    rw (length_push c.loop-step.yielded c.in-Some.step) (record {
+      same_reference = c.put_line.ensures.same_reference ∙ c.loop-step.invariant.same_reference;
+      size = c.in-Some.ensures.steps.0 ∙ c.loop-step.invariant.size;
+      rest = step_rest _ _ _ c.requires.inside _ _ e n;
+      left = steps_left _ _ _ (step_before _ _ _ c.requires.inside _ _ e n) _ _ _ _ _ c.loop-step.invariant.left _ _ (puts_long _ _ _ _ _ written) written;
+    })
 
-pub overflow_add-from : goal.overflow_add-from
-overflow_add-from c = omega (arith, c.requires.0)
-
-pub loop-k-preserved : goal.loop-k-preserved
-loop-k-preserved c = (search rules, (omega arith, steps_left _ _ _ _ c.loop-k-test.true _ _ _ _ _ c.loop-k.invariant.1.1 _ _ c.put_step-n.auto.out c.put_step-n.ensures))
-
-pub shape_of-out : goal.shape_of-out
-shape_of-out c = c.loop-k.invariant.1.1.long
-
-pub returns : goal.returns
-returns c = left_end _ _ _ _ _ _ c.loop-k.invariant.1.1 (steps_none _ _ _ _ c.loop-k-test.false)
+pub returns-clause-written : goal.returns-clause-written
+returns-clause-written c =
+    let t = c.in-None.ensures.steps.1 in
+    left_end _ _ _ _ _ _ c.loop-step.invariant.left (steps_none _ _ _ _ (steps_over _ _ _ c.requires.inside _ c.loop-step.invariant.rest (omega (arith, t.0, c.loop-step.invariant.size))))

@@ -1,12 +1,16 @@
 -- `reduce_filter::put_steps` meets its contract. The loop's invariant: the lines of the steps left, written from here on, give them all. Assumes nothing.
-use Prim.Native.Nat.{◌-◌, ◌*◌, ◌≤◌}
+use Prim.Native.Nat.{◌-◌, ◌*◌}
 use mathlib.Core.Path.{◌≡◌}
+use lib.ListN.{length, take, drop}
+use Rattle.std.specs.Slice.Iter.{chunks_exact_rest, chunks_exact_size}
 use Rattle.text_writer.proofs.Laws.{Left}
 use Rattle.reduce_filter.specs.Output.{step_lines}
 use Rattle.reduce_filter.proofs.put_steps.Given as goal
 
-abbrev pub invariant-loop-k : goal.invariant-loop-k
-invariant-loop-k l = (l.k ≤ l.s) × ((l.from ≡ 4 * l.k) × Left l.out l.initial.out l.n l.at (step_lines l.list l.from (l.s - l.k)) (step_lines l.list 0 l.s))
-
-abbrev pub decreases-loop-k : goal.decreases-loop-k
-decreases-loop-k l = l.s - l.k
+abbrev pub invariant-loop-step : goal.invariant-loop-step
+invariant-loop-step l = record {
+  same_reference : l.output.bytes.ghost_name ≡ l.initial.output.bytes.ghost_name;
+  size : chunks_exact_size l.step-iterator ≡ 4;
+  rest : chunks_exact_rest l.step-iterator ≡ drop (4 * length l.yielded) (take (4 * l.s) l.list);
+  left : Left l.output.bytes.now l.initial.output.bytes.now l.output.len l.initial.output.len (step_lines l.list (4 * length l.yielded) (l.s - length l.yielded)) (step_lines l.list 0 l.s);
+}

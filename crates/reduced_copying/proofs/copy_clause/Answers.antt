@@ -1,22 +1,22 @@
 -- The counts, then the words of all three parts, which stand side by side.
-use Rattle.reduced_sizes.proofs.Words.{clause_room, clause_past, clause_stored}
-use Prim.Native.Nat.{◌+◌}
-use mathlib.Core.Path.{refl}
+use Prim.Native.Nat.{◌+◌, ◌-◌}
+use mathlib.Core.Path.{refl, sym, ap, ◌∙◌}
 use native.Mathlib.Omega.{arith}
-use borrow.Author.Rules.{rules}
+use lib.ListN.{length}
+use lib.Seq.{sets}
+use Rattle.reduced_sizes.proofs.Words.{clause_room, clause_past, clause_stored}
+use Rattle.table.proofs.Parts.{part_slice}
 use Rattle.reduced_copying.proofs.copy_clause.Goals as goal
 
-pub write_counts-requires : goal.write_counts-requires
-write_counts-requires c = (search rules, (search rules, (search rules, (omega arith, (omega arith, omega arith)))))
-
-pub overflow_add-to : goal.overflow_add-to
-overflow_add-to c = omega arith
-
 pub copy_part-requires : goal.copy_part-requires
-copy_part-requires c = (search rules, (search rules, (search rules, clause_room _ _ c.args.at _ _ _ _ refl (omega arith) (omega arith))))
+copy_part-requires c =
+    rw (← part_slice c.args.words.now c.args.marks.now (c.args.at + 3) (c.next_clause-end.result - (c.args.at + 3)) (omega arith) (omega arith))
+    (clause_room _ _ c.args.at _ _ _ _ refl c.next_clause-end.ensures (omega (arith, c.requires.room, c.write_counts.auto.out)))
 
 pub returns : goal.returns
-returns c = (
-  clause_past _ _ c.args.at _ _ _ _ refl (omega arith) c.copy_part.ensures.0,
-  clause_stored _ _ c.args.out.now _ _ c.args.at _ (c.args.at + 3) (c.args.at + 3 + c.wide.result) (c.args.at + 3 + c.wide.result + c.wide-2.result) (c.args.at + 3 + c.wide.result + c.wide-2.result + c.wide-3.result) c.write_counts.ensures c.copy_part.ensures.1 refl (omega arith) (omega arith) (omega arith),
-)
+returns c =
+    let q = part_slice c.args.words.now c.args.marks.now (c.args.at + 3) (c.next_clause-end.result - (c.args.at + 3)) (omega arith) (omega arith) in
+    record {
+      place = clause_past _ _ c.args.at _ _ _ _ refl c.next_clause-end.ensures (c.copy_part.ensures.place ∙ ap (λ l. c.args.to + 3 + length l) (sym q));
+      written = clause_stored _ _ c.args.out.now _ _ c.args.at _ (c.args.at + 3) c.next_clause-end.result c.write_counts.ensures (c.copy_part.ensures.written ∙ ap (sets _ (c.args.to + 3)) (sym q)) refl c.next_clause-end.ensures;
+    }

@@ -1,11 +1,7 @@
 -- Clause by clause. The invariant: the words to come, written from here on, give what all of them give from the start.
-use lib.Seq.{length-sets}
-use Rattle.table.specs.View.{entry_at}
-use Rattle.reduced_sizes.specs.Parts.{entry_words}
 use Rattle.reduced_sizes.proofs.Words.{copy_on, copy_end, size_on}
-use mathlib.Core.Path.{refl, sym, ap, ◌∙◌}
+use mathlib.Core.Path.{refl, sym, ◌∙◌}
 use native.Mathlib.Omega.{arith}
-use lib.ListN.{length}
 use Rattle.table.specs.Places.{start_from}
 use Rattle.table.proofs.Encoding.{passed_limits}
 use Rattle.reduced_sizes.proofs.Tables.{reduced_length, view_start}
@@ -18,30 +14,23 @@ bounds-words-1 c = let l = passed_limits _ c.requires.ready.passed in search rul
 
 pub loop-k-init : goal.loop-k-init
 unfolding start_from
-loop-k-init c = (search rules, (refl, (refl, rw view_start (sym (reduced_length _ _), refl))))
+loop-k-init c = record { place = refl; room = rw view_start (sym (reduced_length _ _)); written = rw view_start }
 
 pub copy_entry-to-requires : goal.copy_entry-to-requires
-copy_entry-to-requires c = let i = inside _ _ c.requires.ready _ _ c.loop-k-test.true c.loop-k.invariant.1.0 in record { inside = i; room = omega (arith, size_on c.args.words.now c.args.marks.now c.loop-k.k _ c.loop-k.at _ c.loop-k-test.true refl, c.requires.room) }
+copy_entry-to-requires c = let i = inside _ _ c.requires.ready _ _ c.loop-k-test.true c.loop-k.invariant.place in record { inside = i; room = omega (arith, size_on c.args.words.now c.args.marks.now c.loop-k.k _ c.loop-k.at _ c.loop-k-test.true refl, c.requires.room) }
 
 pub next_clause-at-requires : goal.next_clause-at-requires
-next_clause-at-requires c = let i = inside _ _ c.requires.ready _ _ c.loop-k-test.true c.loop-k.invariant.1.0 in i.fits
-
-pub overflow_step-k : goal.overflow_step-k
-overflow_step-k c = let l = passed_limits _ c.requires.ready.passed in search rules
+next_clause-at-requires c = let i = inside _ _ c.requires.ready _ _ c.loop-k-test.true c.loop-k.invariant.place in i.fits
 
 pub loop-k-preserved : goal.loop-k-preserved
 loop-k-preserved c =
     let e = c.next_clause-at.ensures in
-    let n = size_on c.args.words.now c.args.marks.now c.loop-k.k _ c.loop-k.at c.next_clause-at.result c.loop-k-test.true e in (
-      search rules,
-      (
-        start_next _ _ c.requires.ready _ _ c.loop-k-test.true c.loop-k.invariant.1.0 _ e,
-        (
-          ap length c.copy_entry-to.ensures.1 ∙ length-sets c.loop-k.out c.loop-k.to (entry_words (entry_at c.args.words.now c.args.marks.now c.loop-k.at)) ∙ c.loop-k.invariant.1.1.0,
-          (omega arith, copy_on _ _ _ _ _ _ c.loop-k-test.true e _ _ _ _ _ c.copy_entry-to.ensures.0 c.copy_entry-to.ensures.1 c.loop-k.invariant.1.1.1.1),
-        ),
-      ),
-    )
+    let n = size_on c.args.words.now c.args.marks.now c.loop-k.k _ c.loop-k.at c.next_clause-at.result c.loop-k-test.true e in
+    record {
+      place = start_next _ _ c.requires.ready _ _ c.loop-k-test.true c.loop-k.invariant.place _ e;
+      room = omega (arith, c.loop-k.invariant.room, c.copy_entry-to.ensures.place);
+      written = copy_on _ _ _ _ _ _ c.loop-k-test.true e _ _ _ _ _ c.copy_entry-to.ensures.place c.copy_entry-to.ensures.written c.loop-k.invariant.written;
+    }
 
 pub returns : goal.returns
-returns c = sym (copy_end _ _ _ _ _ c.loop-k.at c.loop-k.to c.loop-k-test.false) ∙ c.loop-k.invariant.1.1.1.1
+returns c = sym (copy_end _ _ _ _ _ c.loop-k.at c.loop-k.to c.loop-k-test.false) ∙ c.loop-k.invariant.written

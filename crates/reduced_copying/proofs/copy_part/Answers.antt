@@ -1,37 +1,25 @@
 -- The words whose mark is 1 are copied. The invariant: the words to come, written from here on, give what all of them give from the start.
-use mathlib.Core.Path.{refl, ap}
 use native.Mathlib.Omega.{arith}
-use native.Mathlib.Numerals.{add-one}
-use native.Mathlib.Nat.{add-zero}
-use lib.ListN.{length, length-set}
-use Rattle.reduced_sizes.proofs.Words.{part_yes, part_no, part_end}
-use borrow.Author.Rules.{rules}
+use Rattle.std.proofs.lemmas.Slice.Zip.{Zip-more, either_empty_from_Zip}
+use Rattle.reduced_copying.proofs.Copying.{copying_start, copying_aside, copying_room, copying_next, copying_end}
 use Rattle.reduced_copying.proofs.copy_part.Goals as goal
 
-pub loop-i-init : goal.loop-i-init
-loop-i-init c = (search rules, (search rules, (refl, (refl, refl))))
+pub loop-word-init : goal.loop-word-init
+loop-word-init c = copying_start _ _ _ _ _ _ (cc) (cc)
 
-pub loop-i-preserved-then-mark-ne1 : goal.loop-i-preserved-then-mark-ne1
-loop-i-preserved-then-mark-ne1 c =
-    let inv = c.loop-i.invariant in
-    let e = part_no c.args.words.now c.args.marks.now c.loop-i.i c.args.end c.loop-i-test.true c.if-mark-ne1.true in
-    (search rules, (search rules, (inv.1.1.0, (rw e at inv.1.1.1.0, rw e at inv.1.1.1.1))))
+pub loop-word-preserved-then-mark-ne1 : goal.loop-word-preserved-then-mark-ne1
+loop-word-preserved-then-mark-ne1 c = let (e, q) = Zip-more c.loop-word.word-iterator c.next.new.self _ (c.in-Some.word, c.in-Some.mark) c.in-Some.is c.next.ensures.steps in copying_aside _ _ _ _ _ _ _ _ c.loop-word.invariant _ _ _ _ e q c.if-mark-ne1.true
 
 pub bounds-out-n : goal.bounds-out-n
-bounds-out-n c = let e = ap length (part_yes c.args.words.now c.args.marks.now c.loop-i.i c.args.end c.loop-i-test.true c.if-mark-ne1.false) in omega (arith, e)
+bounds-out-n c = let (e, q) = Zip-more c.loop-word.word-iterator c.next.new.self _ (c.in-Some.word, c.in-Some.mark) c.in-Some.is c.next.ensures.steps in omega (arith, copying_room _ _ _ _ _ _ _ _ c.loop-word.invariant _ _ _ _ e q c.if-mark-ne1.false, c.requires, c.loop-word.auto.out)
 
 pub overflow_add-n : goal.overflow_add-n
-overflow_add-n c = let e = ap length (part_yes c.args.words.now c.args.marks.now c.loop-i.i c.args.end c.loop-i-test.true c.if-mark-ne1.false) in omega (arith, e)
+overflow_add-n c = let (e, q) = Zip-more c.loop-word.word-iterator c.next.new.self _ (c.in-Some.word, c.in-Some.mark) c.in-Some.is c.next.ensures.steps in omega (arith, copying_room _ _ _ _ _ _ _ _ c.loop-word.invariant _ _ _ _ e q c.if-mark-ne1.false, c.requires)
 
-pub loop-i-preserved : goal.loop-i-preserved
-loop-i-preserved c =
-    let inv = c.loop-i.invariant in
-    let e = part_yes c.args.words.now c.args.marks.now c.loop-i.i c.args.end c.loop-i-test.true c.if-mark-ne1.false in
-    let n : _ = rw e at inv.1.1.1.0 in
-    (search rules, (search rules, (simp length-set inv.1.1.0, (omega arith, rw add-one (rw e at inv.1.1.1.1)))))
+pub loop-word-preserved : goal.loop-word-preserved
+loop-word-preserved c = let (e, q) = Zip-more c.loop-word.word-iterator c.next.new.self _ (c.in-Some.word, c.in-Some.mark) c.in-Some.is c.next.ensures.steps in copying_next _ _ _ _ _ _ _ _ c.loop-word.invariant _ _ _ _ e q c.if-mark-ne1.false
 
 pub returns : goal.returns
 returns c =
-    let inv = c.loop-i.invariant in
-    let e = part_end c.args.words.now c.args.marks.now c.loop-i.i c.args.end c.loop-i-test.false in
-    (rw (← inv.1.1.1.0, e, add-zero), rw e at inv.1.1.1.1)
+    let (p, w) = copying_end _ _ _ _ _ _ _ _ c.loop-word.invariant (either_empty_from_Zip c.loop-word.word-iterator c.next.new.self _ c.in-None.is c.next.ensures.steps) in
+    record { place = p; written = w }

@@ -1,20 +1,24 @@
--- Each mark of the span is between `least` and 1, up to the first that isn't. The invariant: the walk from here on is the walk from the start.
-use mathlib.Core.Path.{refl, sym, ◌∙◌}
-use Rattle.reduced_marks.proofs.Marks.{marks_on, marks_bad, marks_end, between_yes, between_low, between_high}
+-- `reduced_marks::check_span` meets its contract.
+use Prim.Native.Nat.{◌-◌}
+use mathlib.Core.Path.{◌≡◌, sym, ◌∙◌}
+use mathlib.Core.Bool.{◌||◌}
+use lib.Dec.{ltb}
+use lib.ListN.{take, drop}
 use borrow.Author.Rules.{rules}
+use Rattle.std.specs.List.{position}
+use Rattle.std.proofs.lemmas.Iterator.{YieldsList-from_slice}
+use Rattle.std.proofs.lemmas.Iterator.Search.{position_from_yields_List}
+use Rattle.reduced_marks.proofs.Marks.{span_found, span_allowed}
 use Rattle.reduced_marks.proofs.check_span.Goals as goal
 
-pub loop-i-init : goal.loop-i-init
-loop-i-init c = (search rules, (search rules, refl))
+pub returns-in-None : goal.returns-in-None
+returns-in-None c =
+    let e : c.position.result ≡ position (λ x. ltb x c.args.least || ltb 1 x) (take (c.args.end - c.args.at) (drop c.args.at c.args.marks.now)) =
+    position_from_yields_List (λ x. ltb x c.args.least || ltb 1 x) _ _ _ c.position.ensures.ran (YieldsList-from_slice _ c.iter.ensures.rest) (λ x b q k. search rules) in
+    sym (span_allowed c.args.marks.now c.args.least c.args.at c.args.end c.requires.order c.requires.within (sym e ∙ c.in-None.is))
 
-pub returns-then-m-least : goal.returns-then-m-least
-returns-then-m-least c = sym (marks_bad _ _ _ c.loop-i-test.true (between_low c.args.marks.now _ c.loop-i.i c.if-m-least.true)) ∙ c.loop-i.invariant.1.1
-
-pub returns-then-m-gt1 : goal.returns-then-m-gt1
-returns-then-m-gt1 c = sym (marks_bad _ _ _ c.loop-i-test.true (between_high c.args.marks.now _ c.loop-i.i c.if-m-least.false c.if-m-gt1.true)) ∙ c.loop-i.invariant.1.1
-
-pub loop-i-preserved : goal.loop-i-preserved
-loop-i-preserved c = (search rules, (search rules, sym (marks_on _ _ _ c.loop-i-test.true (between_yes c.args.marks.now _ c.loop-i.i c.if-m-least.false c.if-m-gt1.false)) ∙ c.loop-i.invariant.1.1))
-
-pub returns : goal.returns
-returns c = sym (marks_end _ _ _ c.loop-i-test.false c.loop-i.invariant.1.0) ∙ c.loop-i.invariant.1.1
+pub returns-in-Some : goal.returns-in-Some
+returns-in-Some c =
+    let e : c.position.result ≡ position (λ x. ltb x c.args.least || ltb 1 x) (take (c.args.end - c.args.at) (drop c.args.at c.args.marks.now)) =
+    position_from_yields_List (λ x. ltb x c.args.least || ltb 1 x) _ _ _ c.position.ensures.ran (YieldsList-from_slice _ c.iter.ensures.rest) (λ x b q k. search rules) in
+    sym (span_found c.args.marks.now c.args.least c.args.at c.args.end c.requires.order c.requires.within _ (sym e ∙ c.in-Some.is))

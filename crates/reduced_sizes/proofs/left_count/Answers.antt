@@ -15,27 +15,21 @@ bounds-words-1 c = let l = passed_limits _ c.requires.passed in search rules
 
 pub loop-k-init : goal.loop-k-init
 unfolding start_from
-loop-k-init c = (search rules, (refl, rw view_start (omega arith)))
+loop-k-init c = record { place = refl; sum = rw view_start (omega arith) }
 
-pub overflow_add-at : goal.overflow_add-at
-overflow_add-at c = let i = inside _ _ c.requires _ _ c.loop-k-test.true c.loop-k.invariant.1.0 in omega arith
+pub bounds-marks-at : goal.bounds-marks-at
+bounds-marks-at c = let i = inside _ _ c.requires _ _ c.loop-k-test.true c.loop-k.invariant.place in omega arith
 
-pub kept_in-n-requires : goal.kept_in-n-requires
-kept_in-n-requires c = let i = inside _ _ c.requires _ _ c.loop-k-test.true c.loop-k.invariant.1.0 in (omega arith, (omega arith, omega arith))
-
-pub overflow_add-n : goal.overflow_add-n
-overflow_add-n c = let l = passed_limits _ c.requires.passed in omega (arith, count_on c.args.words.now c.args.marks.now c.loop-k.k _ c.loop-k.at _ c.loop-k-test.true refl, count_le c.args.words.now c.args.marks.now, c.kept_in-n.ensures)
+pub overflow_add-count : goal.overflow_add-count
+overflow_add-count c = let l = passed_limits _ c.requires.passed in omega (arith, count_on c.args.words.now c.args.marks.now c.loop-k.k _ c.loop-k.at _ c.loop-k-test.true refl, count_le c.args.words.now c.args.marks.now, c.from-count.ensures)
 
 pub next_clause-at-requires : goal.next_clause-at-requires
-next_clause-at-requires c = let i = inside _ _ c.requires _ _ c.loop-k-test.true c.loop-k.invariant.1.0 in i.fits
-
-pub overflow_step-k : goal.overflow_step-k
-overflow_step-k c = let l = passed_limits _ c.requires.passed in search rules
+next_clause-at-requires c = let i = inside _ _ c.requires _ _ c.loop-k-test.true c.loop-k.invariant.place in i.fits
 
 pub loop-k-preserved : goal.loop-k-preserved
 loop-k-preserved c =
     let e = c.next_clause-at.ensures in
-    (search rules, (start_next _ _ c.requires _ _ c.loop-k-test.true c.loop-k.invariant.1.0 _ e, omega (arith, count_on c.args.words.now c.args.marks.now c.loop-k.k _ c.loop-k.at c.next_clause-at.result c.loop-k-test.true e)))
+    record { place = start_next _ _ c.requires _ _ c.loop-k-test.true c.loop-k.invariant.place _ e; sum = omega (arith, c.loop-k.invariant.sum, count_on c.args.words.now c.args.marks.now c.loop-k.k _ c.loop-k.at c.next_clause-at.result c.loop-k-test.true e) }
 
 pub returns : goal.returns
 returns c = omega (arith, ap length (left_end c.args.words.now c.args.marks.now c.loop-k.k _ c.loop-k.at c.loop-k-test.false))

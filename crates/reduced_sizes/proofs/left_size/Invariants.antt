@@ -1,7 +1,7 @@
 -- The sizes of the clauses as left are added up. The invariant: the sum so far and the words to come are the whole.
-use Prim.Native.Nat.{◌≤◌, ◌-◌, ◌+◌}
+use Prim.Native.Nat.{◌-◌, ◌+◌}
 use mathlib.Core.Path.{◌≡◌}
-use lib.ListN.{length}
+use lib.ListN.{length, get_or}
 use Rattle.rewriting.specs.Marked.{left}
 use Rattle.table.specs.Encoding.{clauses_words}
 use Rattle.table.specs.Places.{start_of}
@@ -10,8 +10,7 @@ use Rattle.reduced_sizes.specs.Leaves.{reduced}
 use Rattle.reduced_sizes.proofs.left_size.Given as goal
 
 abbrev pub invariant-loop-k : goal.invariant-loop-k
-invariant-loop-k l = (l.k ≤ l.clauses)
-    × ((l.at ≡ start_of l.words l.k) × (l.size + length (clauses_words (left (entries_from l.words l.marks (l.clauses - l.k) l.at))) ≡ length (reduced l.words l.marks)))
-
-abbrev pub decreases-loop-k : goal.decreases-loop-k
-decreases-loop-k l = l.clauses - l.k
+invariant-loop-k l = record {
+  place : l.at ≡ start_of l.words l.k;
+  sum : l.size + length (clauses_words (left (entries_from l.words l.marks (get_or l.words 1 0 - l.k) l.at))) ≡ length (reduced l.words l.marks);
+}

@@ -4,6 +4,9 @@ use Rattle.table.proofs.Encoding.{passed_limits}
 use Rattle.reducer_results.proofs.Room.{room_is}
 use Rattle.reducer.proofs.most_steps.Goals as goal
 
+pub returns : goal.returns
+returns c = record { room = omega (arith, room_is _ c.requires, c.from.ensures); within = omega (arith, (passed_limits _ c.requires).short) }
+
 pub overflow_sub-result : goal.overflow_sub-result
 overflow_sub-result c = omega (arith, (passed_limits _ c.requires).long)
 
@@ -11,7 +14,4 @@ pub bounds-words-1 : goal.bounds-words-1
 bounds-words-1 c = omega (arith, (passed_limits _ c.requires).long)
 
 pub overflow_sub-result-2 : goal.overflow_sub-result-2
-overflow_sub-result-2 c = omega (arith, room_is _ c.requires, c.wide.ensures.0)
-
-pub returns : goal.returns
-returns c = (omega (arith, room_is _ c.requires, c.wide.ensures.0), omega (arith, (passed_limits _ c.requires).short))
+overflow_sub-result-2 c = omega (arith, room_is _ c.requires, c.from.ensures)

@@ -10,7 +10,7 @@ use Rattle.reducer.proofs.Runs.{Running}
 use Rattle.reducer.proofs.run_steps.Given as goal
 
 abbrev pub invariant-loop-step : goal.invariant-loop-step
-invariant-loop-step l = ((length l.marks ≡ length l.initial.marks) × ((length l.list ≡ length l.initial.list) × ((length l.heads ≡ length l.initial.heads) × ((length l.reach ≡ length l.initial.reach) × ((length l.flags ≡ length l.initial.flags) × (length l.idle ≡ length l.initial.idle)))))) × ((State l.words l.marks l.index l.heads l.reach l.flags × Idle (get_or l.words 0 0) (view l.words l.marks) l.idle) × Running l.words l.initial.marks l.initial.list l.marks l.list l.s)
+invariant-loop-step l = ((length l.marks ≡ length l.initial.marks) × ((length l.list ≡ length l.initial.list) × (length l.idle ≡ length l.initial.idle))) × ((State l.table.words.now l.marks l.table.index.now l.memory.heads l.memory.reach l.memory.flags × Idle (get_or l.table.words.now 0 0) (view l.table.words.now l.marks) l.idle) × Running l.table.words.now l.initial.marks l.initial.list l.marks l.list l.s)
 
 abbrev pub decreases-loop-step : goal.decreases-loop-step
-decreases-loop-step l = room l.words - l.s
+decreases-loop-step l = room l.table.words.now - l.s

@@ -1,38 +1,51 @@
--- `search_closure::put_back` meets its contract. The invariant: the places above i are counted on; it falls from place to place.
+-- `search_closure::put_back` meets its contract.
 use native.Mathlib.Omega.{arith}
-use mathlib.Core.Path.{refl, ◌∙◌}
+use mathlib.Core.Path.{refl, sym, subst, ◌∙◌}
+use lib.ListN.{length, take}
 use Rattle.table.proofs.Encoding.{passed_limits}
+use Rattle.step_parts.specs.Parts.{Latest}
 use Rattle.step_parts.specs.declared.Part.TheVariants.{Pos}
-use Rattle.step_parts.proofs.Walk.{latest_less}
-use Rattle.search_closure.proofs.Counting.{counting_start, counting_few, counting_on, counting_end}
+use Rattle.step_parts.specs.Reading.{words_of, marks_of}
+use Rattle.step_reach.proofs.Places.{place_here, place_next, place_along}
+use Rattle.search_closure.specs.Back.{Counted}
+use Rattle.search_closure.proofs.Back.{newest_by}
+use Rattle.search_closure.proofs.Counting.{counting_as, counting_start, counting_few, counting_on, counting_end}
 use Rattle.search_closure.proofs.put_back.Goals as goal
 
-pub offset_bounds-queue-k : goal.offset_bounds-queue-k
-offset_bounds-queue-k c = omega (arith, c.requires.1.0.there)
-
-pub bounds-queue-k : goal.bounds-queue-k
-bounds-queue-k c = c.requires.1.0.there
-
-pub last_place-i-requires : goal.last_place-i-requires
-last_place-i-requires c = (c.requires.0.placed, c.requires.1.0.below)
+pub places-i-items-requires : goal.places-i-items-requires
+places-i-items-requires c = omega (arith, c.leave-atom.ensures.atom, (newest_by c.leave-atom.ensures.top c.args.closure.now.set.queued).below)
 
 pub loop-i-init : goal.loop-i-init
-loop-i-init c = (refl, (counting_start _ _ c.args.can.now _ _ _ _ c.requires.0.placed.passed c.requires.1.0 c.requires.1.1.1.1 c.last_place-i.ensures, c.last_place-i.ensures.some))
+loop-i-init c =
+    let p = c.args.program.now in
+    let ws = words_of p in
+    let q = c.args.closure.now.set.queue in
+    let e = c.leave-atom.ensures.top in
+    let of = c.places-i-items.ensures.of in
+    let counted = subst (λ n. Counted ws (marks_of p) (take n q) c.args.closure.now.missing) e c.requires.counted in
+    let last = subst (λ b. Latest ws p.table.index.now Pos b (length ws) c.places-i-items.result.at) c.leave-atom.ensures.atom c.places-i-items.ensures.last in
+    rw c.into_iter-i-iterator.ensures.into_iter_gives (tt, tt, refl, (of.0, of.1, of.2 ∙ c.leave-atom.ensures.atom), counting_start _ _ c.args.can.now _ _ _ _ p.table.placed.passed (newest_by e c.args.closure.now.set.queued) counted last)
 
-pub count_on-least-requires : goal.count_on-least-requires
-count_on-least-requires c = let w = c.loop-i.invariant.1.1 (omega arith) in (c.requires.0, (w.0, (w.1.clause, (c.requires.1.1.0, (omega (arith, c.requires.1.1.1.0, c.loop-i.invariant.0), counting_few _ _ _ c.args.index.now _ _ _ c.requires.0.placed.passed c.requires.1.0 c.loop-i.invariant.1.0 w.1)))))
-
-pub place_before-i-requires : goal.place_before-i-requires
-place_before-i-requires c = let w = c.loop-i.invariant.1.1 (omega arith) in (c.requires.0.placed, w.0)
-
-pub loop-i-smaller : goal.loop-i-smaller
-loop-i-smaller c = let w = c.loop-i.invariant.1.1 (omega arith) in latest_less (c.place_before-i.ensures Pos _ _ w.1) (omega arith)
+pub count_on-least-requires-clause-few : goal.count_on-least-requires-clause-few
+count_on-least-requires-clause-few c =
+    let g = c.in-Some.ensures.steps in
+    counting_few _ _ _ c.args.program.now.table.index.now _ _ _ c.args.program.now.table.placed.passed (newest_by c.leave-atom.ensures.top c.args.closure.now.set.queued) (counting_as (sym g.here) c.loop-i.invariant.4) (place_here g c.loop-i.invariant.3).1
 
 pub loop-i-preserved : goal.loop-i-preserved
-loop-i-preserved c = let w = c.loop-i.invariant.1.1 (omega arith) in let f = c.place_before-i.ensures Pos _ _ w.1 in (c.count_on-least.auto.missing ∙ c.loop-i.invariant.0, (counting_on _ _ _ _ _ _ _ c.requires.0.placed.passed c.requires.1.0 c.loop-i.invariant.1.0 w.1 c.count_on-least.ensures (omega (arith, w.1.clause, (passed_limits _ c.requires.0.placed.passed).few_clauses, c.requires.1.1.1.0, c.loop-i.invariant.0)) f, λ z. let (u, v) = f.some z in (omega (arith, w.0), v)))
+loop-i-preserved c =
+    let g = c.in-Some.ensures.steps in
+    let p = c.args.program.now.table.placed.passed in
+    let st = (place_here g c.loop-i.invariant.3).1 in
+    (tt, tt, c.loop-i.invariant.2, place_along g c.loop-i.invariant.3, counting_on _ _ _ c.args.program.now.table.index.now _ _ _ p (newest_by c.leave-atom.ensures.top c.args.closure.now.set.queued) (counting_as (sym g.here) c.loop-i.invariant.4) st c.count_on-least.ensures (omega (arith, c.loop-i.closure.long, st.clause, (passed_limits _ p).few_clauses)) (place_next g c.loop-i.invariant.3))
 
-pub shape_of-missing : goal.shape_of-missing
-shape_of-missing c = c.loop-i.invariant.0
+pub returns-clause-top : goal.returns-clause-top
+returns-clause-top c = rw c.loop-i.invariant.2 c.leave-atom.ensures.top
 
-pub returns : goal.returns
-returns c = counting_end _ _ _ c.args.index.now _ _ _ c.requires.0.placed.passed c.requires.1.0 c.loop-i.invariant.1.0 (omega arith)
+pub returns-clause-queue : goal.returns-clause-queue
+returns-clause-queue c = rw c.loop-i.invariant.2 c.leave-atom.ensures.queue
+
+pub returns-clause-counted : goal.returns-clause-counted
+returns-clause-counted c = rw (c.loop-i.invariant.2, c.leave-atom.ensures.queue) (counting_end _ _ _ c.args.program.now.table.index.now _ _ _ c.args.program.now.table.placed.passed (newest_by c.leave-atom.ensures.top c.args.closure.now.set.queued) c.loop-i.invariant.4 c.in-None.ensures.steps).0
+
+pub returns-clause-lowest : goal.returns-clause-lowest
+returns-clause-lowest c = rw (c.loop-i.invariant.2, c.leave-atom.ensures.queue, c.leave-atom.ensures.top) (counting_end _ _ _ c.args.program.now.table.index.now _ _ _ c.args.program.now.table.placed.passed (newest_by c.leave-atom.ensures.top c.args.closure.now.set.queued) c.loop-i.invariant.4 c.in-None.ensures.steps).1

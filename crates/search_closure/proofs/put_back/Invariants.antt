@@ -1,14 +1,19 @@
--- `search_closure::put_back` meets its contract. The invariant: the places above i are counted on; it falls from place to place.
+-- `search_closure::put_back` meets its contract. The invariant: the places passed are counted on.
 use mathlib.Core.Path.{◌≡◌}
-use Prim.Native.Nat.{◌+◌, ◌<◌}
-use lib.ListN.{length, get_or, take}
-use Rattle.step_parts.specs.Parts.{Stands, owner_at}
+use Prim.Native.Nat.{◌+◌}
+use lib.ListN.{get_or, take}
 use Rattle.step_parts.specs.declared.Part.TheVariants.{Pos}
+use Rattle.step_parts.specs.Reading.{words_of, marks_of}
+use Rattle.step_reach.proofs.Places.{Along}
 use Rattle.search_closure.proofs.Counting.{CountingOn}
 use Rattle.search_closure.proofs.put_back.Given as goal
 
 abbrev pub invariant-loop-i : goal.invariant-loop-i
-invariant-loop-i l = (length l.missing ≡ length l.initial.missing) × (CountingOn l.words l.marks l.can (get_or l.queue l.k 0) (take (l.k + 1) l.queue) (take l.k l.queue) l.first l.i l.missing l.least × (0 < l.i → (l.i < length l.words) × Stands l.words Pos (get_or l.queue l.k 0) (get_or l.index (owner_at l.i) 0) l.i))
-
-abbrev pub decreases-loop-i : goal.decreases-loop-i
-decreases-loop-i l = l.i
+invariant-loop-i l =
+    let q = l.fn.closure.set.queue in
+    let k = l.initial.closure.set.top in
+    goal.iterator-loop-i.can_next l.i-iterator
+    × goal.iterator-loop-i.is_finite l.i-iterator
+    × (l.closure.set ≡ l.initial.closure.set)
+    × Along l.program.table Pos (get_or q k 0) l.i-iterator
+    × CountingOn (words_of l.program) (marks_of l.program) l.can (get_or q k 0) (take (k + 1) q) (take k q) l.first l.i-iterator.at l.closure.missing l.least

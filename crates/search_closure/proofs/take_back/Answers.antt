@@ -1,51 +1,32 @@
--- `search_closure::take_back` meets its contract. The invariant: the atoms of the queue from k on are put back.
+-- `search_closure::take_back` meets its contract.
 use native.Mathlib.Omega.{arith}
-use mathlib.Core.Path.{◌≡◌, refl, ◌∙◌}
+use mathlib.Core.Path.{◌≡◌, sym, ap, subst, ◌∙◌}
+use lib.ListN.{get_or, take, length-set}
+use Rattle.step_parts.specs.Reading.{words_of, marks_of, clause_count}
 use Rattle.step_reach.proofs.Queue.{queued_few}
-use Rattle.search_closure.proofs.Back.{queued_newest, queued_byte, taking_start, taking_last, taking_on, taking_end}
+use Rattle.search_closure.specs.Back.{Full, First}
+use Rattle.search_closure.proofs.Back.{newest_by, taking_on, taking_end}
 use Rattle.search_closure.proofs.take_back.Goals as goal
 
-pub loop-k-init : goal.loop-k-init
-loop-k-init c = (refl, (refl, (refl, (c.requires.1.0, taking_start _ _ c.args.can.now _ _ _ _ c.requires.1.1.0 c.requires.1.1.1.0))))
+pub offset_bounds-closure-closure : goal.offset_bounds-closure-closure
+offset_bounds-closure-closure c = omega (arith, queued_few c.loop-closure.closure.set.queued, c.put_back-least.ensures.top)
 
-pub overflow_sub-k : goal.overflow_sub-k
-overflow_sub-k c = omega arith
+pub bounds-closure-closure : goal.bounds-closure-closure
+bounds-closure-closure c = omega (arith, queued_few c.loop-closure.closure.set.queued, c.put_back-least.ensures.top)
 
-pub put_back-least-requires : goal.put_back-least-requires
-put_back-least-requires c = let w = taking_last _ _ _ _ _ _ _ c.loop-k-test.true c.loop-k.invariant.1.1.1.1 in (c.requires.0.0, (queued_newest _ _ _ w.queued, (c.requires.0.1.0, (omega (arith, c.requires.0.1.1.0.counts, c.loop-k.invariant.1.0), w.counted))))
+pub bounds-todo-from : goal.bounds-todo-from
+bounds-todo-from c =
+    let e = c.from.ensures ∙ ap (λ q. get_or q c.put_back-least.new.closure.set.top 0) c.put_back-least.ensures.queue in
+    omega (arith, e, (newest_by c.put_back-least.ensures.top c.loop-closure.closure.set.queued).below, c.requires.todo, c.loop-closure.invariant.2)
 
-pub offset_bounds-queue-k : goal.offset_bounds-queue-k
-offset_bounds-queue-k c = let w = taking_last _ _ _ _ _ _ _ c.loop-k-test.true c.loop-k.invariant.1.1.1.1 in omega (arith, queued_few w.queued)
+pub loop-closure-preserved : goal.loop-closure-preserved
+loop-closure-preserved c =
+    let f = c.put_back-least.ensures in
+    (f.queue ∙ c.loop-closure.invariant.0, omega (arith, f.top), simp length-set c.loop-closure.invariant.2, taking_on _ _ _ _ _ _ c.loop-closure.invariant.3 f.top f.queue c.from.ensures c.loop-closure.closure.set.queued (omega (arith, c.requires.todo, c.loop-closure.invariant.2)) f.counted f.lowest)
 
-pub bounds-queue-k : goal.bounds-queue-k
-bounds-queue-k c = let w = taking_last _ _ _ _ _ _ _ c.loop-k-test.true c.loop-k.invariant.1.1.1.1 in (queued_newest _ _ _ w.queued).there
-
-pub leave-requires : goal.leave-requires
-leave-requires c = let w = taking_last _ _ _ _ _ _ _ c.loop-k-test.true c.loop-k.invariant.1.1.1.1 in queued_byte _ _ _ w.queued
-
-pub offset_bounds-queue-k-in-loop-k : goal.offset_bounds-queue-k-in-loop-k
-offset_bounds-queue-k-in-loop-k c = let w = taking_last _ _ _ _ _ _ _ c.loop-k-test.true c.loop-k.invariant.1.1.1.1 in omega (arith, queued_few w.queued)
-
-pub bounds-queue-k-in-loop-k : goal.bounds-queue-k-in-loop-k
-bounds-queue-k-in-loop-k c = let w = taking_last _ _ _ _ _ _ _ c.loop-k-test.true c.loop-k.invariant.1.1.1.1 in (queued_newest _ _ _ w.queued).there
-
-pub leave-requires-in-loop-k : goal.leave-requires-in-loop-k
-leave-requires-in-loop-k c = let w = taking_last _ _ _ _ _ _ _ c.loop-k-test.true c.loop-k.invariant.1.1.1.1 in omega (arith, (queued_newest _ _ _ w.queued).below, c.requires.0.1.1.1, c.loop-k.invariant.1.1.0)
-
-pub loop-k-smaller : goal.loop-k-smaller
-loop-k-smaller c = omega arith
-
-pub loop-k-preserved : goal.loop-k-preserved
-loop-k-preserved c = let w = taking_last _ _ _ _ _ _ _ c.loop-k-test.true c.loop-k.invariant.1.1.1.1 in (c.leave.auto.bytes ∙ c.loop-k.invariant.0, (c.put_back-least.auto.missing ∙ c.loop-k.invariant.1.0, (c.leave-in-loop-k.auto.bytes ∙ c.loop-k.invariant.1.1.0, (omega arith, taking_on _ _ _ _ _ _ _ w (omega (arith, (queued_newest _ _ _ w.queued).below, c.requires.0.1.1.1, c.loop-k.invariant.1.1.0)) c.leave.ensures c.leave-in-loop-k.ensures c.put_back-least.ensures.0 c.put_back-least.ensures.1))))
-
-pub shape_of-bytes : goal.shape_of-bytes
-shape_of-bytes c = c.loop-k.invariant.0
-
-pub shape_of-missing : goal.shape_of-missing
-shape_of-missing c = c.loop-k.invariant.1.0
-
-pub shape_of-todo : goal.shape_of-todo
-shape_of-todo c = c.loop-k.invariant.1.1.0
-
-pub returns : goal.returns
-returns c = taking_end _ _ _ _ _ _ _ _ (let e : c.loop-k.k ≡ c.args.from = omega (arith, c.loop-k.invariant.1.1.1.0) in e) c.requires.1.1.1.1 c.loop-k.invariant.1.1.1.1
+pub returns-clause-first : goal.returns-clause-first
+returns-clause-first c =
+    let p = c.args.program.now in
+    let e : c.loop-closure.closure.set.top ≡ c.args.from = omega (arith, c.loop-closure.invariant.1) in
+    let f = subst (λ q. First (Full (words_of p) (marks_of p) c.args.can.now (take c.args.from q)) (clause_count p.table) c.args.first) (sym c.loop-closure.invariant.0) c.requires.first in
+    subst (λ q. First (Full (words_of p) (marks_of p) c.args.can.now (take c.args.closure.now.set.top q)) (clause_count p.table) c.loop-closure.least) c.loop-closure.invariant.0 (taking_end _ _ _ _ _ _ c.loop-closure.invariant.3 c.args.from e f)

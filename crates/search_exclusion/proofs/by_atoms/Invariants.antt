@@ -1,15 +1,25 @@
--- `search_exclusion::by_atoms` meets its contract. The invariant: the best pair is a step, and no step with an atom before a, or with a consequence of such an atom, is smaller; and the closure of the facts is as it was.
+-- `search_exclusion::by_atoms` meets its contract. The invariant: the best pair is a step, and no step with an atom before `atom`, or with a consequence of such an atom, is smaller; and the closure of the facts is as it was.
 use mathlib.Core.Path.{◌≡◌}
-use Prim.Native.Nat.{◌-◌}
-use lib.ListN.{length, get_or, take}
-use Rattle.table.specs.View.{view}
+use Prim.Native.Nat.{◌-◌, ◌<◌, ◌≤◌}
+use lib.ListN.{length}
+use Rattle.std.specs.Prelude.{IfSome}
+use Rattle.step_parts.specs.Reading.{atom_count, clause_count, program_of}
 use Rattle.step_reach.specs.Bytes.{in_bytes}
-use Rattle.step_reach.specs.Counts.{ReachSettled}
+use Rattle.step_reach.specs.Growing.{IsSettled, taken}
+use Rattle.search_exclusion.specs.Tries.{best_of}
 use Rattle.search_exclusion.proofs.Tries.{Tried}
 use Rattle.search_exclusion.proofs.by_atoms.Given as goal
 
-abbrev pub invariant-loop-a : goal.invariant-loop-a
-invariant-loop-a l = (l.a-end ≡ get_or l.words 0 0) × ((length l.todo ≡ 1024) × (Tried (get_or l.words 0 0) (view l.words l.marks) l.a l.best (in_bytes l.todo) × ((length l.bytes ≡ length l.initial.bytes) × ((length l.missing ≡ length l.initial.missing) × ((length l.queue ≡ length l.initial.queue) × (ReachSettled l.words l.only l.bytes l.missing l.queue l.top × (take l.top l.queue ≡ take l.top l.initial.queue)))))))
+abbrev pub invariant-loop-atom : goal.invariant-loop-atom
+invariant-loop-atom l =
+    let m = clause_count l.program.table in
+    (l.atom-end ≡ atom_count l.program.table)
+    × (l.atom ≤ l.atom-end)
+    × (length l.todo ≡ 1024)
+    × IfSome l.best (λ pair. pair.target < m)
+    × Tried (atom_count l.program.table) (program_of l.program) l.atom (best_of m l.best) (in_bytes l.todo)
+    × IsSettled l.definite l.closure
+    × (taken l.closure ≡ taken l.initial.closure)
 
-abbrev pub decreases-loop-a : goal.decreases-loop-a
-decreases-loop-a l = l.a-end - l.a
+abbrev pub decreases-loop-atom : goal.decreases-loop-atom
+decreases-loop-atom l = l.atom-end - l.atom

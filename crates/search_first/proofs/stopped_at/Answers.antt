@@ -1,13 +1,12 @@
 -- `stopped_at`: by the two cases.
-use mathlib.Core.Path.{sym, ap, ◌∙◌}
+use Rattle.std.proofs.Common.{refl}
 use Rattle.search_targets.specs.Searches.{stopped_at}
-use Rattle.search_targets.proofs.Walks.{stopped_one}
 use Rattle.search_first.proofs.stopped_at.Goals as goal
 
-pub returns-in_default : goal.returns-in_default
+pub returns-in-Some : goal.returns-in-Some
 unfolding stopped_at
-returns-in_default c = sym (ap (λ f. stopped_at f c.args.end) c.in_default.is)
+returns-in-Some c = rw c.in-Some.is c.from.ensures
 
-pub returns : goal.returns
+pub returns-in-None : goal.returns-in-None
 unfolding stopped_at
-returns c = c.wide.ensures.0 ∙ sym (stopped_one _ _ _ c.in-One.is)
+returns-in-None c = rw c.in-None.is refl

@@ -1,24 +1,15 @@
 -- `first_kept`: from the number of the clause on, which then is the clause found.
-use mathlib.Core.Logic.{⊎_elim}
 use native.Mathlib.Omega.{arith}
 use Rattle.table.proofs.Encoding.{passed_limits}
 use Rattle.search_gaps.proofs.Gaps.{skipped_none, skipped_on}
+use Rattle.step_parts.proofs.Laws.{ready}
 use Rattle.search_gaps.proofs.first_kept.Goals as goal
 
-pub bounds-flags-q : goal.bounds-flags-q
-bounds-flags-q c = omega (arith, c.requires.1.1)
-
-pub kept_from-r-requires : goal.kept_from-r-requires
-kept_from-r-requires c = (c.requires.0, c.requires.1.0)
-
 pub returns-then-r-from : goal.returns-then-r-from
-returns-then-r-from c = let p = c.requires in skipped_none _ _ _ _ _ _ _ p.1.1.1.1 p.1.1.0 c.kept_from-r.ensures.0 (λ j a b. ⊎_elim (λ e. absurd (omega arith)) (λ e. omega (arith, c.wide.ensures.0)) c.greater-from.ensures.1.1) c.kept_from-r.ensures.1
+returns-then-r-from c = skipped_none _ _ _ _ _ _ _ c.requires.gaps c.requires.clause c.kept_from-r.ensures.within (λ j a b. omega (arith, c.max-from.ensures, c.next.ensures.next)) c.kept_from-r.ensures.gone
 
-pub narrow-requires : goal.narrow-requires
-narrow-requires c = omega (arith, c.kept_from-r.ensures.0, c.requires.1.0, (passed_limits _ c.requires.0.placed.passed).few_clauses)
-
-pub bounds-flags-q-2 : goal.bounds-flags-q-2
-bounds-flags-q-2 c = omega (arith, c.requires.1.1)
+pub set_next-requires-clause-word : goal.set_next-requires-clause-word
+set_next-requires-clause-word c = omega (arith, c.kept_from-r.ensures.within, c.requires.end, (passed_limits _ (ready c.args.program.now).placed.passed).few_clauses)
 
 pub returns : goal.returns
-returns c = let p = c.requires in rw c.narrow.ensures (skipped_on _ _ _ _ _ _ _ p.1.1.1.1 p.1.1.0 c.kept_from-r.ensures.0 (λ j a b. ⊎_elim (λ e. absurd (omega arith)) (λ e. omega (arith, c.wide.ensures.0)) c.greater-from.ensures.1.1) c.kept_from-r.ensures.1 p.1.1.1.0)
+returns c = rw c.set_next.ensures (skipped_on _ _ _ _ _ _ _ c.requires.gaps c.requires.clause c.kept_from-r.ensures.within (λ j a b. omega (arith, c.max-from.ensures, c.next.ensures.next)) c.kept_from-r.ensures.gone c.next.ensures.long)

@@ -12,15 +12,12 @@ use Rattle.search_gaps.proofs.kept_from.Goals as goal
 pub loop-i-init : goal.loop-i-init
 loop-i-init c = λ j a b. absurd (omega arith)
 
-pub kept-requires : goal.kept-requires
-kept-requires c = (c.requires.0, omega (arith, c.loop-i-test.true, c.requires.1))
-
 pub returns-then-kept : goal.returns-then-kept
-returns-then-kept c = (omega (arith, c.loop-i-test.true), c.loop-i.invariant)
+returns-then-kept c = record { within = omega (arith, c.loop-i-test.true); gone = c.loop-i.invariant }
 
 pub loop-i-preserved : goal.loop-i-preserved
 loop-i-preserved c = λ j a b. by_cases (dec_lt j c.loop-i.i) (λ x. c.loop-i.invariant j a x)
-    (λ x k. not_so (sym c.kept.ensures ∙ c.if-kept.false) (subst (λ i. So (entry (view c.args.words.now c.args.marks.now) i).kept) (let e : j ≡ c.loop-i.i = omega arith in e) k))
+    (λ x k. not_so (sym c.kept.ensures ∙ c.if-kept.false) (subst (λ i. So (entry (view c.args.program.now.table.words.now c.args.program.now.marks.now) i).kept) (let e : j ≡ c.loop-i.i = omega arith in e) k))
 
 pub returns : goal.returns
-returns c = (omega arith, λ j a b. c.loop-i.invariant j a (omega (arith, c.loop-i-test.false)))
+returns c = record { within = omega arith; gone = λ j a b. c.loop-i.invariant j a (omega (arith, c.loop-i-test.false)) }

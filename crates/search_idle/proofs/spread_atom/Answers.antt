@@ -1,11 +1,25 @@
 -- `search_idle::spread_atom` meets its contract.
+use Rattle.step_parts.specs.Reading.{program_of}
+use Rattle.step_parts.proofs.Walk.{walk_start, walk_on, walk_end}
+use Rattle.step_reach.specs.Bytes.{in_bytes}
+use Rattle.search_idle.specs.Forgets.{Met}
+use Rattle.search_idle.proofs.Forgets.{onward_none, onward_trans, met_later}
 use Rattle.search_idle.proofs.spread_atom.Goals as goal
 
-pub last_place-last-requires : goal.last_place-last-requires
-last_place-last-requires c = (c.requires.0.placed, c.requires.1.0)
+pub loop-i-init : goal.loop-i-init
+loop-i-init c =
+    let p = c.args.program.now in
+    let s = c.args.set.now in
+    rw c.into_iter-i-iterator.ensures.into_iter_gives (tt, tt, onward_none _ _ _ _ s.queued, walk_start p.table c.args.part c.args.atom (Met (program_of p) (in_bytes s.bytes) c.args.idle.now) _ c.places-i-items.ensures.of c.places-i-items.ensures.last)
 
-pub spread_places-requires : goal.spread_places-requires
-spread_places-requires c = (c.requires.0, (record { part = _; atom = _; is = c.last_place-last.ensures }, c.requires.1.1))
+pub loop-i-preserved : goal.loop-i-preserved
+loop-i-preserved c =
+    let p = c.args.program.now in (
+      tt,
+      tt,
+      onward_trans c.loop-i.invariant.2 c.meet.ensures.onward,
+      walk_on p.table c.args.part c.args.atom c.in-Some.ensures.steps (Met (program_of p) (in_bytes c.loop-i.set.bytes) c.loop-i.idle) (Met (program_of p) (in_bytes c.meet.new.set.bytes) c.meet.new.idle) (λ t _. met_later (program_of p) t c.meet.ensures.onward) c.meet.ensures.met c.loop-i.invariant.3,
+    )
 
-pub returns : goal.returns
-returns c = (c.spread_places.ensures.0, c.spread_places.ensures.1.each _ _ c.last_place-last.ensures)
+pub returns-clause-met : goal.returns-clause-met
+returns-clause-met c = let p = c.args.program.now in record { each = walk_end p.table c.args.part c.args.atom (Met (program_of p) (in_bytes c.loop-i.set.bytes) c.loop-i.idle) _ c.in-None.ensures.steps c.loop-i.invariant.3 }

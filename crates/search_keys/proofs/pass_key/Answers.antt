@@ -1,31 +1,11 @@
 -- `pass_key`: a fresh key is spread, then cleared.
-use native.Mathlib.Omega.{arith}
+use mathlib.Core.Path.{sym, ◌∙◌}
+use Rattle.rewriting.proofs.Rows.{target_bounds}
 use Rattle.search_keys.proofs.States.{key_passed, key_stale}
 use Rattle.search_keys.proofs.pass_key.Goals as goal
 
-pub overflow_mul-at : goal.overflow_mul-at
-overflow_mul-at c = omega (arith, c.wide.ensures.0, c.requires.1.1.0)
-
-pub overflow_add-at-2 : goal.overflow_add-at-2
-overflow_add-at-2 c = omega (arith, c.wide.ensures.0, c.requires.1.1)
-
-pub offset_bounds-flags-at : goal.offset_bounds-flags-at
-offset_bounds-flags-at c = omega (arith, c.wide.ensures.0, c.requires.1.1)
-
-pub bounds-flags-at : goal.bounds-flags-at
-bounds-flags-at c = omega (arith, c.wide.ensures.0, c.requires.1.1, c.requires.0.rows.long)
-
-pub returns-then-flags-at-eq0 : goal.returns-then-flags-at-eq0
-returns-then-flags-at-eq0 c = key_stale _ _ _ _ _ _ c.requires.0 _ _ (rw c.wide.ensures.0 at c.if-flags-at-eq0.true)
-
-pub spread_key-requires : goal.spread_key-requires
-spread_key-requires c = c.requires
-
-pub offset_bounds-flags-at-2 : goal.offset_bounds-flags-at-2
-offset_bounds-flags-at-2 c = omega (arith, c.wide.ensures.0, c.requires.1.1)
-
-pub bounds-flags-at-2 : goal.bounds-flags-at-2
-bounds-flags-at-2 c = omega (arith, c.wide.ensures.0, c.requires.1.1, c.requires.0.rows.long, c.spread_key.ensures.raising.long)
+pub returns-then-flag_at-eq0 : goal.returns-then-flag_at-eq0
+returns-then-flag_at-eq0 c = key_stale _ _ _ _ _ _ c.requires.state _ _ (sym c.flag_at.ensures ∙ c.if-flag_at-eq0.true)
 
 pub returns : goal.returns
-returns c = rw c.wide.ensures.0 (key_passed _ _ _ _ _ _ c.requires.0 _ _ _ c.requires.1.1.0.0 c.requires.1.1.0.1 c.requires.1.1.1 c.spread_key.ensures)
+returns c = rw c.set_flag.ensures (key_passed _ _ _ _ _ _ c.requires.state _ _ _ (target_bounds _ c.requires.kind).0 (target_bounds _ c.requires.kind).1 c.requires.key c.spread_key.ensures)

@@ -9,7 +9,4 @@ returns c =
     let one = c.open_clauses.ensures in
     let two = c.open_clauses-2.ensures in
     let three = c.open_clauses-3.ensures in
-    let p = c.requires.0.placed.passed in (
-      opened_more _ _ _ one.0 (opened_more _ _ _ two.0 three.0),
-      parts_all _ _ _ _ (all_more _ c.args.marks.now _ _ p (opened_more _ _ _ two.0 three.0) Head _ one.1) (all_more _ c.args.marks.now _ _ p three.0 Pos _ two.1) three.1,
-    )
+    record { opened = opened_more _ _ _ one.opened (opened_more _ _ _ two.opened three.opened); fresh = parts_all _ _ _ _ (all_more _ c.args.program.now.marks.now _ _ c.args.program.now.table.placed.passed (opened_more _ _ _ two.opened three.opened) Head _ one.fresh) (all_more _ c.args.program.now.marks.now _ _ c.args.program.now.table.placed.passed three.opened Pos _ two.fresh) three.fresh }

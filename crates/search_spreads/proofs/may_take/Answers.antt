@@ -8,8 +8,5 @@ use Rattle.search_spreads.proofs.may_take.Goals as goal
 pub returns-then-not-holds : goal.returns-then-not-holds
 returns-then-not-holds c = λ _ h. not_so (sym c.holds.ensures ∙ c.if-not-holds.true) (eligible_ask _ _ _ h).2
 
-pub passed_over-requires : goal.passed_over-requires
-passed_over-requires c = (c.requires.0, (c.requires.1.0, c.requires.1.1.0))
-
 pub returns : goal.returns
 returns c = λ e h. ((eligible_iff _ _ _).0 h).1 (sym (c.passed_over.ensures _) ∙ not-false _ e)

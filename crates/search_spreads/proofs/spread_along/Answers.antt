@@ -1,43 +1,33 @@
--- `spread_along`: the places passed are done; at place 0 all are.
-use Prim.Native.Nat.{◌<◌}
-use mathlib.Core.Path.{sym, subst, ◌∙◌}
-use native.Mathlib.Omega.{arith}
-use lib.ListN.{get_or}
-use Rattle.step_parts.proofs.Index.{stands_small}
-use Rattle.step_parts.proofs.Walk.{latest_less}
-use Rattle.search_spreads.proofs.Clues.{along_none, along_on, along_end}
+-- `spread_along`: the places passed are done.
+use mathlib.Core.Path.{sym, subst}
+use Rattle.step_parts.proofs.Walk.{walk_start, walk_at, walk_before, walk_on}
+use Rattle.search_spreads.proofs.Clues.{SpreadAlong, along_none, along_on, along_end}
 use Rattle.search_spreads.proofs.spread_along.Goals as goal
 
-pub last_place-i-requires : goal.last_place-i-requires
-last_place-i-requires c = (c.requires.0.placed, c.requires.1.1.1.1.1.0)
-
 pub loop-i-init : goal.loop-i-init
-loop-i-init c = (c.args.part, c.requires.1.1.1.1.1.1, along_none _ _ _ _ _ _ _ _ _ _ c.requires.0.placed.passed c.last_place-i.ensures)
+loop-i-init c =
+    let p = c.args.facts.now.program in
+    let last = c.places-i-items.ensures.last in
+    rw c.into_iter-i-iterator.ensures.into_iter_gives (tt, tt, along_none _ p.marks.now _ _ _ _ _ _ _ _ p.table.placed.passed last, walk_start p.table c.args.part c.args.a (λ t. Unit {0}) _ c.places-i-items.ensures.of last)
 
-pub owner-t-requires : goal.owner-t-requires
-owner-t-requires c = let l = c.loop-i-test.true in (c.requires.0.placed, (stands_small c.requires.0.placed.passed (c.loop-i.invariant.2.here (omega arith))).1)
+pub owner-requires : goal.owner-requires
+owner-requires c = (walk_at c.args.facts.now.program.table c.args.part c.args.a c.in-Some.ensures.steps (λ t. Unit {0}) c.loop-i.invariant.3).0
 
-pub place_before-i-requires : goal.place_before-i-requires
-place_before-i-requires c = let l = c.loop-i-test.true in (c.requires.0.placed, (stands_small c.requires.0.placed.passed (c.loop-i.invariant.2.here (omega arith))).1)
-
-pub spread_one-requires : goal.spread_one-requires
-spread_one-requires c =
-    let p = c.requires in
-    let l = c.loop-i-test.true in
-    let s = c.loop-i.invariant.2.here (omega arith) in
-    (p.0, (subst (λ t. t < get_or c.args.words.now 1 0) (sym c.owner-t.ensures) s.clause, (p.1.0, (p.1.1.0, (p.1.1.1.0, c.loop-i.invariant.2.raising.long ∙ p.1.1.1.1.0)))))
-
-pub loop-i-smaller : goal.loop-i-smaller
-loop-i-smaller c = let l = c.loop-i-test.true in let h : 0 < c.loop-i.i = omega arith in latest_less (c.place_before-i.ensures _ _ _ (c.loop-i.invariant.2.here h)) h
+pub spread_one-requires-clause-target : goal.spread_one-requires-clause-target
+spread_one-requires-clause-target c = rw c.owner.ensures (walk_at c.args.facts.now.program.table c.args.part c.args.a c.in-Some.ensures.steps (λ t. Unit {0}) c.loop-i.invariant.3).1.clause
 
 pub loop-i-preserved : goal.loop-i-preserved
 loop-i-preserved c =
-    let l = c.loop-i-test.true in
-    let w = c.loop-i.invariant in
-    (w.0, w.1, along_on _ _ _ _ _ _ _ _ _ _ _ w.2 c.requires.0.placed.passed (omega arith) (omega (arith, c.requires.1.1.0)) _ c.place_before-i.ensures _ _ c.owner-t.ensures c.spread_one.ensures)
-
-pub shape_of-flags : goal.shape_of-flags
-shape_of-flags c = c.loop-i.invariant.2.raising.long
+    let p = c.args.facts.now.program in
+    let k = c.args.key in
+    let g = c.in-Some.ensures.steps in
+    let w = c.loop-i.invariant.3 in
+    let along = subst (λ i. SpreadAlong p.table.words.now p.marks.now p.table.index.now c.args.flags.now c.loop-i.flags k.kind k.partner k.atom c.args.part c.args.a i) (sym g.here) c.loop-i.invariant.2 in (
+      tt,
+      tt,
+      along_on _ _ _ _ _ _ _ _ _ _ _ along p.table.placed.passed g.there _ (walk_before p.table c.args.part c.args.a g (λ t. Unit {0}) w) _ _ c.owner.ensures (c.spread_one.ensures.raising, c.spread_one.ensures.covered),
+      walk_on p.table c.args.part c.args.a g (λ t. Unit {0}) (λ t. Unit {0}) (λ t h x. tt) tt w,
+    )
 
 pub returns : goal.returns
-returns c = let w = c.loop-i.invariant in along_end _ _ _ _ _ _ _ _ _ _ _ w.2 c.requires.0.placed.passed c.loop-i-test.false w.1
+returns c = along_end _ _ _ _ _ _ _ _ _ _ _ c.loop-i.invariant.2 c.args.facts.now.program.table.placed.passed c.in-None.ensures.steps c.requires.clue

@@ -1,11 +1,11 @@
--- `spread_along`: the places passed are done; at place 0 all are.
-use Rattle.step_parts.specs.declared.Part.{Part}
-use Rattle.search_spreads.specs.Spreads.{Clue}
+-- `spread_along`: the places passed are done.
+use Rattle.step_parts.proofs.Walk.{Walked}
 use Rattle.search_spreads.proofs.Clues.{SpreadAlong}
 use Rattle.search_spreads.proofs.spread_along.Given as goal
 
 abbrev pub invariant-loop-i : goal.invariant-loop-i
-invariant-loop-i l = (x : Part) × Clue l.words l.marks l.kind l.p l.atom x l.a × SpreadAlong l.words l.marks l.index l.initial.flags l.flags l.kind l.p l.atom x l.a l.i
-
-abbrev pub decreases-loop-i : goal.decreases-loop-i
-decreases-loop-i l = l.i
+invariant-loop-i l =
+    goal.iterator-loop-i.can_next l.i-iterator
+    × goal.iterator-loop-i.is_finite l.i-iterator
+    × SpreadAlong l.facts.program.table.words.now l.facts.program.marks.now l.facts.program.table.index.now l.initial.flags l.flags l.key.kind l.key.partner l.key.atom l.fn.part l.a l.i-iterator.at
+    × Walked l.facts.program.table l.fn.part l.a (λ t. Unit {0}) l.i-iterator

@@ -1,20 +1,23 @@
 -- `first_by_atom`: targets passed have no step; in the walk, what is left of the part decides.
-use Prim.Native.Nat.{◌-◌, ◌*◌}
+use Prim.Native.Nat.{◌-◌}
 use mathlib.Core.Path.{◌≡◌}
-use Rattle.search_targets.specs.declared.Found.TheVariants.{Nothing}
+use Rattle.std.specs.Prelude.{None}
+use Rattle.rewriting.specs.Kinds.{number}
 use Rattle.search_keys.specs.State.{Swept}
+use Rattle.table.specs.Slices.{kept_of}
 use Rattle.search_targets.specs.Searches.{PartWalk}
 use Rattle.search_flags.specs.Flags.{Inside}
 use Rattle.search_targets.proofs.first_by_atom.Given as goal
 
-abbrev pub invariant-loop-i : goal.invariant-loop-i
-invariant-loop-i l = (l.found ≡ Nothing) × PartWalk l.words l.marks l.kind l.t l.i l.e
-
-abbrev pub decreases-loop-i : goal.decreases-loop-i
-decreases-loop-i l = l.e - l.i
+abbrev pub invariant-loop-atom : goal.invariant-loop-atom
+invariant-loop-atom l =
+    goal.iterator-loop-atom.can_next l.atom-iterator
+    × goal.iterator-loop-atom.is_finite l.atom-iterator
+    × (l.found ≡ None)
+    × PartWalk l.facts.program l.kind l.t (kept_of l.atom-iterator.words.now l.atom-iterator.marks.now)
 
 abbrev pub invariant-search : goal.invariant-search
-invariant-search l = (l.found ≡ Nothing) × ((l.base ≡ l.kind * 2048) × (Swept l.words l.marks l.initial.flags l.flags l.kind × Inside l.flags l.kind l.t l.end))
+invariant-search l = (l.found ≡ None) × (Swept l.facts.program.table.words.now l.facts.program.marks.now l.initial.flags l.flags l.kind × Inside l.flags (number l.kind) l.t l.end)
 
 abbrev pub decreases-search : goal.decreases-search
 decreases-search l = l.end - l.t

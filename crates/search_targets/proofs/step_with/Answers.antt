@@ -4,11 +4,11 @@ use native.Mathlib.Omega.{arith}
 use Rattle.table.proofs.Encoding.{passed_limits}
 use Rattle.search_targets.proofs.step_with.Goals as goal
 
-pub narrow-requires : goal.narrow-requires
-narrow-requires c = omega (arith, c.requires.1.0, (passed_limits _ c.requires.0.placed.passed).few_clauses)
-
-pub narrow-requires-2 : goal.narrow-requires-2
-narrow-requires-2 c = omega (arith, c.requires.1.1.0, (passed_limits _ c.requires.0.placed.passed).few_clauses)
-
 pub returns : goal.returns
-returns c = c.new.ensures ∙ rw (c.narrow.ensures, c.narrow-2.ensures, c.named_atom-atom.ensures, c.first_atom-first.ensures)
+returns c = c.new.ensures ∙ rw (c.named_atom-atom.ensures, c.first_atom-first.ensures)
+
+pub overflow_cast-t : goal.overflow_cast-t
+overflow_cast-t c = omega (arith, c.requires.target, (passed_limits _ c.args.program.now.table.placed.passed).few_clauses)
+
+pub overflow_cast-p : goal.overflow_cast-p
+overflow_cast-p c = omega (arith, c.requires.partner, (passed_limits _ c.args.program.now.table.placed.passed).few_clauses)

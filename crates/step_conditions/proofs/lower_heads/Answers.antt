@@ -1,13 +1,24 @@
--- `lower_heads`: the words of the head.
-use mathlib.Core.Path.{subst}
-use Rattle.step_conditions.specs.Known.{Positive}
-use Rattle.step_parts.specs.declared.Part.TheVariants.{Head}
-use Rattle.step_parts.proofs.Laws.{part_is, part_marked, part_ascends}
-use Rattle.step_conditions.proofs.Heads.{tallied_of, heads_positive}
+-- `step_conditions::lower_heads` meets its contract.
+use mathlib.Core.Path.{sym}
+use Rattle.table.proofs.Parts.{view_ascends}
+use Rattle.step_parts.specs.Reading.{clause_of}
+use Rattle.step_conditions.proofs.Heads.{tally_start, untally_room, untally_on, tally_end, heads_positive}
 use Rattle.step_conditions.proofs.lower_heads.Goals as goal
 
-pub lower_part-requires : goal.lower_part-requires
-lower_part-requires c = (part_marked _ _ _ c.requires.0 _ c.requires.1.0 _ _ c.span-s.ensures, (part_ascends _ _ _ c.requires.0 _ c.requires.1.0 _ _ c.span-s.ensures, subst (λ l. Positive l c.args.heads.now) (part_is _ _ _ c.requires.0 _ c.requires.1.0 Head _ c.span-s.ensures) (heads_positive _ _ _ _ c.requires.1.1.0 c.requires.1.1.1)))
+pub loop-atom-init : goal.loop-atom-init
+loop-atom-init c =
+    let p = c.args.program.now in
+    let head = (clause_of p c.args.t).head in
+    (tt, tt, rw (c.into_iter-atom-iterator.ensures.into_iter_gives, c.atoms-atom-items.ensures) (tally_start head c.args.heads.now (view_ascends p.table.words.now p.marks.now p.table.placed.passed c.args.t).head))
+
+pub lower-requires : goal.lower-requires
+lower-requires c = untally_room _ _ _ _ _ c.loop-atom.invariant.2 c.in-Some.ensures.steps (heads_positive _ _ _ c.args.t c.requires.heads c.requires.kept)
+
+pub loop-atom-preserved : goal.loop-atom-preserved
+loop-atom-preserved c = (tt, tt, untally_on _ _ _ _ _ c.loop-atom.invariant.2 c.in-Some.ensures.steps (untally_room _ _ _ _ _ c.loop-atom.invariant.2 c.in-Some.ensures.steps (heads_positive _ _ _ c.args.t c.requires.heads c.requires.kept)) _ c.lower.ensures)
+
+pub shape_of-heads : goal.shape_of-heads
+shape_of-heads c = sym c.loop-atom.invariant.2.same
 
 pub returns : goal.returns
-returns c = tallied_of _ _ _ _ (part_is _ _ _ c.requires.0 _ c.requires.1.0 Head _ c.span-s.ensures) c.lower_part.ensures
+returns c = tally_end _ _ _ c.in-None.ensures.steps.0 c.loop-atom.invariant.2

@@ -1,11 +1,23 @@
 -- `step_conditions::tally_head` meets its contract.
-use Rattle.step_parts.specs.declared.Part.TheVariants.{Head}
-use Rattle.step_parts.proofs.Laws.{part_is, part_marked, part_ascends}
-use Rattle.step_conditions.proofs.Heads.{tallied_of}
+use Rattle.table.proofs.Parts.{view_ascends}
+use Rattle.step_parts.specs.Reading.{clause_of}
+use Rattle.step_conditions.proofs.Heads.{tally_start, tally_room, tally_on, tally_end}
 use Rattle.step_conditions.proofs.tally_head.Goals as goal
 
-pub tally-requires : goal.tally-requires
-tally-requires c = (part_marked _ _ _ c.requires.0 _ c.requires.1.0 _ _ c.span-s.ensures, (part_ascends _ _ _ c.requires.0 _ c.requires.1.0 _ _ c.span-s.ensures, c.requires.1.1))
+pub loop-atom-init : goal.loop-atom-init
+loop-atom-init c =
+    let p = c.args.program.now in
+    let head = (clause_of p c.args.t).head in
+    (tt, tt, rw (c.into_iter-atom-iterator.ensures.into_iter_gives, c.atoms-atom-items.ensures) (tally_start head c.args.heads.now (view_ascends p.table.words.now p.marks.now p.table.placed.passed c.args.t).head))
+
+pub bump-requires : goal.bump-requires
+bump-requires c = tally_room _ _ _ _ _ c.loop-atom.invariant.2 c.in-Some.ensures.steps c.requires.room
+
+pub loop-atom-preserved : goal.loop-atom-preserved
+loop-atom-preserved c = (tt, tt, tally_on _ _ _ _ _ c.loop-atom.invariant.2 c.in-Some.ensures.steps _ c.bump.ensures)
+
+pub shape_of-heads : goal.shape_of-heads
+shape_of-heads c = c.loop-atom.invariant.2.same
 
 pub returns : goal.returns
-returns c = tallied_of _ _ _ _ (part_is _ _ _ c.requires.0 _ c.requires.1.0 Head _ c.span-s.ensures) c.tally.ensures
+returns c = tally_end _ _ _ c.in-None.ensures.steps.0 c.loop-atom.invariant.2

@@ -3,7 +3,7 @@ use Rattle.step_exclusion.proofs.Marks.{clear_span}
 use Rattle.step_exclusion.proofs.clear_in.Goals as goal
 
 pub clear_part-requires : goal.clear_part-requires
-clear_part-requires c = (c.span-s.ensures.order, (c.span-s.ensures.fits, c.requires.0.marks))
+clear_part-requires c = record { order = c.span-span.ensures.order; words = c.span-span.ensures.fits; marks = c.requires.marks }
 
 pub returns : goal.returns
-returns c = clear_span _ _ _ _ _ _ _ c.span-s.ensures c.clear_part.ensures
+returns c = clear_span _ _ _ _ _ _ _ c.span-span.ensures c.clear_part.ensures

@@ -4,4 +4,4 @@ use Rattle.table_clauses.proofs.Parts.{part_at}
 use Rattle.table_clauses.proofs.head_of.Goals as goal
 
 pub returns : goal.returns
-returns c = part_at _ _ _ _ _ refl c.wide.ensures.0
+returns c = part_at _ _ _ _ _ refl c.from.ensures

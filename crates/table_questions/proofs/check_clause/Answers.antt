@@ -11,11 +11,11 @@ returns-then-left-lt3 c = simp (lt-leb _ _ c.if-left-lt3.true)
 pub returns-then-left-h : goal.returns-then-left-h
 unfolding clause_from ask
 returns-then-left-h c =
-    rw (← c.wide-q.ensures.0, ← c.wide-p.ensures.0, ← c.wide-h.ensures.0)
+    rw (← c.from-q.ensures, ← c.from-p.ensures, ← c.from-h.ensures)
     (simp (le-leb _ _ c.if-left-lt3.false, lt-leb _ _ c.if-left-h.true))
 
 pub returns : goal.returns
 unfolding clause_from ask
 returns c =
-    rw (← c.wide-q.ensures.0, ← c.wide-p.ensures.0, ← c.wide-h.ensures.0)
+    rw (← c.from-q.ensures, ← c.from-p.ensures, ← c.from-h.ensures)
     (simp (le-leb _ _ c.if-left-lt3.false, le-leb _ _ c.if-left-h.false) c.check_parts.ensures)

@@ -8,6 +8,7 @@ use Rattle.table.proofs.Encoding.{clause_within}
 use Rattle.table.specs.Questions.{on_walk, all_used, table_of}
 use Rattle.answers.specs.Answers.{ask}
 use borrow.Author.Rules.{rules}
+use Rattle.std.proofs.lemmas.Result.{err_from_is_err_and}
 use Rattle.table_questions.proofs.check_table.Goals as goal
 
 pub returns-then-len-lt2 : goal.returns-then-len-lt2
@@ -29,16 +30,17 @@ returns-then-clauses-gt-MAX_CLAUSES c = simp (le-leb _ _ c.if-len-lt2.false, le-
 pub loop-k-init : goal.loop-k-init
 loop-k-init c = (search rules, (search rules, simp sub-zero))
 
-pub returns-in-Stop : goal.returns-in-Stop
+pub returns-in_err-at : goal.returns-in_err-at
 unfolding all_used on_walk
-returns-in-Stop c =
-    let q = sym c.check_clause.ensures ∙ c.in-Stop.is in
-    sym (table_on _ _ (omega arith) (omega arith) (omega arith) (omega arith)
-    (sym c.loop-k.invariant.1.1 ∙ clauses_bad _ _ _ _ _ c.loop-k-test.true _ q))
+returns-in_err-at c =
+    let q = sym c.check_clause.ensures ∙ c.in_err-at.was in
+    let p = err_from_is_err_and c.from_residual.result c.from_residual.ensures.1 in
+    rw (p.1, p.2) (sym (table_on _ _ (omega arith) (omega arith) (omega arith) (omega arith)
+    (sym c.loop-k.invariant.1.1 ∙ clauses_bad _ _ _ _ _ c.loop-k-test.true _ q)))
 
 pub loop-k-preserved : goal.loop-k-preserved
 loop-k-preserved c =
-    let q = sym c.check_clause.ensures ∙ c.in-To.is in (
+    let q = sym c.check_clause.ensures ∙ c.in_ok-at.was in (
       search rules,
       (
         clause_within _ _ _ _ c.loop-k.invariant.1.0 q,

@@ -1,47 +1,50 @@
 -- `text_reader::read_clause` meets its contract. The three lines, then the counts. Assumes nothing.
-use mathlib.Core.Path.{◌∙◌}
 use native.Mathlib.Omega.{arith}
-use Rattle.table.specs.Encoding.{clause_words}
-use Rattle.text_form.specs.Stored.{list_words}
-use Rattle.text_lines.proofs.Answers.{stores_stop, held, stopped}
-use Rattle.text_reader.proofs.Clauses.{part_room, part_next, head_stop, pos_stop, neg_stop, clause_read}
+use Rattle.text_lines.proofs.Answers.{handed_on}
+use Rattle.text_reader.proofs.Clauses.{part_room, head_stop, pos_stop, neg_stop, clause_read}
 use Rattle.text_reader.proofs.read_clause.Goals as goal
 
-pub returns-in_default : goal.returns-in_default
-returns-in_default c = rw c.in_default.is (stores_stop clause_words _ _ _ _ _ (head_stop _ _ _ _ _ (stopped list_words _ _ _ _ _ _ c.read_list-head.ensures c.in_default.is)))
+pub returns-in_err-head : goal.returns-in_err-head
+returns-in_err-head c = rw (handed_on _ _ c.from_residual.ensures.1) (head_stop _ _ _ _ _ c.in_err-head.ensures)
 
 pub overflow_add-b : goal.overflow_add-b
-overflow_add-b c = omega (arith, part_room _ _ _ _ _ _ _ _ _ (held list_words _ _ _ _ _ _ _ c.read_list-head.ensures c.in-Got.is))
+overflow_add-b c = omega (arith, part_room _ _ _ _ _ _ _ _ _ c.in_ok-head.ensures)
 
-pub read_list-pos-requires : goal.read_list-pos-requires
-read_list-pos-requires c = (part_next _ _ _ _ _ _ _ _ _ (held list_words _ _ _ _ _ _ _ c.read_list-head.ensures c.in-Got.is), (omega (arith, part_room _ _ _ _ _ _ _ _ _ (held list_words _ _ _ _ _ _ _ c.read_list-head.ensures c.in-Got.is)), c.read_list-head.auto.words ∙ c.requires.1.1))
+pub read_list-requires-2 : goal.read_list-requires-2
+read_list-requires-2 c = omega (arith, part_room _ _ _ _ _ _ _ _ _ c.in_ok-head.ensures)
 
-pub returns-in_default-pos : goal.returns-in_default-pos
-returns-in_default-pos c = rw c.in_default-pos.is (stores_stop clause_words _ _ _ _ _ (pos_stop _ _ _ _ _ _ _ _ (held list_words _ _ _ _ _ _ _ c.read_list-head.ensures c.in-Got.is) _ (stopped list_words _ _ _ _ _ _ c.read_list-pos.ensures c.in_default-pos.is)))
+pub returns-in_err-pos : goal.returns-in_err-pos
+returns-in_err-pos c =
+    let h = c.in_ok-head.ensures in
+    rw (handed_on _ _ c.from_residual-in_err-pos.ensures.1) (pos_stop _ _ _ _ _ _ _ h _ (rw h.same_text at c.in_err-pos.ensures))
 
 pub overflow_add-d : goal.overflow_add-d
-overflow_add-d c = omega (arith, part_room _ _ _ _ _ _ _ _ _ (held list_words _ _ _ _ _ _ _ c.read_list-pos.ensures c.in-Got-pos.is))
+overflow_add-d c = omega (arith, part_room _ _ _ _ _ _ _ _ _ c.in_ok-pos.ensures)
 
-pub read_list-neg-requires : goal.read_list-neg-requires
-read_list-neg-requires c = (part_next _ _ _ _ _ _ _ _ _ (held list_words _ _ _ _ _ _ _ c.read_list-pos.ensures c.in-Got-pos.is), (omega (arith, part_room _ _ _ _ _ _ _ _ _ (held list_words _ _ _ _ _ _ _ c.read_list-pos.ensures c.in-Got-pos.is)), c.read_list-pos.auto.words ∙ (c.read_list-head.auto.words ∙ c.requires.1.1)))
+pub read_list-requires-3 : goal.read_list-requires-3
+read_list-requires-3 c = omega (arith, part_room _ _ _ _ _ _ _ _ _ c.in_ok-pos.ensures)
 
-pub returns-in_default-neg : goal.returns-in_default-neg
-returns-in_default-neg c = rw c.in_default-neg.is (stores_stop clause_words _ _ _ _ _ (neg_stop _ _ _ _ _ _ _ _ (held list_words _ _ _ _ _ _ _ c.read_list-head.ensures c.in-Got.is) _ _ _ (held list_words _ _ _ _ _ _ _ c.read_list-pos.ensures c.in-Got-pos.is) _ (stopped list_words _ _ _ _ _ _ c.read_list-neg.ensures c.in_default-neg.is)))
+pub returns-in_err-neg : goal.returns-in_err-neg
+returns-in_err-neg c =
+    let h = c.in_ok-head.ensures in
+    let p = rw h.same_text at c.in_ok-pos.ensures in
+    rw (handed_on _ _ c.from_residual-in_err-neg.ensures.1) (neg_stop _ _ _ _ _ _ _ h _ _ p _ (rw p.same_text at c.in_err-neg.ensures))
 
 pub put_counts-requires : goal.put_counts-requires
-put_counts-requires c = let r = part_room _ _ _ _ _ _ _ _ _ (held list_words _ _ _ _ _ _ _ c.read_list-neg.ensures c.in-Got-neg.is) in (omega arith, (omega arith, (omega arith, omega arith)))
+put_counts-requires c = let r = part_room _ _ _ _ _ _ _ _ _ c.in_ok-neg.ensures in record { place = omega arith; head = omega arith; pos = omega arith; neg = omega arith }
 
 pub overflow_add-result : goal.overflow_add-result
-overflow_add-result c = omega (arith, part_room _ _ _ _ _ _ _ _ _ (held list_words _ _ _ _ _ _ _ c.read_list-neg.ensures c.in-Got-neg.is))
+overflow_add-result c = omega (arith, part_room _ _ _ _ _ _ _ _ _ c.in_ok-neg.ensures)
 
 pub overflow_add-result-2 : goal.overflow_add-result-2
-overflow_add-result-2 c = omega (arith, part_room _ _ _ _ _ _ _ _ _ (held list_words _ _ _ _ _ _ _ c.read_list-neg.ensures c.in-Got-neg.is))
+overflow_add-result-2 c = omega (arith, part_room _ _ _ _ _ _ _ _ _ c.in_ok-neg.ensures)
 
 pub overflow_add-result-3 : goal.overflow_add-result-3
-overflow_add-result-3 c = omega (arith, part_room _ _ _ _ _ _ _ _ _ (held list_words _ _ _ _ _ _ _ c.read_list-neg.ensures c.in-Got-neg.is))
-
-pub shape_of-words : goal.shape_of-words
-shape_of-words c = c.put_counts.auto.words ∙ (c.read_list-neg.auto.words ∙ (c.read_list-pos.auto.words ∙ c.read_list-head.auto.words))
+overflow_add-result-3 c = omega (arith, part_room _ _ _ _ _ _ _ _ _ c.in_ok-neg.ensures)
 
 pub returns : goal.returns
-returns c = clause_read _ _ _ _ _ _ _ _ (held list_words _ _ _ _ _ _ _ c.read_list-head.ensures c.in-Got.is) _ _ _ (held list_words _ _ _ _ _ _ _ c.read_list-pos.ensures c.in-Got-pos.is) _ _ _ _ (held list_words _ _ _ _ _ _ _ c.read_list-neg.ensures c.in-Got-neg.is) c.put_counts.ensures
+returns c =
+    let h = c.in_ok-head.ensures in
+    let p = rw h.same_text at c.in_ok-pos.ensures in
+    let q = rw p.same_text at c.in_ok-neg.ensures in
+    clause_read _ _ _ _ _ _ _ h _ _ p _ _ _ q c.put_counts.ensures

@@ -1,0 +1,12 @@
+-- `Closure::begin` meets its contract. The invariant: the clauses before t are counted.
+use mathlib.Core.Path.{◌≡◌}
+use Prim.Native.Nat.{◌≤◌, ◌-◌}
+use Rattle.step_parts.specs.Reading.{clause_count}
+use Rattle.step_reach.specs.Growing.{HasSpread, Leaves}
+use Rattle.step_reach.proofs.closure.Closure.begin.Given as goal
+
+abbrev pub invariant-loop-t : goal.invariant-loop-t
+invariant-loop-t l = (l.t-end ≡ clause_count l.program.table) × (l.t ≤ l.t-end) × HasSpread l.program l.initial.self.set l.self.set × Leaves l.program l.t 0 l.self
+
+abbrev pub decreases-loop-t : goal.decreases-loop-t
+decreases-loop-t l = l.t-end - l.t
