@@ -17,13 +17,10 @@
 // At most 128 numbers before and after the colon, and 128 bytes of a text, are read.
 #![tactic(auto)]
 
-ghost use Rattle.std.specs.Prelude.{◌≤◌, length};
+use cases_lines::{SIZE, WORDS};
 
-use cases_lines::{Answered, Marks, SIZE, Text, Words};
-use std::alloc::Global;
-use std::io;
-use std::io::{BufWriter, Read, Write};
-use text_writer::Output;
+// The descriptor of standard input.
+const STDIN_FILENO: i32 = 0;
 
 // What a case calls, by the first byte of its line.
 #[derive(Clone, Copy)]
@@ -56,205 +53,149 @@ impl From<u8> for Call {
 }
 
 // ---- the calls
+//
+// Each that lends arrays has a frame of its own on the stack, so that a line needs room for what it calls alone.
 
-fn show_table<W: Write>(out: &mut W, words: &[u16]) -> io::Result<()> {
-    write!(out, "{}", Answered(gambrolt::gambrolt_check_table(words)))?;
-    match table_questions::check_table(words) {
-        Ok(t) => write!(out, " table={},{},{}", t.atoms, t.clauses, t.words),
-        Err(_) => Ok(()),
-    }
+fn run_table(words: &[u16]) {
+    cases_lines::print_answer(gambrolt::gambrolt_check_table(words));
+    let Ok(t) = table_questions::check_table(words) else {
+        return;
+    };
+    cases_lines::print(b" table=");
+    cases_lines::print_word(t.atoms);
+    cases_lines::print(b",");
+    cases_lines::print_word(t.clauses);
+    cases_lines::print(b",");
+    cases_lines::print_number(t.words);
 }
 
-fn show_list<W: Write>(out: &mut W, words: &[u16], rest: &[u16]) -> io::Result<()> {
+#[inline(never)]
+fn run_list(words: &[u16], rest: &[u16]) {
     let Some((_, list)) = rest.split_first() else {
-        return Ok(());
+        return;
     };
     let k = cases_lines::room(rest, 0);
     let mut marks = [7u8; SIZE];
-    let answer = gambrolt::gambrolt_check(words, &mut marks[..k], list);
-    write!(out, "{}{}", Answered(answer), Marks(&marks[..k + 2]))
+    cases_lines::print_answer(gambrolt::gambrolt_check(words, &mut marks[..k], list));
+    cases_lines::print_marks(&marks, k + 2);
 }
 
-fn show_reduce<W: Write>(out: &mut W, words: &[u16], rest: &[u16]) -> io::Result<()> {
+#[inline(never)]
+fn run_reduce(words: &[u16], rest: &[u16]) {
     let k = cases_lines::room(rest, 0);
     let l = cases_lines::room(rest, 1);
     let mut marks = [7u8; SIZE];
     let mut list = [9u16; SIZE];
-    let answer = gambrolt::gambrolt_reduce(words, &mut marks[..k], &mut list[..l]);
-    write!(
-        out,
-        "{}{}{}",
-        Answered(answer),
-        Marks(&marks[..k + 2]),
-        Words(&list[..l + 2])
-    )
+    cases_lines::print_answer(gambrolt::gambrolt_reduce(words, &mut marks[..k], &mut list[..l]));
+    cases_lines::print_marks(&marks, k + 2);
+    cases_lines::print_words(&list, l + 2);
 }
 
-fn show_kept<W: Write>(out: &mut W, words: &[u16], l: usize, marks: &[u8]) -> io::Result<()>
-    requires { l ≤ 126 }
-{
-    let mut left = [9u16; SIZE];
-    let answer = gambrolt::gambrolt_reduced_table(words, marks, &mut left[..l]);
-    write!(out, "{}{}", Answered(answer), Words(&left[..l + 2]))
-}
-
-fn show_models<W: Write>(out: &mut W, words: &[u16], l: usize) -> io::Result<()>
-    requires { l ≤ 126 }
-{
-    let mut models = [9u16; SIZE];
-    let answer = gambrolt::gambrolt_models(words, &mut models[..l]);
-    write!(out, "{}{}", Answered(answer), Words(&models[..l + 2]))
-}
-
-fn show_write<W: Write>(out: &mut W, words: &[u16], l: usize) -> io::Result<()>
-    requires { l ≤ 126 }
-{
-    let mut text = [b'.'; SIZE];
-    let answer = gambrolt::gambrolt_write_text(words, &mut text[..l]);
-    write!(out, "{}{}", Answered(answer), Text(&text[..l + 2]))
-}
-
-// A table of any size, and two words past it; two words for a refusal.
-fn show_parse<W: Write>(out: &mut W, text: &[u8], room: u16) -> io::Result<()> {
-    let mut words = [7u16; 8200];
-    let answer = gambrolt::gambrolt_read_text(text, &mut words[..usize::from(room).min(8198)]);
-    let shown = match usize::try_from(answer) {
-        Ok(n) if n < 8198 => n + 2,
-        _ => 2,
+#[inline(never)]
+fn run_kept(words: &[u16], rest: &[u16]) {
+    let mut given = [0u8; SIZE];
+    let n = cases_lines::to_marks(rest, &mut given).min(SIZE);
+    let Some((_, marks)) = given[..n].split_first() else {
+        return;
     };
-    write!(out, "{}{}", Answered(answer), Words(&words[..shown]))
+    let l = cases_lines::room(rest, 0);
+    let mut left = [9u16; SIZE];
+    cases_lines::print_answer(gambrolt::gambrolt_reduced_table(words, marks, &mut left[..l]));
+    cases_lines::print_words(&left, l + 2);
 }
 
-// ---- digits
-
-// A sum over bytes, after a byte more: 31 times as much and the byte, modulo 65,521.
-fn mixed(sum: usize, byte: u8) -> usize {
-    (sum % 65521 * 31 + usize::from(byte)) % 65521
+#[inline(never)]
+fn run_models(words: &[u16], rest: &[u16]) {
+    let l = cases_lines::room(rest, 0);
+    let mut models = [9u16; SIZE];
+    cases_lines::print_answer(gambrolt::gambrolt_models(words, &mut models[..l]));
+    cases_lines::print_words(&models, l + 2);
 }
 
-// The digits of a number, at the beginning; how many.
-fn put_digits(text: &mut [u8], v: usize) -> usize
-    requires small { v ≤ 65536 }
-    requires room { 5 ≤ length text.old }
-    ensures { result ≤ 5 }
-{
-    let mut output = Output::new(text);
-    output.put_number(v);
-    output.len
-}
-
-// Each number is written over the one before it, which has no more digits.
-fn show_digits<W: Write>(out: &mut W, first: u16, more: u16) -> io::Result<()> {
+#[inline(never)]
+fn run_write(words: &[u16], rest: &[u16]) {
+    let l = cases_lines::room(rest, 0);
     let mut text = [b'.'; SIZE];
-    let first = usize::from(first);
-    let last = (first + usize::from(more)).min(65536);
-    let mut shown = 0;
-    let mut bytes: usize = 0;
-    let mut sum = 0;
-    for v in first..last + 1 {
-        let n = put_digits(&mut text, v);
-        bytes = bytes.saturating_add(n);
-        sum = text[..n].iter().fold(sum, |s, b| mixed(s, *b));
-        shown = n;
-    }
-    write!(
-        out,
-        "numbers={} bytes={bytes} sum={sum}{}",
-        last + 1 - first,
-        Text(&text[..shown.min(5) + 2])
-    )
+    cases_lines::print_answer(gambrolt::gambrolt_write_text(words, &mut text[..l]));
+    cases_lines::print_text(&text, l + 2);
+}
+
+// A table of any size, and two words past it.
+#[inline(never)]
+fn run_parse(text: &[u8], room: u16) {
+    let mut words = [7u16; WORDS];
+    let answer = gambrolt::gambrolt_read_text(text, &mut words[..usize::from(room).min(WORDS - 2)]);
+    cases_lines::print_answer(answer);
+    cases_lines::print_words(&words, cases_lines::shown(answer));
 }
 
 // ---- the lines
 
-fn run<W: Write>(
-    out: &mut W,
-    alloc: Global,
-    call: Call,
-    words: &[u16],
-    rest: &[u16],
-) -> io::Result<()> {
-    let l = cases_lines::room(rest, 0);
+fn run(call: Call, words: &[u16], rest: &[u16]) {
     match call {
-        Call::Table => show_table(out, words),
-        Call::Cycle => write!(out, "{}", Answered(gambrolt::gambrolt_cycle(words))),
-        Call::Set => write!(out, "{}", Answered(gambrolt::gambrolt_test(words, rest))),
-        Call::Models => show_models(out, words, l),
-        Call::List => show_list(out, words, rest),
-        Call::Reduce => show_reduce(out, words, rest),
-        Call::Kept => match cases_lines::read_marks(alloc, rest)?.split_first() {
-            Some((_, marks)) => show_kept(out, words, l, marks),
-            None => Ok(()),
-        },
-        Call::Digits => show_digits(
-            out,
-            cases_lines::given(words, 0),
-            cases_lines::given(words, 1),
-        ),
-        Call::Write => show_write(out, words, l),
+        Call::Table => run_table(words),
+        Call::Cycle => cases_lines::print_answer(gambrolt::gambrolt_cycle(words)),
+        Call::Set => cases_lines::print_answer(gambrolt::gambrolt_test(words, rest)),
+        Call::Models => run_models(words, rest),
+        Call::List => run_list(words, rest),
+        Call::Reduce => run_reduce(words, rest),
+        Call::Kept => run_kept(words, rest),
+        Call::Digits => cases_lines::run_digits(words),
+        Call::Write => run_write(words, rest),
     }
 }
 
-// A case whose second part is a text; none where there is no colon.
-fn run_text<W: Write>(out: &mut W, alloc: Global, before: &[u8], after: &[u8]) -> io::Result<()> {
-    let Some((_, text)) = after.split_first() else {
-        return Ok(());
-    };
-    let room = cases_lines::read_numbers(alloc, before)?;
-    let text = cases_lines::read_bytes(alloc, text)?;
-    show_parse(out, &text, cases_lines::given(&room, 0))
+// A case whose parts are numbers.
+fn run_numbers(call: Call, before: &[u8], after: &[u8]) {
+    let mut words = [0u16; SIZE];
+    let mut rest = [0u16; SIZE];
+    run(
+        call,
+        cases_lines::read_numbers(before, &mut words),
+        cases_lines::read_numbers(after, &mut rest),
+    );
 }
 
-// A case whose parts are numbers.
-fn run_numbers<W: Write>(
-    out: &mut W,
-    alloc: Global,
-    call: Call,
-    before: &[u8],
-    after: &[u8],
-) -> io::Result<()> {
-    let words = cases_lines::read_numbers(alloc, before)?;
-    let rest = cases_lines::read_numbers(alloc, after)?;
-    run(out, alloc, call, &words, &rest)
+// A case whose second part is a text; none where there is no colon.
+fn run_text(before: &[u8], after: &[u8]) {
+    let Some((_, signs)) = after.split_first() else {
+        return;
+    };
+    let mut room = [0u16; 1];
+    let mut text = [0u8; SIZE];
+    cases_lines::numbers(before, &mut room);
+    let n = cases_lines::exchange(signs, &mut text).min(SIZE);
+    run_parse(&text[..n], room[0]);
 }
 
 // A line: a heading, or a case with a colon between its parts.
-fn run_line<W: Write>(out: &mut W, alloc: Global, line: &[u8]) -> io::Result<()> {
+fn run_line(line: &[u8]) {
     let Some(first) = line.first() else {
-        return Ok(());
+        return;
     };
     let colon = line.iter().position(|b| *b == b':');
     let (before, after) = line.split_at(colon.unwrap_or(line.len()));
     match *first {
-        b'#' => out.write_all(line),
-        b'p' => run_text(out, alloc, before, after),
-        name => run_numbers(out, alloc, Call::from(name), before, after),
+        b'#' => cases_lines::print(line),
+        b'p' => run_text(before, after),
+        name => run_numbers(Call::from(name), before, after),
     }
 }
 
-// The lines of the input, of at most 65,536 bytes: what was read before a read that fails counts.
-fn run_lines(rt: &HostRuntime) -> io::Result<()> {
-    let alloc = rt.alloc();
-    let mut text = Vec::new(alloc);
-    match rt.stdin().take(65536).read_to_end(&mut text) {
-        Ok(_) | Err(_) => {}
+// A line feed ends each line; the last one may lack it.
+fn run_lines(text: &[u8]) {
+    if text.is_empty() {
+        return;
     }
-    let mut out = BufWriter::new(alloc, rt.stdout())?;
-    if text.last() == Some(&b'\n') {
-        text.pop();
-    } else if text.is_empty() {
-        return Ok(());
+    let lines = text.strip_suffix(b"\n").unwrap_or(text);
+    for line in lines.split(|b| *b == b'\n') {
+        run_line(line);
+        cases_lines::print(b"\n");
     }
-    for line in text.split(|b| *b == b'\n') {
-        run_line(&mut out, alloc, line)?;
-        writeln!(out)?;
-    }
-    out.flush()
 }
 
-// The program ends in 0, whatever it read and whether or not it could write.
-fn main(rt: HostRuntime) {
-    match run_lines(&rt) {
-        Ok(()) | Err(_) => {}
-    }
+fn main() {
+    let mut text = io::large_buffer();
+    let n = io::read_full(STDIN_FILENO, &mut text);
+    run_lines(&text[..n]);
 }

@@ -1,73 +1,83 @@
-// What the lines of cases are made of: numbers and bytes read from a line, and what is printed of a call. It uses no call of the library.
+// What the lines of cases are made of: printing, numbers and bytes read from a line, and sums over digits. It uses no call of the library.
 #![tactic(auto)]
 
-ghost use Rattle.std.specs.Prelude.{◌≡◌, ◌≤◌, length, get_or, min, IfOk};
+ghost use Rattle.std.specs.Prelude.{◌≡◌, ℕ, ◌<◌, ◌≤◌, length, get_or, min};
+ghost use Rattle.cases_lines.specs.Signs.{sign_of, mark_of};
 
-use std::alloc::{AllocError, Global};
-use std::fmt;
+use text_writer::Output;
 
-// How many numbers before and after the colon, and how many bytes of a text, are read.
+// The descriptor of standard output.
+const STDOUT_FILENO: i32 = 1;
+
+// Elements of most arrays: how many numbers before and after the colon, and how many bytes of a text, are read.
 pub const SIZE: usize = 128;
+
+// Elements of those that hold any table.
+pub const WORDS: usize = 8200;
 
 // What a question's number counts in the answer of a call.
 const PLACES: u64 = 1 << 48;
 
 // ---- printing
 
+// A write that fails is passed over.
+pub fn print(bytes: &[u8]) {
+    io::write_all(STDOUT_FILENO, bytes);
+}
+
+fn print_decimal(x: u64) {
+    io::print_decimal(STDOUT_FILENO, x);
+}
+
+pub fn print_number(x: usize) {
+    print_decimal(x as u64);
+}
+
+pub fn print_word(w: u16) {
+    print_decimal(u64::from(w));
+}
+
+// The first n words, each with a comma behind it.
+pub fn print_words(words: &[u16], n: usize) {
+    print(b" words=");
+    for word in words.iter().take(n) {
+        print_word(*word);
+        print(b",");
+    }
+}
+
+// The first n marks.
+pub fn print_marks(marks: &[u8], n: usize) {
+    print(b" marks=");
+    for mark in marks.iter().take(n) {
+        print_decimal(u64::from(*mark));
+    }
+}
+
+// The first n bytes, a line feed as a slash.
+pub fn print_text(text: &[u8], n: usize) {
+    print(b" text=");
+    for byte in text.iter().take(n) {
+        print(&[exchanged(*byte)]);
+    }
+}
+
 // The answer of a call: its value, or the number and place of the question that refuses it.
-#[derive(Clone, Copy)]
-pub struct Answered(pub u64);
-
-impl fmt::Display for Answered {
-    fn fmt<W: fmt::Write>(&self, f: &mut fmt::Formatter<W>) -> fmt::Result {
-        let rest = self.0 % PLACES;
-        match self.0 / PLACES {
-            0 => write!(f, "taken={rest}"),
-            number => write!(f, "refused={number},{rest}"),
+pub fn print_answer(a: u64) {
+    match a / PLACES {
+        0 => print(b"taken="),
+        number => {
+            print(b"refused=");
+            print_decimal(number);
+            print(b",");
         }
     }
+    print_decimal(a % PLACES);
 }
 
-// Words, each with a comma behind it.
-#[derive(Clone, Copy)]
-pub struct Words<'a>(pub &'a [u16]);
-
-impl<'a> fmt::Display for Words<'a> {
-    fn fmt<W: fmt::Write>(&self, f: &mut fmt::Formatter<W>) -> fmt::Result {
-        f.write_str(" words=")?;
-        for word in self.0 {
-            write!(f, "{word},")?;
-        }
-        Ok(())
-    }
-}
-
-// Marks.
-#[derive(Clone, Copy)]
-pub struct Marks<'a>(pub &'a [u8]);
-
-impl<'a> fmt::Display for Marks<'a> {
-    fn fmt<W: fmt::Write>(&self, f: &mut fmt::Formatter<W>) -> fmt::Result {
-        f.write_str(" marks=")?;
-        for mark in self.0 {
-            write!(f, "{mark}")?;
-        }
-        Ok(())
-    }
-}
-
-// The bytes of a text, a line feed as a slash.
-#[derive(Clone, Copy)]
-pub struct Text<'a>(pub &'a [u8]);
-
-impl<'a> fmt::Display for Text<'a> {
-    fn fmt<W: fmt::Write>(&self, f: &mut fmt::Formatter<W>) -> fmt::Result {
-        f.write_str(" text=")?;
-        for byte in self.0 {
-            write!(f, "{}", char::from(exchanged(*byte)))?;
-        }
-        Ok(())
-    }
+// As many of the words as were written and two more; two for a refusal.
+pub fn shown(a: u64) -> usize {
+    if a < 8198 { a as usize + 2 } else { 2 }
 }
 
 // ---- reading
@@ -87,15 +97,30 @@ fn number(digits: &[u8]) -> u16 {
     value
 }
 
-// The numbers that stand in a text between other bytes, as far as they are read.
-pub fn read_numbers(alloc: Global, text: &[u8]) -> Result<Vec<u16>, AllocError>
-    ensures { IfOk result (λ found. length found.items ≤ 128) }
+// The numbers that stand in a text between other bytes, as far as there is room; how many.
+pub fn numbers(text: &[u8], out: &mut [u16]) -> usize
+    ensures { result ≤ length out.new }
 {
-    text.split(|b| !b.is_ascii_digit())
+    let mut n = 0;
+    for digits in text
+        .split(|b| !b.is_ascii_digit())
         .filter(|digits| !digits.is_empty())
-        .take(SIZE)
-        .map(|digits| number(digits))
-        .collect(alloc)
+    {
+        if n == out.len() {
+            break;
+        }
+        out[n] = number(digits);
+        n += 1;
+    }
+    n
+}
+
+// The numbers of one part of a case.
+pub fn read_numbers<'a>(text: &[u8], out: &'a mut [u16; SIZE]) -> &'a [u16]
+    ensures { length result.now ≤ 128 }
+{
+    let n = numbers(text, out);
+    &out[..n]
 }
 
 // How many elements are lent: the number of the case at that place, at most two fewer than are printed.
@@ -113,7 +138,9 @@ pub fn given(words: &[u16], i: usize) -> u16
 }
 
 // The byte that a sign of a text stands for, and a slash for a line feed.
-fn exchanged(b: u8) -> u8 {
+fn exchanged(b: u8) -> u8
+    ensures { result ≡ sign_of b }
+{
     match b {
         b'/' => b'\n',
         b'\n' => b'/',
@@ -124,18 +151,77 @@ fn exchanged(b: u8) -> u8 {
     }
 }
 
-// The bytes that the signs of a text stand for, as far as they are read.
-pub fn read_bytes(alloc: Global, text: &[u8]) -> Result<Vec<u8>, AllocError>
-    ensures { IfOk result (λ found. length found.items ≡ min 128 (length text.now)) }
+// The bytes that the signs of a text stand for, as far as there is room; how many there are.
+// Index loop: each byte is written at its own place.
+pub fn exchange(text: &[u8], out: &mut [u8]) -> usize
+    ensures count { result ≡ length text.now }
+    ensures read { (k : ℕ) → k < length text.now → k < length out.old → get_or out.new k 0 ≡ sign_of (get_or text.now k 0) }
 {
-    text.iter().take(SIZE).map(|b| exchanged(*b)).collect(alloc)
+    for i in 0..text.len().min(out.len()) {
+        out[i] = exchanged(text[i]);
+    }
+    text.len()
 }
 
-// The numbers as marks, 0 for one that is no byte.
-pub fn read_marks(alloc: Global, rest: &[u16]) -> Result<Vec<u8>, AllocError>
-    ensures { IfOk result (λ marks. length marks.items ≡ length rest.now) }
+// A number as a mark, 0 for one that is no byte.
+fn mark(w: u16) -> u8
+    ensures { result ≡ mark_of w }
 {
-    rest.iter()
-        .map(|w| u8::try_from(*w).unwrap_or(0))
-        .collect(alloc)
+    u8::try_from(w).unwrap_or(0)
+}
+
+// The numbers as marks, as far as there is room; how many there are. Index loop: each mark is written at its own place.
+pub fn to_marks(rest: &[u16], marks: &mut [u8]) -> usize
+    ensures count { result ≡ length rest.now }
+    ensures read { (k : ℕ) → k < length rest.now → k < length marks.old → get_or marks.new k 0 ≡ mark_of (get_or rest.now k 0) }
+{
+    for i in 0..rest.len().min(marks.len()) {
+        marks[i] = mark(rest[i]);
+    }
+    rest.len()
+}
+
+// ---- digits
+
+// A sum over bytes, after a byte more: 31 times as much and the byte, modulo 65,521.
+fn mixed(sum: usize, byte: u8) -> usize {
+    (sum % 65521 * 31 + usize::from(byte)) % 65521
+}
+
+// The digits of a number, at the beginning; how many.
+fn put_digits(text: &mut [u8; SIZE], v: usize) -> usize
+    requires { v ≤ 65536 }
+    ensures { result ≤ 5 }
+{
+    let mut output = Output::new(text);
+    output.put_number(v);
+    output.len
+}
+
+// How many numbers, how many bytes they have, and the sum over these.
+fn print_sums(count: usize, bytes: usize, sum: usize) {
+    print(b"numbers=");
+    print_number(count);
+    print(b" bytes=");
+    print_number(bytes);
+    print(b" sum=");
+    print_number(sum);
+}
+
+// Each number is written over the one before it, which has no more digits.
+pub fn run_digits(words: &[u16]) {
+    let first = usize::from(given(words, 0));
+    let last = (first + usize::from(given(words, 1))).min(65536);
+    let mut text = [b'.'; SIZE];
+    let mut shown = 0;
+    let mut bytes: usize = 0;
+    let mut sum = 0;
+    for v in first..last + 1 {
+        let n = put_digits(&mut text, v);
+        bytes = bytes.saturating_add(n);
+        sum = text[..n].iter().fold(sum, |s, b| mixed(s, *b));
+        shown = n;
+    }
+    print_sums(last + 1 - first, bytes, sum);
+    print_text(&text, shown.min(5) + 2);
 }

@@ -5,6 +5,7 @@ ghost use Rattle.std.specs.Prelude.{◌≡◌, length};
 ghost use Rattle.models_list.specs.Answer.{models_answer, models_out};
 
 use answers::{Answer, CallQuestion, Refusal};
+use models_masks::upto::UpTo;
 
 mod masks;
 mod search;
@@ -26,7 +27,8 @@ pub fn list_models(words: &[u16], out: &mut [u16]) -> Answer
     if MAX_ATOMS < words[0] {
         return Err(Refusal::Call(CallQuestion::FewAtoms));
     }
-    let found = search::all_models(words);
+    let mut found: UpTo<u16, MAX_MODELS> = UpTo::new(0);
+    search::all_models(words, &mut found);
     let models = found.as_slice();
     if out.len() < models.len() {
         return Err(Refusal::Call(CallQuestion::ModelsRoom));

@@ -1,5 +1,5 @@
 // The search for all stable models: every set is asked whether it satisfies its reduct, and of those that do, whether a proper subset does too.
-ghost use Rattle.std.specs.Prelude.{◌≡◌, ◌^◌, ◌≤◌, length};
+ghost use Rattle.std.specs.Prelude.{◌≡◌, ◌^◌, ◌≤◌, [], length};
 ghost use Rattle.table.specs.Programs.{program_of};
 ghost use Rattle.models_masks.specs.UpTo.{items};
 ghost use Rattle.models_words.specs.Words.{models_of};
@@ -34,13 +34,13 @@ fn gather(clauses: &[Masks], m: u16, rules: &mut [Rule]) -> Option<usize>
 }
 
 // Whether the set m satisfies its reduct, and no proper subset does.
-fn is_stable(clauses: &[Masks], m: u16, rules: &mut [Rule]) -> bool
+fn is_stable(clauses: &[Masks], m: u16, rules: &mut [Rule], failed: &mut UpTo<Rule, 64>) -> bool
     requires { length clauses.now ≤ length rules.old }
     ensures { result ≡ stable_mask clauses.now m }
 {
     match gather(clauses, m, rules) {
         None => false,
-        Some(count) => models_masks::minimal(&rules[..count], m),
+        Some(count) => models_masks::minimal_by(&rules[..count], m, failed),
     }
 }
 
@@ -52,28 +52,29 @@ fn all_sets(atoms: u16) -> usize
     1 << usize::from(atoms)
 }
 
-// The words of all stable models, ascending, by the masks of the clauses.
-fn find_all(words: &[u16], clauses: &[Masks], rules: &mut [Rule]) -> UpTo<u16, MAX_MODELS>
-    requires { Searchable words.now clauses.now rules.old }
-    ensures { items result ≡ models_of (program_of words.now) }
+// The words of all stable models, ascending, by the masks of the clauses. The list is lent: one returned would be copied.
+fn find_all(words: &[u16], clauses: &[Masks], rules: &mut [Rule], found: &mut UpTo<u16, MAX_MODELS>)
+    requires searchable { Searchable words.now clauses.now rules.old }
+    requires none { items found.old ≡ [] }
+    ensures { items found.new ≡ models_of (program_of words.now) }
 {
-    let mut found = UpTo::new(0);
+    let mut failed = UpTo::new(Rule { body: 0, head: 0 });
     let end = all_sets(words[0]);
     for x in 0..end {
         // `as`: x is below 65,536, which is proved.
         let m = x as u16;
-        if !is_stable(clauses, m, rules) {
+        if !is_stable(clauses, m, rules, &mut failed) {
             continue;
         }
         found.push(m);
     }
-    found
 }
 
 // The words of all stable models of a table, ascending.
-pub fn all_models(words: &[u16]) -> UpTo<u16, MAX_MODELS>
-    requires { Listable words.now }
-    ensures { items result ≡ models_of (program_of words.now) }
+pub fn all_models(words: &[u16], found: &mut UpTo<u16, MAX_MODELS>)
+    requires listable { Listable words.now }
+    requires none { items found.old ≡ [] }
+    ensures { items found.new ≡ models_of (program_of words.now) }
 {
     let none = Masks {
         head: 0,
@@ -83,5 +84,5 @@ pub fn all_models(words: &[u16]) -> UpTo<u16, MAX_MODELS>
     let mut masks = [none; 2048];
     let count = crate::masks::fill(words, &mut masks);
     let mut rules = [Rule { body: 0, head: 0 }; 2048];
-    find_all(words, &masks[..count], &mut rules)
+    find_all(words, &masks[..count], &mut rules, found);
 }

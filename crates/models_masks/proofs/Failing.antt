@@ -62,12 +62,13 @@ holds_at x q = holds q.body q.head x
 pub first_one : (rules : List Rule) (x : ℕ) (r : Option (Bor Rule)) → option_map (λ (q : Bor Rule). q.now) r ≡ find (λ (q : Rule). not (holds q.body q.head x)) rules
     → MatchOption r (modelled rules x ≡ true) (λ q. Fails rules q.now x)
 unfolding modelled
-first_one rules x r e = go r (subst (λ o. MatchOption o (list_all (holds_at x) rules ≡ true) (λ q. (q ∈ rules) × (holds_at x q ≡ false))) (sym e) (find_says (holds_at x) rules))
+first_one rules x r e = go r e (subst (λ o. MatchOption o (list_all (holds_at x) rules ≡ true) (λ q. (q ∈ rules) × (holds_at x q ≡ false))) (sym e) (find_says (holds_at x) rules))
   where
-    go : (r : Option (Bor Rule)) → MatchOption (option_map (λ (q : Bor Rule). q.now) r) (list_all (holds_at x) rules ≡ true) (λ q. (q ∈ rules) × (holds_at x q ≡ false))
+    go : (r : Option (Bor Rule)) → option_map (λ (q : Bor Rule). q.now) r ≡ find (λ (q : Rule). not (holds q.body q.head x)) rules
+        → MatchOption (option_map (λ (q : Bor Rule). q.now) r) (list_all (holds_at x) rules ≡ true) (λ q. (q ∈ rules) × (holds_at x q ≡ false))
         → MatchOption r (list_all (holds_at x) rules ≡ true) (λ q. Fails rules q.now x)
-    go None h = h
-    go (Some q) h = record { one = h.0; fails = h.1 }
+    go None e h = h
+    go (Some q) e h = record { one = h.0; fails = h.1; first = sym e }
 
 -- ---- clauses kept apart
 

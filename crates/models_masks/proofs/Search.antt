@@ -1,14 +1,38 @@
--- A test of the numbers below a bound: what it says of each.
-use Prim.Native.Nat.{ℕ, zero, suc, ◌<◌}
+-- Walks along a list and along the numbers below a bound, one step at a time, and what their end says.
+use Prim.Native.Nat.{ℕ, zero, suc, ◌+◌, ◌≤◌, ◌<◌}
 use mathlib.Core.Path.{◌≡◌, refl, sym, ap₂, subst}
 use mathlib.Core.Logic.{◌↔◌, ◌⊎◌, inl, inr, ⊎_elim}
+use mathlib.Core.List.{List}
 use mathlib.Core.Bool.{Bool, true, false, ◌&&◌, So}
 use native.Mathlib.Omega.{arith}
+use native.Mathlib.Numerals.{add-one}
 use lib.Arith.{lt_of_le-ne}
 use lib.Dec.{eqb}
+use lib.ListN.{length, get_or, drop, drop_of_length-le}
+use lib.Seq.{drop-cons}
 use borrow.Author.Tests.{eqb-true, eqb-false}
+use Rattle.semantics.specs.Lists.{any, all}
 use Rattle.semantics.proofs.Tests.{and_iff, so_false, not_so}
 use Rattle.models_masks.specs.Masks.{all_below}
+
+module _ (p : ℕ → Bool) (l : List ℕ) (i : ℕ) (h : i < length l) where
+  pub any_on : p (get_or l i 0) ≡ false → any p (drop i l) ≡ any p (drop (i + 1) l)
+  any_on q = rw (drop-cons l i 0 h, add-one, q)
+
+  pub any_hit : p (get_or l i 0) ≡ true → any p (drop i l) ≡ true
+  any_hit q = rw (drop-cons l i 0 h, q)
+
+  pub all_on : p (get_or l i 0) ≡ true → all p (drop i l) ≡ all p (drop (i + 1) l)
+  all_on q = rw (drop-cons l i 0 h, add-one, q)
+
+  pub all_lost : p (get_or l i 0) ≡ false → all p (drop i l) ≡ false
+  all_lost q = rw (drop-cons l i 0 h, q)
+
+pub any_end : (p : ℕ → Bool) (l : List ℕ) (i : ℕ) → length l ≤ i → any p (drop i l) ≡ false
+any_end p l i h = rw (drop_of_length-le l h)
+
+pub all_end : (p : ℕ → Bool) (l : List ℕ) (i : ℕ) → length l ≤ i → all p (drop i l) ≡ true
+all_end p l i h = rw (drop_of_length-le l h)
 
 pub all_below_iff : (f : ℕ → Bool) (n : ℕ) → So (all_below f n) ↔ ((i : ℕ) → i < n → So (f i))
 unfolding all_below
@@ -34,6 +58,9 @@ all_below_iff f n = (to n, from n)
 -- one failure decides
 pub all_below_lost : (f : ℕ → Bool) (n i : ℕ) → i < n → f i ≡ false → all_below f n ≡ false
 all_below_lost f n i h q = so_false _ (λ s. not_so q ((all_below_iff f n).0 s i h))
+
+pub all_below_end : (f : ℕ → Bool) (n i : ℕ) → n ≤ i → ((k : ℕ) → k < i → So (f k)) → all_below f n ≡ true
+all_below_end f n i l h = (all_below_iff f n).1 (λ k q. h k (omega arith))
 
 pub all_below_ext : (f g : ℕ → Bool) (n : ℕ) → ((i : ℕ) → i < n → f i ≡ g i) → all_below f n ≡ all_below g n
 unfolding all_below

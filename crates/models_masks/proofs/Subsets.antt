@@ -1,7 +1,7 @@
 -- The search over the subsets of a mask, and the mask of a list, one step at a time.
 use Prim.Native.Nat.{ℕ, suc, ◌+◌, ◌-◌, ◌*◌, ◌^◌, ◌≤◌, ◌<◌}
-use mathlib.Core.Path.{◌≡◌, refl, sym, ap, ap₂, ◌∙◌}
-use mathlib.Core.List.{List, ◌∷◌, reverse}
+use mathlib.Core.Path.{◌≡◌, refl, ap, ◌∙◌}
+use mathlib.Core.List.{List, ◌∷◌}
 use mathlib.Core.Bool.{Bool, true, false, not, ◌&&◌, So}
 use native.Mathlib.Omega.{arith}
 use native.Mathlib.Nat.{le_antisymm}
@@ -10,7 +10,6 @@ use lib.Dec.{leb}
 use lib.ListN.{length, get_or, drop, length-drop}
 use lib.Pow.{pow_mono}
 use lib.Seq.{drop-cons}
-use Rattle.std.proofs.lemmas.List.{get_or-reverse, length-reverse}
 use borrow.Author.Tests.{eq-eqb, eqb-true, leb-true, leb-false}
 use Rattle.semantics.specs.Lists.{bit}
 use Rattle.semantics.specs.Programs.{Atoms}
@@ -51,26 +50,21 @@ module _ (f : ℕ → Bool) (m x : ℕ) where
 
 -- ---- the mask of a list, from its last entry on
 
-module _ (s : List ℕ) (X : Atoms) where
-  -- none of the last entries
-  pub mask_end : (i : ℕ) → length s ≤ i → mask_of (drop i s) X ≡ 0
+module _ (s : List ℕ) (X : Atoms) (i : ℕ) where
+  pub mask_end : length s ≤ i → mask_of (drop i s) X ≡ 0
   unfolding mask_of
-  mask_end i h = rw (lib.ListN.drop_of_length-le s h)
+  mask_end h = rw (lib.ListN.drop_of_length-le s h)
 
-  -- k of them are passed, and x is the next
-  module _ (k x : ℕ) (h : k < length (reverse s)) (e : x ≡ get_or (reverse s) k x) where
-    pub mask_more : mask_of (drop (length s - (k + 1)) s) X ≡ mask_of (drop (length s - k) s) X * 2 + bit (X x)
+  pub mask_whole : i ≤ 0 → mask_of (drop i s) X ≡ mask_of s X
+  mask_whole h = let e : i ≡ 0 = omega arith in ap (λ k. mask_of (drop k s) X) e
+
+  module _ (p : 0 < i) (h : i ≤ length s) where
+    pub mask_more : mask_of (drop (i - 1) s) X ≡ mask_of (drop i s) X * 2 + bit (X (get_or s (i - 1) 0))
     unfolding mask_of
-    mask_more =
-        let i = length s - (k + 1) in
-        let l : k < length s = omega (arith, length-reverse s) in
-        let q : suc i ≡ length s - k = omega arith in
-        let z : get_or s i x ≡ x = ap (λ j. get_or s j x) (omega arith) ∙ sym (get_or-reverse s k x l) ∙ sym e in
-        let d : drop i s ≡ x ∷ drop (length s - k) s = drop-cons s i x (omega arith) ∙ ap₂ (λ a j. a ∷ drop j s) z q in
-        rw d
+    mask_more = let e : suc (i - 1) ≡ i = omega arith in rw (drop-cons s (i - 1) 0 (omega arith) ∙ ap (λ k. get_or s (i - 1) 0 ∷ drop k s) e)
 
-    pub mask_small : length s ≤ 16 → mask_of (drop (length s - k) s) X < 32768
+    pub mask_small : length s ≤ 16 → mask_of (drop i s) X < 32768
     mask_small l =
-        let m : length (drop (length s - k) s) ≤ 15 = omega (arith, length-drop (length s - k) s, length-reverse s) in
-        let q : 2 ^ length (drop (length s - k) s) ≤ 2 ^ 15 = pow_mono m in
-        omega (arith, mask_bound (drop (length s - k) s) X)
+        let k : length (drop i s) ≤ 15 = omega (arith, length-drop i s) in
+        let q : 2 ^ length (drop i s) ≤ 2 ^ 15 = pow_mono k in
+        omega (arith, mask_bound (drop i s) X)

@@ -13,6 +13,7 @@ impl<T: Copy, const N: usize> UpTo<T, N> {
     ghost use Rattle.models_masks.specs.UpTo.{items};
 
     // None yet; the value stands in the places that are not used.
+    #[inline(always)]
     pub fn new(blank: T) -> UpTo<T, N>
         ensures { items result ≡ [] }
     {
@@ -22,7 +23,15 @@ impl<T: Copy, const N: usize> UpTo<T, N> {
         }
     }
 
+    // No value any more.
+    pub fn clear(&mut self)
+        ensures { items self.new ≡ [] }
+    {
+        self.count = 0;
+    }
+
     // The values.
+    #[inline(always)]
     pub fn as_slice(&self) -> &[T]
         ensures { result.now ≡ items self.now }
     {
@@ -30,6 +39,7 @@ impl<T: Copy, const N: usize> UpTo<T, N> {
     }
 
     // Whether there is no room for another.
+    #[inline(always)]
     pub fn is_full(&self) -> bool
         ensures { result ≡ nat_eq (length (items self.now)) N }
     {
@@ -37,6 +47,7 @@ impl<T: Copy, const N: usize> UpTo<T, N> {
     }
 
     // One value more, behind the others.
+    #[inline(always)]
     pub fn push(&mut self, value: T)
         requires { length (items self.old) < N }
         ensures { items self.new ≡ items self.old ++ value ∷ [] }

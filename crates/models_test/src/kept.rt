@@ -1,5 +1,5 @@
 // The clauses that the reduct by a set keeps, as masks over the set.
-ghost use Rattle.std.specs.Prelude.{◌≡◌, ◌≤◌, ◌<◌, length};
+ghost use Rattle.std.specs.Prelude.{◌≡◌, ◌≤◌, ◌<◌, [], length};
 ghost use Rattle.semantics.specs.Decide.{stable_test};
 ghost use Rattle.table.specs.Questions.{Passed};
 ghost use Rattle.table.specs.Places.{next_at};
@@ -47,19 +47,18 @@ fn add_clause(words: &[u16], at: usize, set: &[u16], rules: &mut UpTo<Rule, MAX_
     }
 }
 
-// The masks of all clauses that enter.
-fn rules_of(words: &[u16], set: &[u16]) -> UpTo<Rule, MAX_CLAUSES>
+// The masks of all clauses that enter. The list is lent: one returned would be copied.
+fn fill(words: &[u16], set: &[u16], rules: &mut UpTo<Rule, MAX_CLAUSES>)
     requires passed { Passed words.now }
     requires small { length set.now ≤ 16 }
-    ensures { Filled words.now set.now (items result) }
+    requires none { items rules.old ≡ [] }
+    ensures { Filled words.now set.now (items rules.new) }
 {
-    let mut rules = UpTo::new(Rule { body: 0, head: 0 });
     let mut at: usize = 2;
     for k in 0..words[1] {
-        add_clause(words, at, set, &mut rules);
+        add_clause(words, at, set, rules);
         at = table::next_clause(words, at);
     }
-    rules
 }
 
 // Whether the set is a stable model.
@@ -67,6 +66,7 @@ pub fn is_stable(words: &[u16], set: &[u16]) -> bool
     requires { Testable words.now set.now }
     ensures { result ≡ stable_test (program_of words.now) set.now }
 {
-    let rules = rules_of(words, set);
+    let mut rules = UpTo::new(Rule { body: 0, head: 0 });
+    fill(words, set, &mut rules);
     models_masks::stable(rules.as_slice(), models_masks::mask_of(set, set))
 }

@@ -103,7 +103,9 @@ fn put_left(output: &mut Output<'_>, words: &[u16], marks: &[u8])
     output.put_text(&reduced[..k]);
 }
 
-// The output for a table that passed questions 1 to 8: its program reduced, and the steps.
+// The output for a table that passed questions 1 to 8: its program reduced, and the steps. In a frame of its own on the stack, so that a text that is
+// refused needs no room for what a reduction needs.
+#[inline(never)]
 fn put_reduced(output: &mut Output<'_>, words: &[u16])
     requires passed { Passed words.now }
     requires room { output.old.len + 223170 ≤ length output.old.bytes.now }

@@ -25,17 +25,17 @@ use Rattle.search_idle.proofs.Stays.{idle_effect}
 use Rattle.reducer.specs.Runs.{StepFound}
 
 -- kind 9
-pub after_nine : (ws ms ms' : List ℕ) (s : Step) → s.kind ≡ excluded → ms' ≡ marks_without ws ms s.atom → ms' ≡ marks_after ws ms (step_of s)
+pub after_nine : (ws ms ms' : List ℕ) (s : Step Kind) → s.kind ≡ excluded → ms' ≡ marks_without ws ms s.atom → ms' ≡ marks_after ws ms (step_of s)
 after_nine ws ms ms' s k e = e ∙ sym (after_off ws ms (step_of s) (rw k refl))
 
 -- kinds 1 to 8
-pub step_made : (ws ms : List ℕ) (s : Step) → StepFound ws ms s → So (on_target s.kind) → StepMade ws ms s
+pub step_made : (ws ms : List ℕ) (s : Step Kind) → StepFound ws ms s → So (on_target s.kind) → StepMade ws ms s
 step_made ws ms s f o = record { on = o; applies = f.applies }
 
 pub other_on_target : (k : Kind) → k ≢ excluded → So (on_target k)
 other_on_target = each_kind (λ k. k ≢ excluded → So (on_target k)) (λ d. refl) (λ d. refl) (λ d. refl) (λ d. refl) (λ d. refl) (λ d. refl) (λ d. refl) (λ d. refl) (λ d. absurd (d refl))
 
-module _ (ws ms index ms' : List ℕ) (r : Ready ws ms index) (s : Step) (f : StepMade ws ms s) (e : ms' ≡ marks_after ws ms (step_of s)) where
+module _ (ws ms index ms' : List ℕ) (r : Ready ws ms index) (s : Step Kind) (f : StepMade ws ms s) (e : ms' ≡ marks_after ws ms (step_of s)) where
   is_effect : view ws ms' ≡ effect (view ws ms) (step_of s)
   is_effect = rw e (view_after ws ms r.placed.passed r.marks (get_or ws 0 0) (step_of s) f.applies)
 

@@ -10,7 +10,7 @@ use lib.ListN.{length, get_or, set}
 use lib.Seq.{sets, length-sets}
 use Rattle.rewriting.specs.Marked.{Marked}
 use Rattle.rewriting.specs.Steps.{Step, applies, effect}
-use Rattle.rewriting.specs.Kinds.{number}
+use Rattle.rewriting.specs.Kinds.{Kind, number}
 use Rattle.rewriting.specs.Search.{reduce, first_step}
 use Rattle.rewriting.specs.Measure.{measure}
 use Rattle.rewriting.proofs.Search.{first_step_some}
@@ -57,7 +57,7 @@ running_none ws ms ls l b = record {
     same = rw (sub-zero, b.whole)
 
 -- a step that was found
-pub found_made : (ws ms : List ℕ) (s : row.Step) → Some s ≡ found_of (first_step (get_or ws 0 0) (view ws ms)) → StepFound ws ms s × (first_step (get_or ws 0 0) (view ws ms) ≡ some (step_of s))
+pub found_made : (ws ms : List ℕ) (s : row.Step Kind) → Some s ≡ found_of (first_step (get_or ws 0 0) (view ws ms)) → StepFound ws ms s × (first_step (get_or ws 0 0) (view ws ms) ≡ some (step_of s))
 unfolding found_of
 found_made ws ms s e = go (first_step (get_or ws 0 0) (view ws ms)) refl e
   where
@@ -126,6 +126,6 @@ four_words ls at a b c d =
     rw (x, y, z)
 
 -- a step that was found, written and made
-pub running_step : (ws ms₀ ls₀ ms ls : List ℕ) (s : ℕ) → Passed ws → Running ws ms₀ ls₀ ms ls s → (u : row.Step) → StepFound ws ms u → first_step (get_or ws 0 0) (view ws ms) ≡ some (step_of u)
+pub running_step : (ws ms₀ ls₀ ms ls : List ℕ) (s : ℕ) → Passed ws → Running ws ms₀ ls₀ ms ls s → (u : row.Step Kind) → StepFound ws ms u → first_step (get_or ws 0 0) (view ws ms) ≡ some (step_of u)
     → Running ws ms₀ ls₀ (marks_after ws ms (step_of u)) (sets ls (4 * s) (number u.kind ∷ u.target ∷ u.partner ∷ u.atom ∷ [])) (s + 1)
 running_step ws ms₀ ls₀ ms ls s p r u t e = running_on ws ms₀ ls₀ ms ls s p r (step_of u) t.applies e

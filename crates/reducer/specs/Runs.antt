@@ -3,6 +3,7 @@ use Rattle.std.specs.Prelude.{◌≡◌, ◌≢◌, List, ℕ, ◌*◌, ◌≤�
 use Rattle.std.proofs.Math.Bool.{So}
 use Rattle.std.proofs.lemmas.List.Edits.{sets}
 use Rattle.rewriting.specs.Marked.{whole}
+use Rattle.rewriting.specs.Kinds.{Kind}
 use Rattle.rewriting.specs.Steps.{applies}
 use Rattle.table.specs.Programs.{program_of}
 use Rattle.table.specs.View.{view}
@@ -25,7 +26,7 @@ pub record AllOpen (flags : List ℕ) (m : ℕ) : Type 0 where
   pub none : (i : ℕ) → i < 2048 → next flags i ≡ 0
 
 -- A step that the search found.
-pub record StepFound (ws ms : List ℕ) (s : Step) : Type 0 where
+pub record StepFound (ws ms : List ℕ) (s : Step Kind) : Type 0 where
   pub applies : So (applies (get_or ws 0 0) (view ws ms) (step_of s))
 
 -- All marks are 1, and the list has room.

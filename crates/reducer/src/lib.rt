@@ -42,7 +42,7 @@ fn most_steps(words: &[u16]) -> usize
 }
 
 // The step number s is written to the list.
-fn write_step(list: &mut [u16], s: usize, step: Step)
+fn write_step(list: &mut [u16], s: usize, step: Step<Kind>)
     requires { 4 * s + 3 < length list.old }
     ensures { list.new ≡ sets list.old (4 * s) (number step.kind ∷ step.target ∷ step.partner ∷ step.atom ∷ []) }
 {
@@ -102,7 +102,7 @@ fn exclude(table: &Indexed, marks: &mut [u8], memory: &mut Memory, idle: &mut [u
 }
 
 // A step of another kind is made, and what it opens is flagged.
-fn apply_step(table: &Indexed, marks: &mut [u8], memory: &mut Memory, step: Step)
+fn apply_step(table: &Indexed, marks: &mut [u8], memory: &mut Memory, step: Step<Kind>)
     requires state { StateIn table.now marks.old memory.old }
     requires made { StepMade table.now.words.now marks.old step }
     ensures marks { marks.new ≡ marks_after table.now.words.now marks.old (step_of step) }
@@ -119,7 +119,13 @@ fn apply_step(table: &Indexed, marks: &mut [u8], memory: &mut Memory, step: Step
 }
 
 // A step that was found is made.
-fn make_step(table: &Indexed, marks: &mut [u8], memory: &mut Memory, idle: &mut [u8], step: Step)
+fn make_step(
+    table: &Indexed,
+    marks: &mut [u8],
+    memory: &mut Memory,
+    idle: &mut [u8],
+    step: Step<Kind>,
+)
     requires state { StateIn table.now marks.old memory.old }
     requires idle { Idle (atom_count table.now) (view table.now.words.now marks.old) idle.old }
     requires found { StepFound table.now.words.now marks.old step }

@@ -18,6 +18,10 @@ use Rattle.search_closure.proofs.Counting.{first_more, lowest_trans}
 pub newest_by : {s q : List ℕ} {n k : ℕ} → n ≡ k + 1 → Queued s q n → Newest q k
 newest_by {s} {q} {n} {k} e z = let y = subst (Queued s q) e z in record { there = omega (arith, queued_few y, y.room); below = queued_below s q k y; once = y.once k (omega arith) }
 
+-- one place less than the atoms
+pub at_last : (P : ℕ → Type 0) {n j k : ℕ} → n ≡ j + 1 → n ≡ k + 1 → P j → P k
+at_last P {n} {j} {k} d e p = subst P (let f : j ≡ k = omega arith in f) p
+
 cleared_on : {taken s s' : List ℕ} (b : ℕ) → b < length s' → b ∈ taken → Cleared taken s s' → Cleared taken s (set s' b 0)
 cleared_on {taken} {s} {s'} b l h c = record {
   less = λ a m. by_cases (ℕ_discrete a b) (λ e. absurd (left_out s' b a l e m)) (λ e. c.less a (sym (others_in s' b a e) ∙ m));

@@ -8,7 +8,7 @@ ghost use Rattle.std.proofs.Math.Bool.{So};
 ghost use Rattle.step_parts.specs.Parts.{owner_at};
 ghost use Rattle.step_parts.specs.Reading.{clause_count, words_of, marks_of};
 ghost use Rattle.step_reach.specs.Bytes.{in_bytes};
-ghost use Rattle.step_reach.specs.Growing.{taken};
+ghost use Rattle.step_reach.specs.Growing.{taken, IsQueued, HasRoom, IsSameClosure};
 ghost use Rattle.search_closure.specs.Back.{Counted, Full, First, Lowest, Lesser, CountedOn, Cleared};
 
 use step_parts::{Indexed, Marked, Part};
@@ -67,18 +67,24 @@ fn count_on(program: &Marked, i: usize, can: &[u8], first: usize, missing: &mut 
 // The atom that joined last leaves the set, and is counted on again wherever it stands in a positive body. The lesser of `first` and the first clause
 // asked for in whose positive body it stands and that lacked no atom.
 fn put_back(closure: &mut Closure, program: &Marked, can: &[u8], first: usize) -> usize
-    requires some { 0 < closure.old.set.top }
+    requires queued { IsQueued closure.old }
+    requires some { 0 < closure.old.top }
     requires can { 2048 ≤ length can.now }
-    requires counted { Counted (words_of program.now) (marks_of program.now) (taken closure.old) closure.old.missing }
-    ensures top { closure.old.set.top ≡ closure.new.set.top + 1 }
-    ensures queue { closure.new.set.queue ≡ closure.old.set.queue }
-    ensures counted { Counted (words_of program.now) (marks_of program.now) (taken closure.new) closure.new.missing }
+    requires room { HasRoom program.now closure.old }
+    requires counted { Counted (words_of program.now) (marks_of program.now) (taken closure.old) closure.old.missing.now }
+    ensures same_reference { IsSameClosure closure.old closure.new }
+    ensures queued { IsQueued closure.new }
+    ensures top { closure.old.top ≡ closure.new.top + 1 }
+    ensures queue { closure.new.queue.now ≡ closure.old.queue.now }
+    ensures room { HasRoom program.now closure.new }
+    ensures counted { Counted (words_of program.now) (marks_of program.now) (taken closure.new) closure.new.missing.now }
     ensures lowest { Lowest (words_of program.now) (marks_of program.now) can.now (taken closure.old) (taken closure.new) first result }
 {
-    let atom = closure.set.leave();
+    let atom = closure.leave();
+    let missing = &mut *closure.missing;
     let mut least = first;
     for i in program.table.places(Part::Pos, atom) {
-        least = count_on(program, i, can, least, &mut closure.missing);
+        least = count_on(program, i, can, least, missing);
     }
     least
 }
@@ -97,19 +103,24 @@ pub fn take_back(
 ) -> usize
     requires can { 2048 ≤ length can.now }
     requires todo { 1024 ≤ length todo.old }
-    requires from { from ≤ closure.old.set.top }
-    requires counted { Counted (words_of program.now) (marks_of program.now) (taken closure.old) closure.old.missing }
-    requires first { First (Full (words_of program.now) (marks_of program.now) can.now (take from closure.old.set.queue)) (clause_count program.now.table) first }
-    ensures top { closure.new.set.top ≡ from }
-    ensures queue { closure.new.set.queue ≡ closure.old.set.queue }
-    ensures counted { Counted (words_of program.now) (marks_of program.now) (taken closure.new) closure.new.missing }
+    requires from { from ≤ closure.old.top }
+    requires queued { IsQueued closure.old }
+    requires room { HasRoom program.now closure.old }
+    requires counted { Counted (words_of program.now) (marks_of program.now) (taken closure.old) closure.old.missing.now }
+    requires first { First (Full (words_of program.now) (marks_of program.now) can.now (take from closure.old.queue.now)) (clause_count program.now.table) first }
+    ensures same_reference { IsSameClosure closure.old closure.new }
+    ensures queued { IsQueued closure.new }
+    ensures top { closure.new.top ≡ from }
+    ensures queue { closure.new.queue.now ≡ closure.old.queue.now }
+    ensures room { HasRoom program.now closure.new }
+    ensures counted { Counted (words_of program.now) (marks_of program.now) (taken closure.new) closure.new.missing.now }
     ensures first { First (Full (words_of program.now) (marks_of program.now) can.now (taken closure.old)) (clause_count program.now.table) result }
     ensures cleared { Cleared (taken closure.old) todo.old todo.new }
 {
     let mut least = first;
-    while from < closure.set.top {
+    while from < closure.top {
         least = put_back(closure, program, can, least);
-        let atom = closure.set.queue[closure.set.top];
+        let atom = closure.queue[closure.top];
         todo[usize::from(atom)] = 0;
     }
     least

@@ -7,14 +7,14 @@ ghost use Rattle.std.specs.Prelude.{◌≡◌, not, ◌&&◌, cond, Option, IfSo
 ghost use Rattle.rewriting.specs.Marked.{entry};
 ghost use Rattle.step_parts.specs.Reading.{atom_count, clause_count, program_of, words_of, marks_of};
 ghost use Rattle.step_reach.specs.Bytes.{in_bytes};
-ghost use Rattle.step_reach.specs.Growing.{IsSettled, taken};
+ghost use Rattle.step_reach.specs.Growing.{HasRoom, IsSameClosure, IsSettled, taken};
 ghost use Rattle.search_closure.specs.Back.{Full, First};
 ghost use Rattle.step_exclusion.specs.Exclusions.{Narrowed};
 ghost use Rattle.search_exclusion.specs.Smallest.{Smallest, Idle};
 ghost use Rattle.search_exclusion.specs.Tries.{plain_kept, Targets, Unset, best_of, Trial, BestOf, Remembered};
 
 use step_parts::Marked;
-use step_reach::Closure;
+use step_reach::{Closure, Count};
 
 // What the search finds: a constraint, and an atom that it excludes.
 #[derive(Clone, Copy)]
@@ -100,14 +100,17 @@ fn try_atom(
     requires todo { 1024 ≤ length todo.old }
     requires atom { atom < atom_count definite.now.table }
     requires known { IfSome best (λ pair. pair.target < clause_count definite.now.table) }
+    requires room { HasRoom definite.now closure.old }
     requires settled { IsSettled definite.now closure.old }
     requires first { First (Full (words_of definite.now) (marks_of definite.now) can.now (taken closure.old)) (clause_count definite.now.table) full }
+    ensures same_reference { IsSameClosure closure.old closure.new }
+    ensures room { HasRoom definite.now closure.new }
     ensures trial { Trial (words_of definite.now) (marks_of definite.now) can.now atom (best_of (clause_count definite.now.table) best) todo.old todo.new (best_of (clause_count definite.now.table) result) }
     ensures known { IfSome result (λ pair. pair.target < clause_count definite.now.table) }
     ensures settled { IsSettled definite.now closure.new }
     ensures taken { taken closure.new ≡ taken closure.old }
 {
-    let top = closure.set.top;
+    let top = closure.top;
     closure.close_with(definite, atom);
     let t = search_closure::take_back(closure, definite, can, full, top, todo);
     better(t, atom, best, definite.table.clause_count())
@@ -129,12 +132,14 @@ fn by_atoms(
     requires can { 2048 ≤ length can.now }
     requires targets { Targets (atom_count program.now.table) (program_of program.now) can.now }
     requires low { Unset can.now low }
+    requires room { HasRoom definite.now closure.old }
     requires settled { IsSettled definite.now closure.old }
     requires first { First (Full (words_of definite.now) (marks_of definite.now) can.now (taken closure.old)) (clause_count definite.now.table) full }
     ensures best { BestOf (atom_count program.now.table) (program_of program.now) (best_of (clause_count program.now.table) result) }
     ensures known { IfSome result (λ pair. pair.target < clause_count program.now.table) }
 {
-    let mut todo = step_exclusion::find_present(program).bytes;
+    let mut todo = [0u8; 1024];
+    step_exclusion::find_present(program, &mut todo);
     let mut best = None;
     for atom in 0..program.table.atom_count() {
         if target_or(best, program.table.clause_count()) <= low {
@@ -162,8 +167,12 @@ fn best_pair(program: &Marked, can: &[u8], low: usize) -> Option<Exclusion>
         table: program.table,
         marks: &marks,
     };
-    let mut closure = Closure::new(&definite);
-    let full = search_closure::first_full(&program.table, can, &closure.missing);
+    let mut bytes = [0u8; 1024];
+    let mut missing: [Count; 2048] = [0; 2048];
+    let mut queue = [0u16; 1024];
+    let mut closure = Closure::new(&definite, &mut bytes, &mut missing, &mut queue);
+    let missing = &mut *closure.missing;
+    let full = search_closure::first_full(&program.table, can, missing);
     by_atoms(program, &definite, can, low, full, &mut closure)
 }
 

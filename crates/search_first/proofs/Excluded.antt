@@ -9,7 +9,7 @@ use lib.Dec.{ltb}
 use borrow.Author.Tests.{ltb-true, lt-ltb}
 use Rattle.semantics.proofs.Tests.{and_iff, so_false}
 use Rattle.rewriting.specs.Marked.{Marked, entry, left}
-use Rattle.rewriting.specs.Kinds.{excluded}
+use Rattle.rewriting.specs.Kinds.{Kind, excluded}
 use Rattle.rewriting.specs.Exclusion.{excludes}
 use Rattle.rewriting.specs.Steps.{step, condition}
 use Rattle.rewriting.specs.Reducer.{eligible}
@@ -53,7 +53,7 @@ module _ (n : ℕ) (P : Marked) where
   exclusion_none h = search_end n P excluded (λ j i. target_none j (h j))
 
 -- as the search gives it
-pub excluded_one : (n : ℕ) (P : Marked) (r : rust.Option Exclusion) (pair : Exclusion) (s : row.Step) → Smallest n P r → r ≡ Some pair → s ≡ record { kind = excluded; target = pair.target; partner = 0; atom = pair.atom }
+pub excluded_one : (n : ℕ) (P : Marked) (r : rust.Option Exclusion) (pair : Exclusion) (s : row.Step Kind) → Smallest n P r → r ≡ Some pair → s ≡ record { kind = excluded; target = pair.target; partner = 0; atom = pair.atom }
     → Some s ≡ found_of (first_target n P excluded)
 unfolding found_of
 excluded_one n P r pair s w e q = ap Some q ∙ sym (ap found_of (exclusion_some n P pair.target pair.atom (w.some pair e)))

@@ -36,7 +36,7 @@ kind_at (suc (suc (suc (suc (suc (suc (suc zero))))))) d h = refl
 kind_at (suc (suc (suc (suc (suc (suc (suc (suc i)))))))) d h = absurd (omega arith)
 
 module _ (n : ℕ) (P : Marked) (i : ℕ) (none_before : (j : ℕ) → j < i → first_target n P (kind_of (suc j)) ≡ none) where
-  pub kinds_found : i < 8 → (k : Kind) → k ≡ kind_of (suc i) → (f : rust.Option row.Step) → f ≡ found_of (first_target n P k) → f ≢ None → f ≡ found_of (first_flagged n P)
+  pub kinds_found : i < 8 → (k : Kind) → k ≡ kind_of (suc i) → (f : rust.Option (row.Step Kind)) → f ≡ found_of (first_target n P k) → f ≢ None → f ≡ found_of (first_flagged n P)
   unfolding found_of first_flagged
   kinds_found b k at f e d = go (first_target n P k) refl e
     where
@@ -52,11 +52,11 @@ module _ (n : ℕ) (P : Marked) (i : ℕ) (none_before : (j : ℕ) → j < i →
   kinds_more k at e j l = by_cases (ℕ_discrete j i) (λ d. subst (λ x. first_target n P (kind_of (suc x)) ≡ none) (sym d) (subst (λ x. first_target n P x ≡ none) at (found_nothing _ e)))
       (λ d. none_before j (omega arith))
 
-pub found_one : (f : rust.Option row.Step) (s : row.Step) → f ≡ Some s → f ≢ None
+pub found_one : (f : rust.Option (row.Step Kind)) (s : row.Step Kind) → f ≡ Some s → f ≢ None
 found_one f s e d = let q : ◌≡◌ {A = ℕ} 0 1 = cc in omega arith
 
 -- kind 9 comes after the others
-pub flagged_found : (n : ℕ) (P : Marked) (f : rust.Option row.Step) → f ≡ found_of (first_flagged n P) → f ≢ None → f ≡ found_of (first_step n P)
+pub flagged_found : (n : ℕ) (P : Marked) (f : rust.Option (row.Step Kind)) → f ≡ found_of (first_flagged n P) → f ≢ None → f ≡ found_of (first_step n P)
 unfolding found_of first_flagged first_step least
 flagged_found n P f e d = go (first_flagged n P) e
   where
@@ -64,6 +64,6 @@ flagged_found n P f e d = go (first_flagged n P) e
     go none h = absurd (d h)
     go (some s) h = h
 
-pub flagged_none : (n : ℕ) (P : Marked) (f : rust.Option row.Step) → None ≡ found_of (first_flagged n P) → f ≡ found_of (first_target n P excluded) → f ≡ found_of (first_step n P)
+pub flagged_none : (n : ℕ) (P : Marked) (f : rust.Option (row.Step Kind)) → None ≡ found_of (first_flagged n P) → f ≡ found_of (first_target n P excluded) → f ≡ found_of (first_step n P)
 unfolding first_flagged first_step least
 flagged_none n P f e q = q ∙ sym (ap (λ x. found_of (elim x [ none ↦ first_target n P excluded | some s ↦ some s ])) (found_nothing (first_flagged n P) e))

@@ -32,7 +32,7 @@ const KINDS: [Kind; 8] = [
 ];
 
 // Where a search stopped: at the target found, or at the end.
-fn stopped_at(found: Option<Step>, end: usize) -> usize
+fn stopped_at(found: Option<Step<Kind>>, end: usize) -> usize
     ensures { result ≡ stopped_at found end }
 {
     match found {
@@ -42,7 +42,13 @@ fn stopped_at(found: Option<Step>, end: usize) -> usize
 }
 
 // The search of a kind between its row's bounds.
-fn search_row(facts: &Facts, flags: &mut Flags, kind: Kind, low: usize, end: usize) -> Option<Step>
+fn search_row(
+    facts: &Facts,
+    flags: &mut Flags,
+    kind: Kind,
+    low: usize,
+    end: usize,
+) -> Option<Step<Kind>>
     requires arrays { ArraysOf facts.now kind }
     requires end { end ≤ clause_count facts.now.program.table }
     requires kind { So (on_target kind) }
@@ -65,7 +71,7 @@ fn first_of_kind(
     reach: &mut [u8],
     flags: &mut Flags,
     kind: Kind,
-) -> Option<Step>
+) -> Option<Step<Kind>>
     requires state { StateOf program.now heads.now reach.old flags.old }
     requires kind { So (on_target kind) }
     ensures found { result ≡ found_of (first_target (atom_count program.now.table) (program_of program.now) kind) }
@@ -91,7 +97,7 @@ fn first_flagged(
     heads: &[u16],
     reach: &mut [u8],
     flags: &mut Flags,
-) -> Option<Step>
+) -> Option<Step<Kind>>
     requires { StateOf program.now heads.now reach.old flags.old }
     ensures found { result ≡ found_of (first_flagged (atom_count program.now.table) (program_of program.now)) }
     ensures state { StateOf program.now heads.now reach.new flags.new }
@@ -105,7 +111,7 @@ fn first_flagged(
 }
 
 // The smallest step of kind 9.
-fn first_excluded(program: &Marked, idle: &mut [u8]) -> Option<Step>
+fn first_excluded(program: &Marked, idle: &mut [u8]) -> Option<Step<Kind>>
     requires room { 2048 ≤ length idle.old }
     requires idle { Idle (atom_count program.now.table) (program_of program.now) idle.old }
     ensures found { result ≡ found_of (first_target (atom_count program.now.table) (program_of program.now) excluded) }
@@ -123,7 +129,7 @@ pub fn first_step(
     reach: &mut [u8],
     flags: &mut Flags,
     idle: &mut [u8],
-) -> Option<Step>
+) -> Option<Step<Kind>>
     requires state { StateOf program.now heads.now reach.old flags.old }
     requires room { 2048 ≤ length idle.old }
     requires idle { Idle (atom_count program.now.table) (program_of program.now) idle.old }

@@ -7,8 +7,6 @@ use native.Mathlib.Omega.{arith}
 use native.Mathlib.Decide.{ℕ_discrete, dec_lt}
 use lib.ListN.{length, get_or, set, length-set, get_or-eq_default}
 use lib.Seq.{get_or-set_same, get_or-set_other}
-use Rattle.rewriting.specs.Kinds.{Kind, number}
-use Rattle.rewriting.proofs.Rows.{number_bounds}
 use Rattle.search_flags.specs.Flags.{flag_at, most, next, Flagged, Covered, lowest, highest, Inside, Rows, Raising, Fenced, all_flags, highests, lowests, mosts, nexts}
 
 -- two rows have no place in common
@@ -166,8 +164,8 @@ raising_more one two three row x y z a b p q = record {
 pub raising_flagged : (flags flags' : List ℕ) (row top : ℕ) → Raising flags flags' row top → (r i k : ℕ) → r ≤ 16 → i < 2048 → Flagged flags r i k → Flagged flags' r i k
 raising_flagged flags flags' row top g r i k a b f = ((λ e. f.0 (g.grown r i a b e)), (let l = g.lower r i a b f.0 in omega (arith, f.1)))
 
-pub raising_below : (flags flags' : List ℕ) (row top : ℕ) → Raising flags flags' row top → (kind : Kind) (i k : ℕ) → i < 2048 → Covered flags kind i k → Covered flags' kind i k
-raising_below flags flags' row top g kind i k b f = (raising_flagged flags flags' row top g (number kind) i k (omega (arith, number_bounds kind)) b f.0, λ e. (let x = f.1 e in let y = g.more i b in omega arith))
+pub raising_below : (flags flags' : List ℕ) (row top : ℕ) → Raising flags flags' row top → (r i k : ℕ) → r ≤ 16 → i < 2048 → Covered flags r i k → Covered flags' r i k
+raising_below flags flags' row top g r i k a b f = (raising_flagged flags flags' row top g r i k a b f.0, λ e. (let x = f.1 e in let y = g.more i b in omega arith))
 
 pub raising_keeps : (flags flags' : List ℕ) (row top : ℕ) → Raising flags flags' row top → (r i : ℕ) → r ≤ 16 → i < 2048 → flag_at flags r i ≢ 0 → flag_at flags' r i ≢ 0
 raising_keeps flags flags' row top g r i a b f e = f (g.grown r i a b e)

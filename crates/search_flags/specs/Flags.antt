@@ -4,7 +4,6 @@
 -- Behind these stands for each target one above the greatest partner of kind 3 that it was flagged for,
 -- and last for each clause a number up to which all clauses from it on are gone.
 use Rattle.std.specs.Prelude.{◌≡◌, ◌≢◌, List, ℕ, ◌+◌, ◌*◌, ◌≤◌, ◌<◌, length, get_or}
-use Rattle.rewriting.specs.Kinds.{Kind, success, number}
 
 -- where the lower bounds stand, the upper bounds, the greatest partners and the numbers of gone clauses; and the length of all
 abbrev pub lowests : ℕ
@@ -43,8 +42,8 @@ abbrev pub Flagged : List ℕ → ℕ → ℕ → ℕ → Type 0
 Flagged flags row i key = (flag_at flags row i ≢ 0) × (flag_at flags row i ≤ key + 1)
 
 -- the same of a target; for kind 3 the greatest partner is no less
-abbrev pub Covered : List ℕ → Kind → ℕ → ℕ → Type 0
-Covered flags kind t key = Flagged flags (number kind) t key × (kind ≡ success → key + 1 ≤ most flags t)
+abbrev pub Covered : List ℕ → ℕ → ℕ → ℕ → Type 0
+Covered flags row t key = Flagged flags row t key × (row ≡ 3 → key + 1 ≤ most flags t)
 
 -- the row has no flag outside the two places
 abbrev pub Inside : List ℕ → ℕ → ℕ → ℕ → Type 0

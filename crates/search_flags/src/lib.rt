@@ -2,7 +2,6 @@
 #![tactic(auto)]
 
 ghost use Rattle.std.specs.Prelude.{◌≡◌, ◌+◌, ◌*◌, ◌≤◌, ◌<◌, ◌↔◌, ◌≢◌, ◌++◌, List, ℕ, set, replicate, length, IsTrue};
-ghost use Rattle.rewriting.specs.Kinds.{number};
 ghost use Rattle.search_flags.specs.Flags.{flag_at, most, next, Flagged, Covered, lowest, highest, Raising, AllFlagged, Fenced, all_flags, highests, lowests, mosts, nexts};
 
 use rewriting::Kind;
@@ -35,14 +34,14 @@ impl Row {
 #[derive(Drop)]
 pub struct Flags {
     // By row and place one above the least key, or 0 for none.
-    keys: [u16; 34816],
+    pub keys: [u16; 34816],
     // By row the place from which on it may have flags, and the place before which they end.
-    lows: [u16; 17],
-    ends: [u16; 17],
+    pub lows: [u16; 17],
+    pub ends: [u16; 17],
     // By target one above the greatest partner of kind 3 that it was flagged for.
-    tops: [u16; 2048],
+    pub tops: [u16; 2048],
     // By clause a number up to which all clauses from it on are gone.
-    gaps: [u16; 2048],
+    pub gaps: [u16; 2048],
 }
 
 impl Model for Flags {
@@ -227,13 +226,14 @@ impl Flags {
         old != 0 && old <= key + 1
     }
 
-    // Whether the target is covered for the key: flagged with no greater one, and for kind 3 with the greatest no less.
-    pub fn covered(&self, kind: Kind, t: usize, key: usize) -> bool
+    // Whether the target is covered for the key: flagged with no greater one, and in the row of kind 3 with the greatest no less.
+    pub fn covered(&self, row: Row, t: usize, key: usize) -> bool
+        requires row { row_number row ≤ 16 }
         requires target { t < 2048 }
         requires key { key < 2048 }
-        ensures { IsTrue result → Covered self.now kind t key }
+        ensures { IsTrue result → Covered self.now (row_number row) t key }
     {
-        self.flagged(Row::Target(kind), t, key) && (kind != Kind::Success || key < self.most(t))
+        self.flagged(row, t, key) && (row.number() != 3 || key < self.most(t))
     }
 
     // A partner more for the target of kind 3.
@@ -247,14 +247,15 @@ impl Flags {
     }
 
     // The target is covered for the key.
-    pub fn cover(&mut self, kind: Kind, t: usize, key: usize)
+    pub fn cover(&mut self, row: Row, t: usize, key: usize)
+        requires row { row_number row ≤ 16 }
         requires target { t < 2048 }
         requires key { key < 2048 }
-        ensures raising { Raising self.old self.new (number kind) (t + 1) }
-        ensures covered { Covered self.new kind t key }
+        ensures raising { Raising self.old self.new (row_number row) (t + 1) }
+        ensures covered { Covered self.new (row_number row) t key }
     {
-        self.flag(Row::Target(kind), t, key);
-        if kind == Kind::Success {
+        self.flag(row, t, key);
+        if row.number() == 3 {
             self.raise_most(t, key);
         }
     }

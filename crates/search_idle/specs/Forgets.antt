@@ -34,7 +34,7 @@ pub record Later (s queue : List ℕ) (top : ℕ) (s' queue' : List ℕ) (top' :
 
 -- said of a set of atoms
 abbrev pub HasGrown : AtomSet → AtomSet → Type 0
-HasGrown s s' = Later s.bytes s.queue s.top s'.bytes s'.queue s'.top
+HasGrown s s' = Later s.bytes.now s.queue.now s.top s'.bytes.now s'.queue.now s'.top
 
 -- The byte of clause t is not 1 any more, and no other has become 1.
 pub record Forgot (idle : List ℕ) (t : ℕ) (idle' : List ℕ) : Type 0 where
@@ -48,7 +48,7 @@ pub record Onward (s queue : List ℕ) (top : ℕ) (idle s' queue' : List ℕ) (
 
 -- said of a set of atoms
 abbrev pub GoesOn : AtomSet → List ℕ → AtomSet → List ℕ → Type 0
-GoesOn s idle s' idle' = Onward s.bytes s.queue s.top idle s'.bytes s'.queue s'.top idle'
+GoesOn s idle s' idle' = Onward s.bytes.now s.queue.now s.top idle s'.bytes.now s'.queue.now s'.top idle'
 
 -- Clause t is not idle, and where it is kept and definite its head is in the set.
 pub record Met (Q : Marked) (F : Atoms) (idle : List ℕ) (t : ℕ) : Type 0 where

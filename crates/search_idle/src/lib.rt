@@ -28,9 +28,10 @@ fn fires(program: &Marked, t: usize) -> bool
 
 // The head of clause t joins where the clause is kept and definite.
 fn join_head(set: &mut AtomSet, program: &Marked, t: usize)
-    requires { t < clause_count program.now.table }
+    requires clause { t < clause_count program.now.table }
+    requires room { atom_count program.now.table ≤ length set.old.bytes.now }
     ensures grown { HasGrown set.old set.new }
-    ensures head { Heads (in_bytes set.new.bytes) (entry (program_of program.now) t) }
+    ensures head { Heads (in_bytes set.new.bytes.now) (entry (program_of program.now) t) }
 {
     if !fires(program, t) {
         return;
@@ -51,8 +52,9 @@ fn forget(idle: &mut [u8], t: usize)
 fn meet(set: &mut AtomSet, program: &Marked, i: usize, idle: &mut [u8])
     requires place { i < length (words_of program.now) }
     requires clause { get_or program.now.table.index.now (owner_at i) 0 < clause_count program.now.table }
+    requires room { atom_count program.now.table ≤ length set.old.bytes.now }
     ensures onward { GoesOn set.old idle.old set.new idle.new }
-    ensures met { Met (program_of program.now) (in_bytes set.new.bytes) idle.new (get_or program.now.table.index.now (owner_at i) 0) }
+    ensures met { Met (program_of program.now) (in_bytes set.new.bytes.now) idle.new (get_or program.now.table.index.now (owner_at i) 0) }
 {
     let t = program.table.owner(i);
     forget(idle, t);
@@ -63,9 +65,10 @@ fn meet(set: &mut AtomSet, program: &Marked, i: usize, idle: &mut [u8])
 
 // So with each clause that has the atom in that part, also where it was dropped.
 fn spread_atom(set: &mut AtomSet, program: &Marked, part: Part, atom: u16, idle: &mut [u8])
-    requires { atom < 1024 }
+    requires atom { atom < 1024 }
+    requires room { atom_count program.now.table ≤ length set.old.bytes.now }
     ensures onward { GoesOn set.old idle.old set.new idle.new }
-    ensures met { MetAt (words_of program.now) (program_of program.now) part atom set.new.bytes idle.new }
+    ensures met { MetAt (words_of program.now) (program_of program.now) part atom set.new.bytes.now idle.new }
 {
     for i in program.table.places(part, atom) {
         meet(set, program, i, idle);
@@ -74,7 +77,8 @@ fn spread_atom(set: &mut AtomSet, program: &Marked, part: Part, atom: u16, idle:
 
 // So with each clause that has an atom of the queue in its positive body: each atom that joins is taken once.
 fn spread(set: &mut AtomSet, program: &Marked, idle: &mut [u8])
-    ensures { Spread (program_of program.now) set.old.bytes idle.old set.new.bytes idle.new }
+    requires { atom_count program.now.table ≤ length set.old.bytes.now }
+    ensures { Spread (program_of program.now) set.old.bytes.now idle.old set.new.bytes.now idle.new }
 {
     let mut k: usize = 0;
     while k < set.top {
@@ -104,7 +108,9 @@ fn forget_without(program: &Marked, atom: u16, idle: &mut [u8])
     if 1024 <= atom {
         return;
     }
-    let mut set = AtomSet::new();
+    let mut bytes = [0u8; 1024];
+    let mut queue = [0u16; 1024];
+    let mut set = AtomSet::new(&mut bytes, &mut queue);
     spread_atom(&mut set, program, Part::Head, atom, idle);
     spread_atom(&mut set, program, Part::Neg, atom, idle);
     spread(&mut set, program, idle);
@@ -115,7 +121,9 @@ fn forget_from(program: &Marked, t: usize, idle: &mut [u8])
     requires { t < clause_count program.now.table }
     ensures { Forgets (λ F. Heads F (entry (program_of program.now) t)) (program_of program.now) idle.old idle.new }
 {
-    let mut set = AtomSet::new();
+    let mut bytes = [0u8; 1024];
+    let mut queue = [0u16; 1024];
+    let mut set = AtomSet::new(&mut bytes, &mut queue);
     set.join_part(program, t, Part::Head);
     spread(&mut set, program, idle);
 }

@@ -176,7 +176,7 @@ module _ (ws ms index hs rs flags : List ℕ) (z : State ws ms index hs rs flags
         let same : most gone u.target ≡ most flags' u.target = get_or-set_other flags' ((8 + number kind) * 2048 + x) (mosts + u.target) 0 0 (λ y. omega arith) in
         by_cases (ℕ_discrete (number kind) 3)
         (λ q. by_cases (ℕ_discrete (key u) x)
-        (λ d. let w = ((s.flagged u (e ∙ sym (number_same kind success q)) d h).1 (subst (λ j. So (uses_partner j)) (sym (number_same kind success q)) refl)).1 (number_same kind success q) in omega (arith, w, same, d))
+        (λ d. let w = ((s.flagged u (e ∙ sym (number_same kind success q)) d h).1 (subst (λ j. So (uses_partner j)) (sym (number_same kind success q)) refl)).1 q in omega (arith, w, same, d))
         (λ d. let w = after_spread.bounded u e (sym (elsewhere 11 (key u) l' (inr d)) ∙ f) h in omega (arith, w, same)))
         (λ q. let w = after_spread.bounded u e (sym (elsewhere 11 (key u) l' (inl (λ y. q (omega arith)))) ∙ f) h in omega (arith, w, same))
 

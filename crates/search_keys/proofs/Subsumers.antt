@@ -1,5 +1,5 @@
 -- Kinds 5 and 8: the targets of a clause that is subsumed are those of the clause that subsumes it.
-use mathlib.Core.Path.{◌≡◌, refl, ap, ◌∙◌}
+use mathlib.Core.Path.{◌≡◌, refl, sym, ap, ◌∙◌}
 use mathlib.Core.Logic.{◌≢◌}
 use mathlib.Core.Bool.{So, cond}
 use mathlib.Core.List.{List}
@@ -7,9 +7,9 @@ use Prim.Native.Nat.{ℕ, ◌+◌}
 use native.Mathlib.Omega.{arith}
 use lib.ListN.{get_or}
 use Rattle.rewriting.specs.Steps.{step}
-use Rattle.rewriting.specs.Kinds.{Kind, success, number, uses_partner}
+use Rattle.rewriting.specs.Kinds.{Kind, success, number, kind_of, uses_partner}
 use Rattle.rewriting.specs.Reducer.{spares, eligible}
-use Rattle.rewriting.proofs.Rows.{kinds_partner}
+use Rattle.rewriting.proofs.Rows.{kind_of_number, kinds_partner}
 use Rattle.rewriting.proofs.Subsumed.{subsumer_eligible}
 use Rattle.table.specs.View.{view}
 use Rattle.table.proofs.Parts.{view_ascends}
@@ -30,12 +30,12 @@ module _ (ws ms index hs rs flags : List ℕ) (z : State ws ms index hs rs flags
   stale_key = ap (λ b. flag_at flags (8 + number kind) (cond b q 0)) k ∙ s.stale
 
   -- a target of q is flagged with no greater key
-  target_covered : (t : ℕ) → So (eligible (get_or ws 0 0) (view ws ms) (step kind t q 0)) → Covered flags kind t x
+  target_covered : (t : ℕ) → So (eligible (get_or ws 0 0) (view ws ms) (step kind t q 0)) → Covered flags (number kind) t x
   target_covered t a =
       let u = step kind t q 0 in
       let l = z.least kind k u refl stale_key a in
       let y : cond (uses_partner kind) q 0 ≡ q = ap (λ b. cond b q 0) k in
-      (((λ m. (z.quiet kind (partner_loop flags kind k)).calm u refl m stale_key a), omega (arith, l, y, s.less)), λ e. absurd (d e))
+      (((λ m. (z.quiet kind (partner_loop flags kind k)).calm u refl m stale_key a), omega (arith, l, y, s.less)), λ e. absurd (d (sym (kind_of_number kind) ∙ ap kind_of e)))
 
   -- a target of x is one of q, so it is flagged already
   pub subsumer_spread : PartnerSpread ws ms flags flags kind x

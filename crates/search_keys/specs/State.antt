@@ -73,7 +73,7 @@ pub record Subsumer (ws ms flags : List ℕ) (kind : Kind) (x q : ℕ) : Type 0 
 -- Every target that has an eligible step with the key is flagged; the key is what a step names beside its target, the partner or the atom.
 pub record KeySpread (ws ms flags flags' : List ℕ) (kind : Kind) (x : ℕ) : Type 0 where
   pub raising : Raising flags flags' (number kind) (get_or ws 1 0)
-  pub flagged : (u : Step) → u.kind ≡ kind → key u ≡ x → So (eligible (get_or ws 0 0) (view ws ms) u) → (flag_at flags' (number kind) u.target ≢ 0) × (So (uses_partner kind) → Covered flags' kind u.target x)
+  pub flagged : (u : Step) → u.kind ≡ kind → key u ≡ x → So (eligible (get_or ws 0 0) (view ws ms) u) → (flag_at flags' (number kind) u.target ≢ 0) × (So (uses_partner kind) → Covered flags' (number kind) u.target x)
 
 -- no key of the kind is fresh
 abbrev pub Settled : List ℕ → Kind → Type 0

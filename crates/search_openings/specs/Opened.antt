@@ -3,7 +3,7 @@ use Rattle.std.specs.Prelude.{◌≡◌, ◌≢◌, ◌⊎◌, List, ℕ, ◌≤
 use Rattle.std.proofs.Math.Bool.{So}
 use Rattle.semantics.specs.Lists.{◌∈◌}
 use Rattle.semantics.proofs.Models.{All}
-use Rattle.rewriting.specs.Kinds.{on_target}
+use Rattle.rewriting.specs.Kinds.{Kind, on_target}
 use Rattle.rewriting.specs.Reaches.{reach}
 use Rattle.rewriting.specs.Steps as steps
 use Rattle.rewriting.proofs.Reopen.{SameHead}
@@ -39,7 +39,7 @@ abbrev pub AllFresh : List ℕ → List ℕ → Type 0
 AllFresh flags l = (a : ℕ) → a ∈ l → AtomFresh flags a
 
 -- The step is of kinds 1 to 8, and applies.
-pub record StepMade (ws ms : List ℕ) (s : Step) : Type 0 where
+pub record StepMade (ws ms : List ℕ) (s : Step Kind) : Type 0 where
   pub on : So (on_target s.kind)
   pub applies : So (applies (get_or ws 0 0) (view ws ms) (step_of s))
 

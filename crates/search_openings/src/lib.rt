@@ -55,7 +55,7 @@ pub fn open_head(program: &Marked, flags: &mut Flags, t: usize)
 // ---- whether a deletion takes the reach with it
 
 // Whether the clause that a step deletes has a partner that fires in its place.
-fn same_head(program: &Marked, step: Step) -> bool
+fn same_head(program: &Marked, step: Step<Kind>) -> bool
     requires { StepMade (words_of program.now) (marks_of program.now) step }
     ensures { IsTrue result → SameHead (program_of program.now) (step_of step) }
 {
@@ -71,7 +71,7 @@ fn same_head(program: &Marked, step: Step) -> bool
 }
 
 // A deletion: the reach is to be found anew, unless the clause did not fire or its partner fires in its place.
-fn lose_reach(program: &Marked, reach: &[u8], flags: &mut Flags, step: Step)
+fn lose_reach(program: &Marked, reach: &[u8], flags: &mut Flags, step: Step<Kind>)
     requires reached { flag_at flags.old 0 0 ≡ 0 → Reached (words_of program.now) (marks_of program.now) reach.now }
     requires made { StepMade (words_of program.now) (marks_of program.now) step }
     ensures { Lost (words_of program.now) (marks_of program.now) flags.old flags.new (step_of step) }
@@ -94,7 +94,7 @@ fn drop_literal(
     heads: &[u16],
     reach: &[u8],
     flags: &mut Flags,
-    step: Step,
+    step: Step<Kind>,
 )
     requires state { StateAt table.now marks.old heads.now reach.now flags.old }
     requires made { StepMade table.now.words.now marks.old step }
@@ -113,7 +113,7 @@ fn delete_clause(
     heads: &mut [u16],
     reach: &[u8],
     flags: &mut Flags,
-    step: Step,
+    step: Step<Kind>,
 )
     requires state { StateAt table.now marks.old heads.old reach.now flags.old }
     requires made { StepMade table.now.words.now marks.old step }
@@ -144,7 +144,7 @@ pub fn apply_step(
     heads: &mut [u16],
     reach: &[u8],
     flags: &mut Flags,
-    step: Step,
+    step: Step<Kind>,
 )
     requires state { StateAt table.now marks.old heads.old reach.now flags.old }
     requires made { StepMade table.now.words.now marks.old step }

@@ -1,7 +1,7 @@
 // One clause's atoms stamped in an array, and whether a partner of kind 3, 5 or 8 fits the clause that is stamped.
 #![tactic(auto)]
 
-ghost use Rattle.std.specs.Prelude.{◌≡◌, ◌≢◌, ◌&&◌, ◌+◌, ◌≤◌, ◌<◌, List, ℕ, set};
+ghost use Rattle.std.specs.Prelude.{◌≡◌, ◌≢◌, ◌&&◌, ◌+◌, ◌≤◌, ◌<◌, List, ℕ, length, set, replicate};
 ghost use Rattle.std.proofs.Math.Bool.{So};
 ghost use Rattle.semantics.specs.Lists.{all, single};
 ghost use Rattle.rewriting.specs.Steps.{fact, condition_holds};
@@ -23,7 +23,7 @@ use step_parts::{Marked, Part};
 // A byte for each part and atom, 1 where the part has the atom. Clauses see the bytes.
 #[derive(Drop)]
 pub struct Stamped {
-    bytes: [u8; 3072],
+    pub bytes: [u8; 3072],
 }
 
 impl Model for Stamped {
@@ -45,16 +45,23 @@ fn place_of(part: Part, atom: u16) -> usize
 }
 
 impl Stamped {
-    // The stamps of clause t.
-    pub fn new(program: &Marked, t: usize) -> Self
-        requires { t < clause_count program.now.table }
-        ensures { Stamps (clause_of program.now t) result }
+    // No atom is stamped.
+    pub fn new() -> Self
+        ensures { result ≡ replicate 3072 0 }
     {
-        let mut stamps = Stamped { bytes: [0; 3072] };
-        stamps.stamp(program, t, Part::Head);
-        stamps.stamp(program, t, Part::Pos);
-        stamps.stamp(program, t, Part::Neg);
-        stamps
+        Stamped { bytes: [0; 3072] }
+    }
+
+    // Stamps the three parts of clause t, where no atom is stamped yet. The stamps are filled where they stand: those of a clause, returned, would be copied.
+    pub fn stamp_clause(&mut self, program: &Marked, t: usize)
+        requires clause { t < clause_count program.now.table }
+        requires none { self.old ≡ replicate 3072 0 }
+        ensures stamps { Stamps (clause_of program.now t) self.new }
+        ensures long { length self.new ≡ 3072 }
+    {
+        self.stamp(program, t, Part::Head);
+        self.stamp(program, t, Part::Pos);
+        self.stamp(program, t, Part::Neg);
     }
 
     // Stamps an atom of a part.

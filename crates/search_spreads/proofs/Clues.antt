@@ -16,7 +16,7 @@ use Rattle.rewriting.specs.Marked.{entry, left}
 use Rattle.rewriting.specs.Steps.{step, fact, in_no_head, condition}
 use Rattle.rewriting.specs.Reducer.{eligible}
 use Rattle.rewriting.specs.Kinds.{Kind, success, subsumed, number, uses_atom}
-use Rattle.rewriting.proofs.Rows.{succeeds, kinds_partner, kinds_no_head}
+use Rattle.rewriting.proofs.Rows.{number_bounds, succeeds, kinds_partner, kinds_no_head}
 use Rattle.rewriting.proofs.Equal.{eligible_ask}
 use Rattle.table.specs.Questions.{Passed}
 use Rattle.table.specs.View.{view}
@@ -121,7 +121,7 @@ spread_headed ws ms hs flags kind a k h e = record {
 pub record SpreadAlong (ws ms index flags flags' : List ℕ) (kind : Kind) (p atom : ℕ) (x : Part) (a i : ℕ) : Type 0 where
   pub raising : Raising flags flags' (number kind) (get_or ws 1 0)
   pub here : 0 < i → Stands ws x a (get_or index (owner_at i) 0) i
-  pub done : (t j : ℕ) → Stands ws x a t j → i < j → So (eligible (get_or ws 0 0) (view ws ms) (step kind t p atom)) → Covered flags' kind t p
+  pub done : (t j : ℕ) → Stands ws x a t j → i < j → So (eligible (get_or ws 0 0) (view ws ms) (step kind t p atom)) → Covered flags' (number kind) t p
 
 pub along_none : (ws ms index flags : List ℕ) (kind : Kind) (p atom : ℕ) (x : Part) (a i : ℕ) → Passed ws → Latest ws index x a (length ws) i → SpreadAlong ws ms index flags flags kind p atom x a i
 along_none ws ms index flags kind p atom x a i q l = record {
@@ -135,16 +135,16 @@ module _ (ws ms index flags flags' : List ℕ) (kind : Kind) (p atom : ℕ) (x :
   at t = eligible (get_or ws 0 0) (view ws ms) (step kind t p atom)
 
   pub along_on : 0 < i → (k : ℕ) → Latest ws index x a i k → (flags'' : List ℕ) (t : ℕ) → t ≡ get_or index (owner_at i) 0
-      → Raising flags' flags'' (number kind) (t + 1) × (So (at t) → Covered flags'' kind t p) → SpreadAlong ws ms index flags flags'' kind p atom x a k
+      → Raising flags' flags'' (number kind) (t + 1) × (So (at t) → Covered flags'' (number kind) t p) → SpreadAlong ws ms index flags flags'' kind p atom x a k
   along_on h k q flags'' t e (g, f) =
       let s = w.here h in
       record {
         raising = raising_more flags flags' flags'' (number kind) (get_or ws 1 0) (t + 1) (get_or ws 1 0) (omega arith) (omega (arith, s.clause)) w.raising g;
         here = λ z. (q.some z).1;
         done = λ u j y z c. by_cases (dec_lt i j)
-            (λ v. raising_below flags' flags'' (number kind) (t + 1) g kind u p (stands_small pass y).3 (w.done u j y v c))
+            (λ v. raising_below flags' flags'' (number kind) (t + 1) g (number kind) u p (omega (arith, number_bounds kind)) (stands_small pass y).3 (w.done u j y v c))
             (λ v. by_cases (ℕ_discrete j i)
-            (λ d. let r : u ≡ t = stands_clause (subst (λ j. Stands ws x a u j) d y) s ∙ sym e in subst (λ i. Covered flags'' kind i p) (sym r) (f (subst (λ i. So (at i)) r c)))
+            (λ d. let r : u ≡ t = stands_clause (subst (λ j. Stands ws x a u j) d y) s ∙ sym e in subst (λ i. Covered flags'' (number kind) i p) (sym r) (f (subst (λ i. So (at i)) r c)))
             (λ d. absurd (q.none u j y z (omega arith))));
       }
 

@@ -16,7 +16,7 @@ use Rattle.rewriting.specs.Reducer.{eligible}
 use Rattle.rewriting.specs.Kinds.{Kind, number, uses_partner}
 use Rattle.rewriting.proofs.Left.{kept_lt}
 use Rattle.rewriting.specs.Search.{step_with}
-use Rattle.rewriting.proofs.Rows.{atom_settled}
+use Rattle.rewriting.proofs.Rows.{number_bounds, atom_settled}
 use Rattle.rewriting.proofs.Quiet.{key}
 use Rattle.rewriting.proofs.Equal.{eligible_applies, eligible_ask}
 use Rattle.table.specs.View.{view}
@@ -57,7 +57,7 @@ itself_not n P k t p a (u, d) h =
 -- the targets below t are done
 pub record Spreading (ws ms flags flags' : List ℕ) (kind : Kind) (p a t : ℕ) : Type 0 where
   pub raising : Raising flags flags' (number kind) (get_or ws 1 0)
-  pub flagged : (j : ℕ) → j < t → So (eligible (get_or ws 0 0) (view ws ms) (step kind j p a)) → Covered flags' kind j p
+  pub flagged : (j : ℕ) → j < t → So (eligible (get_or ws 0 0) (view ws ms) (step kind j p a)) → Covered flags' (number kind) j p
 
 pub spreading_none : (ws ms flags : List ℕ) (kind : Kind) (p a : ℕ) → Spreading ws ms flags flags kind p a 0
 spreading_none ws ms flags kind p a = record { raising = raising_none flags (number kind) (get_or ws 1 0); flagged = λ j l. absurd (omega arith) }
@@ -66,11 +66,11 @@ module _ (ws ms flags flags' : List ℕ) (kind : Kind) (p a t : ℕ) (s : Spread
   abbrev at : ℕ → Bool
   at j = eligible (get_or ws 0 0) (view ws ms) (step kind j p a)
 
-  pub spreading_on : (flags'' : List ℕ) → t < 2048 → t < get_or ws 1 0 → Raising flags' flags'' (number kind) (t + 1) × (So (at t) → Covered flags'' kind t p) → Spreading ws ms flags flags'' kind p a (t + 1)
+  pub spreading_on : (flags'' : List ℕ) → t < 2048 → t < get_or ws 1 0 → Raising flags' flags'' (number kind) (t + 1) × (So (at t) → Covered flags'' (number kind) t p) → Spreading ws ms flags flags'' kind p a (t + 1)
   spreading_on flags'' l h (g, f) = record {
     raising = raising_more flags flags' flags'' (number kind) (get_or ws 1 0) (t + 1) (get_or ws 1 0) (omega arith) (omega arith) s.raising g;
-    flagged = λ j k q. by_cases (ℕ_discrete j t) (λ d. subst (λ i. Covered flags'' kind i p) (sym d) (f (subst (λ i. So (at i)) d q)))
-        (λ d. raising_below flags' flags'' (number kind) (t + 1) g kind j p (omega arith) (s.flagged j (omega arith) q));
+    flagged = λ j k q. by_cases (ℕ_discrete j t) (λ d. subst (λ i. Covered flags'' (number kind) i p) (sym d) (f (subst (λ i. So (at i)) d q)))
+        (λ d. raising_below flags' flags'' (number kind) (t + 1) g (number kind) j p (omega (arith, number_bounds kind)) (omega arith) (s.flagged j (omega arith) q));
   }
 
   pub spreading_all : get_or ws 1 0 ≤ t → Spread ws ms flags flags' kind p a

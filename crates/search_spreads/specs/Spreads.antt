@@ -27,7 +27,7 @@ NoTarget ws ms kind t p = (a : ℕ) → ¬ So (eligible (get_or ws 0 0) (view ws
 -- Every target that has an eligible step with the partner p and the atom is flagged.
 pub record Spread (ws ms flags flags' : List ℕ) (kind : Kind) (p a : ℕ) : Type 0 where
   pub raising : Raising flags flags' (number kind) (get_or ws 1 0)
-  pub flagged : (t : ℕ) → So (eligible (get_or ws 0 0) (view ws ms) (step kind t p a)) → Covered flags' kind t p
+  pub flagged : (t : ℕ) → So (eligible (get_or ws 0 0) (view ws ms) (step kind t p a)) → Covered flags' (number kind) t p
 
 -- Every target that has an eligible step with the partner p, which settles the atom, is flagged.
 abbrev pub PartnerSpread : List ℕ → List ℕ → List ℕ → List ℕ → Kind → ℕ → Type 0

@@ -13,7 +13,7 @@ ghost use Rattle.search_spreads.specs.Spreads.{Clue, NoPartner, NoTarget, Spread
 ghost use Rattle.search_spreads.specs.Keys.{KnownFor, KeySpread};
 
 use rewriting::Kind;
-use search_flags::Flags;
+use search_flags::{Flags, Row};
 use step_parts::{Marked, Part};
 
 // A program, and what is known of it: the kept heads of each atom, and the reach.
@@ -79,9 +79,9 @@ fn spread_one(facts: &Facts, flags: &mut Flags, key: Key, t: usize)
     requires kind { So (on_target key.kind) }
     requires known { KnownFor facts.now key.kind }
     ensures raising { Raising flags.old flags.new (number key.kind) (t + 1) }
-    ensures covered { So (eligible (atom_count facts.now.program.table) (program_of facts.now.program) (step key.kind t key.partner key.atom)) → Covered flags.new key.kind t key.partner }
+    ensures covered { So (eligible (atom_count facts.now.program.table) (program_of facts.now.program) (step key.kind t key.partner key.atom)) → Covered flags.new (number key.kind) t key.partner }
 {
-    if flags.covered(key.kind, t, key.partner) {
+    if flags.covered(Row::Target(key.kind), t, key.partner) {
         return;
     }
     if !may_target(&facts.program, key, t) {
@@ -90,7 +90,7 @@ fn spread_one(facts: &Facts, flags: &mut Flags, key: Key, t: usize)
     if !may_take(facts, key, t) {
         return;
     }
-    flags.cover(key.kind, t, key.partner);
+    flags.cover(Row::Target(key.kind), t, key.partner);
 }
 
 // Flags every target of the key.

@@ -133,15 +133,15 @@ module _ (ws ms : List ℕ) (kind : Kind) where
   targets_hit t p a l b f = sym (ap found_of (search_hit (get_or ws 0 0) (view ws ms) kind t (step kind t p a) (omega (arith, length_view ws ms)) f b))
 
 -- where a search stopped
-pub stopped_one : (f : rust.Option row.Step) (s : row.Step) (end : ℕ) → f ≡ Some s → stopped_at f end ≡ s.target
+pub stopped_one : (f : rust.Option (row.Step Kind)) (s : row.Step Kind) (end : ℕ) → f ≡ Some s → stopped_at f end ≡ s.target
 unfolding stopped_at
 stopped_one f s end e = ap (λ g. stopped_at g end) e
 
 module _ (flags : List ℕ) (kind : Kind) (t end : ℕ) (w : Inside flags (number kind) t end) where
-  pub stopped_there : (f : rust.Option row.Step) (s : row.Step) → f ≡ Some s → s.target ≡ t → Inside flags (number kind) (stopped_at f end) end
+  pub stopped_there : (f : rust.Option (row.Step Kind)) (s : row.Step Kind) → f ≡ Some s → s.target ≡ t → Inside flags (number kind) (stopped_at f end) end
   unfolding stopped_at
   stopped_there f s e q = subst (λ g. Inside flags (number kind) (stopped_at g end) end) (sym e) (subst (λ x. Inside flags (number kind) x end) (sym q) w)
 
-  pub stopped_end : (f : rust.Option row.Step) → f ≡ None → end ≤ t → Inside flags (number kind) (stopped_at f end) end
+  pub stopped_end : (f : rust.Option (row.Step Kind)) → f ≡ None → end ≤ t → Inside flags (number kind) (stopped_at f end) end
   unfolding stopped_at
   stopped_end f e l = subst (λ g. Inside flags (number kind) (stopped_at g end) end) (sym e) (λ i k h. let q = w i k h in absurd (omega arith))

@@ -17,12 +17,12 @@ use Rattle.search_keys.specs.State.{Arrays}
 use Rattle.step_conditions.specs.declared.Step as row
 
 -- a step as the search gives it
-unfoldable pub found_of : Option Step → rust.Option row.Step
+unfoldable pub found_of : Option Step → rust.Option (row.Step Kind)
 found_of none = None
 found_of (some s) = Some (record { kind = s.kind; target = s.target; partner = s.partner; atom = s.atom })
 
 -- where a search stopped: at the target found, or at the end
-unfoldable pub stopped_at : rust.Option row.Step → ℕ → ℕ
+unfoldable pub stopped_at : rust.Option (row.Step Kind) → ℕ → ℕ
 stopped_at (Some s) end = s.target
 stopped_at None end = end
 

@@ -59,7 +59,7 @@ pub fn first_by_atom(
     kind: Kind,
     low: usize,
     end: usize,
-) -> Option<Step>
+) -> Option<Step<Kind>>
     requires arrays { ArraysOf facts.now kind }
     requires end { end ≤ clause_count facts.now.program.table }
     requires kind { AtomKind kind }
@@ -106,7 +106,7 @@ fn partners_end(program: &Marked, flags: &Flags, kind: Kind, t: usize) -> usize
 }
 
 // The step of a kind with target t and partner p, which settles its atom.
-fn step_with(program: &Marked, kind: Kind, t: usize, p: usize) -> Step
+fn step_with(program: &Marked, kind: Kind, t: usize, p: usize) -> Step<Kind>
     requires target { t < clause_count program.now.table }
     requires partner { p < clause_count program.now.table }
     requires kind { PartnerKind kind }
@@ -125,7 +125,7 @@ pub fn first_by_partner(
     kind: Kind,
     low: usize,
     end: usize,
-) -> Option<Step>
+) -> Option<Step<Kind>>
     requires end { end ≤ clause_count program.now.table }
     requires kind { PartnerKind kind }
     requires calm { Calm (words_of program.now) (marks_of program.now) flags.old kind }
@@ -146,7 +146,8 @@ pub fn first_by_partner(
                 flags.set_flag(row, t, 0);
                 continue;
             }
-            let stamps = Stamped::new(program, t);
+            let mut stamps = Stamped::new();
+            stamps.stamp_clause(program, t);
             for p in from..e {
                 if stamps.partner_eligible(program, kind, t, p) {
                     flags.set_flag(row, t, p + 1);

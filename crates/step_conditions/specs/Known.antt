@@ -42,5 +42,5 @@ abbrev pub place_in : List ℕ → ℕ → Part → ℕ → ℕ
 place_in ws at x a = find ws a (span_of ws at x).from ((span_of ws at x).end - (span_of ws at x).from)
 
 -- "four a step: kind, target, partner, atom"
-abbrev pub step_of : Step → steps.Step
+abbrev pub step_of : Step Kind → steps.Step
 step_of s = step s.kind s.target s.partner s.atom

@@ -19,17 +19,17 @@ ghost use Rattle.step_conditions.specs.Known.{Heads, Tallied, Positive, Known, p
 use rewriting::Kind;
 use step_parts::{Indexed, Marked, Part};
 
-// A step: its kind, and the clauses and the atom that it names.
+// A step: its kind, as any number or as one of the nine, and the clauses and the atom that it names.
 #[derive(Clone, Copy)]
-pub struct Step {
-    pub kind: Kind,
+pub struct Step<K> {
+    pub kind: K,
     pub target: u16,
     pub partner: u16,
     pub atom: u16,
 }
 
-impl Step {
-    pub fn new(kind: Kind, target: u16, partner: u16, atom: u16) -> Step
+impl<K> Step<K> {
+    pub fn new(kind: K, target: u16, partner: u16, atom: u16) -> Step<K>
         ensures { result ≡ record { kind = kind; target = target; partner = partner; atom = atom } }
     {
         Step {
@@ -274,7 +274,7 @@ fn cleared(table: &Indexed, kind: Kind, t: usize, atom: u16) -> usize
 }
 
 // A step of another kind than 9 is made: its mark is cleared.
-pub fn make_step(table: &Indexed, marks: &mut [u8], s: Step)
+pub fn make_step(table: &Indexed, marks: &mut [u8], s: Step<Kind>)
     requires long { length table.now.words.now ≤ length marks.old }
     requires kind { So (on_target s.kind) }
     requires applies { So (applies (atom_count table.now) (view table.now.words.now marks.old) (step_of s)) }

@@ -42,6 +42,12 @@ entry_past ws ms s h = get_or-eq_default (view ws ms) gone (omega (arith, length
 pub copied_marks : (ms old : List ℕ) (n : ℕ) → n ≤ length ms → (i : ℕ) → i < n → get_or (take n ms ++ drop n old) i 0 ≡ get_or ms i 0
 copied_marks ms old n l i h = get_or-append (take n ms) (drop n old) 0 i (simp length-take (omega arith)) ∙ get_or-take n ms i 0 h
 
+-- the same, one mark after the other
+pub copy_on : (ms ks : List ℕ) (i : ℕ) → i < length ks → ((j : ℕ) → j < i → get_or ks j 0 ≡ get_or ms j 0) → (j : ℕ) → j < i + 1 → get_or (set ks i (get_or ms i 0)) j 0 ≡ get_or ms j 0
+copy_on ms ks i l h j k = by_cases (ℕ_discrete j i)
+    (λ e. rw (e, get_or-set_same ks i (get_or ms i 0) 0 l))
+    (λ e. get_or-set_other ks i j (get_or ms i 0) 0 e ∙ h j (omega arith))
+
 pub narrow_start : (ws ms ks : List ℕ) → Passed ws → ((i : ℕ) → i < length ws → get_or ks i 0 ≡ get_or ms i 0) → Narrowing ws ms 0 ks
 narrow_start ws ms ks p h = record {
   before = λ s l. absurd (omega arith);
@@ -151,6 +157,10 @@ consequences_by ws ms ks a s n r =
           (f.least (in_bytes s) r.joins (subst (λ l. So (closed (in_bytes s) l)) e r.holds) b);
     }
 
+-- of the same bytes
+pub consequences_as : {ws ms s s' : List ℕ} {a : ℕ} → s' ≡ s → ConsequencesIn ws ms a s → ConsequencesIn ws ms a s'
+consequences_as e r = rw e r
+
 -- ---- the atoms that occur
 
 or_cases : (a b : Bool) → So (a || b) → So a ⊎ So b
@@ -202,3 +212,7 @@ seen_end ws ms t s h n =
           (n.only (λ a. any (occurs a) (left P)) (λ u l k a o. (any_iff (occurs a) (left P)).1 ((entry P u).clause, (left_each (λ c. c ∈ left P) P).0 (λ c m. m) u k, o)) b)
           (λ x. let (c, m, o) = (any_iff (occurs b) (left P)).0 x in (left_each (λ c. So (occurs b c) → So (in_bytes s b)) P).1 (λ u k. n.holds u (omega (arith, kept_lt P u k, length_view ws ms)) k b) c m o);
     }
+
+-- of the same bytes
+pub occurring_as : {ws ms s s' : List ℕ} → s' ≡ s → Occurring ws ms s → Occurring ws ms s'
+occurring_as e r = rw e r

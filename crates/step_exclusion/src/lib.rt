@@ -1,7 +1,7 @@
 // Kind 9 on the words and the marks of a table that passed: the consequences of an atom as bytes, the condition, and the marks after the step.
 #![tactic(auto)]
 
-ghost use Rattle.std.specs.Prelude.{◌≡◌, ◌-◌, ◌≤◌, ◌<◌, length};
+ghost use Rattle.std.specs.Prelude.{◌≡◌, ◌-◌, ◌≤◌, ◌<◌, ℕ, length, get_or};
 ghost use Rattle.std.proofs.Math.Bool.{So};
 ghost use Rattle.semantics.specs.Lists.{any, all};
 ghost use Rattle.rewriting.specs.Marked.{left};
@@ -11,11 +11,11 @@ ghost use Rattle.table.specs.Places.{start_of};
 ghost use Rattle.table.specs.Clearing.{clear_part, clear_clause, marks_without};
 ghost use Rattle.step_parts.specs.Reading.{atom_count, clause_count, clause_of, program_of, words_of, marks_of};
 ghost use Rattle.step_reach.specs.Bytes.{in_bytes};
-ghost use Rattle.step_reach.specs.Growing.{HasJoined};
+ghost use Rattle.step_reach.specs.Growing.{HasJoined, IsSameSet};
 ghost use Rattle.step_exclusion.specs.Exclusions.{Narrowed, ConsequencesIn, Occurring, part_without};
 
 use step_parts::{Indexed, Marked, Part};
-use step_reach::{AtomSet, Closure};
+use step_reach::{AtomSet, Closure, Count};
 
 // ---- the consequences of an atom
 
@@ -27,13 +27,24 @@ pub fn is_definite(program: &Marked, t: usize) -> bool
     program.only(t, Part::Head).is_some() && program.empty(t, Part::Neg)
 }
 
+// The marks of the table's words.
+// Index loop: one slice is read and another written at the same place. No `copy_from_slice`: with it the library would need `memmove` from its caller.
+fn copy_marks(program: &Marked, only: &mut [u8])
+    requires { length (words_of program.now) ≤ length only.old }
+    ensures { (i : ℕ) → i < length (words_of program.now) → get_or only.new i 0 ≡ get_or (marks_of program.now) i 0 }
+{
+    let n = program.table.words.len();
+    for i in 0..n {
+        only[i] = program.marks[i];
+    }
+}
+
 // The marks with those clauses alone: the consequences of an atom are the reach of what they leave, with the atom.
 pub fn narrow(program: &Marked, only: &mut [u8])
     requires { length (words_of program.now) ≤ length only.old }
     ensures { Narrowed (words_of program.now) (marks_of program.now) only.new }
 {
-    let n = program.table.words.len();
-    only[..n].copy_from_slice(&program.marks[..n]);
+    copy_marks(program, only);
     for t in 0..program.table.clause_count() {
         if is_definite(program, t) {
             continue;
@@ -43,10 +54,11 @@ pub fn narrow(program: &Marked, only: &mut [u8])
     }
 }
 
-// The consequences of the atom: the byte of an atom is 1 exactly where the atom is one.
-pub fn find_consequences(program: &Marked, atom: u16) -> AtomSet
-    requires { atom < atom_count program.now.table }
-    ensures { ConsequencesIn (words_of program.now) (marks_of program.now) atom result.bytes }
+// The consequences of the atom: afterwards the byte of an atom is 1 exactly where the atom is one.
+pub fn find_consequences(program: &Marked, atom: u16, bytes: &mut [u8])
+    requires atom { atom < atom_count program.now.table }
+    requires room { atom_count program.now.table ≤ length bytes.old }
+    ensures { ConsequencesIn (words_of program.now) (marks_of program.now) atom bytes.new }
 {
     let mut marks = [0u8; 8192];
     narrow(program, &mut marks);
@@ -54,9 +66,10 @@ pub fn find_consequences(program: &Marked, atom: u16) -> AtomSet
         table: program.table,
         marks: &marks,
     };
-    let mut closure = Closure::new(&definite);
+    let mut missing: [Count; 2048] = [0; 2048];
+    let mut queue = [0u16; 1024];
+    let mut closure = Closure::new(&definite, bytes, &mut missing, &mut queue);
     closure.close_with(&definite, atom);
-    closure.set
 }
 
 // ---- the condition
@@ -71,26 +84,29 @@ pub fn is_plain(program: &Marked, t: usize) -> bool
 
 // The atoms of clause t join the set.
 fn join_clause(program: &Marked, t: usize, set: &mut AtomSet)
-    requires { t < clause_count program.now.table }
-    ensures { HasJoined (λ a. So (occurs a (clause_of program.now t))) set.old set.new }
+    requires clause { t < clause_count program.now.table }
+    requires room { atom_count program.now.table ≤ length set.old.bytes.now }
+    ensures same_reference { IsSameSet set.old set.new }
+    ensures joined { HasJoined (λ a. So (occurs a (clause_of program.now t))) set.old set.new }
 {
     set.join_part(program, t, Part::Head);
     set.join_part(program, t, Part::Pos);
     set.join_part(program, t, Part::Neg);
 }
 
-// The atoms that occur: the byte of an atom is 1 exactly where the atom is in a kept clause.
-pub fn find_present(program: &Marked) -> AtomSet
-    ensures { Occurring (words_of program.now) (marks_of program.now) result.bytes }
+// The atoms that occur: afterwards the byte of an atom is 1 exactly where the atom is in a kept clause.
+pub fn find_present(program: &Marked, bytes: &mut [u8])
+    requires { atom_count program.now.table ≤ length bytes.old }
+    ensures { Occurring (words_of program.now) (marks_of program.now) bytes.new }
 {
-    let mut present = AtomSet::new();
+    let mut queue = [0u16; 1024];
+    let mut present = AtomSet::new(bytes, &mut queue);
     for t in 0..program.table.clause_count() {
         if !program.kept(t) {
             continue;
         }
         join_clause(program, t, &mut present);
     }
-    present
 }
 
 // Whether every positive atom of clause t is in the set.
@@ -112,10 +128,13 @@ pub fn excluded(program: &Marked, t: usize, atom: u16) -> bool
     if !is_plain(program, t) {
         return false;
     }
-    if !step_reach::is_in(&find_present(program).bytes, atom) {
+    let mut bytes = [0u8; 1024];
+    find_present(program, &mut bytes);
+    if !step_reach::is_in(&bytes, atom) {
         return false;
     }
-    body_in(program, t, &find_consequences(program, atom).bytes)
+    find_consequences(program, atom, &mut bytes);
+    body_in(program, t, &bytes)
 }
 
 // ---- the step

@@ -1,5 +1,5 @@
 -- The kept words of a part, from its front, and the places in it that are sought.
-use mathlib.Core.Path.{◌≡◌, refl, subst}
+use mathlib.Core.Path.{◌≡◌, refl, sym, ap, subst}
 use mathlib.Core.Logic.{by_cases}
 use mathlib.Core.Bool.{Bool, true, false, cond}
 use mathlib.Core.List.{List, [], ◌∷◌}
@@ -44,6 +44,20 @@ module _ {ws ms us ns : List ℕ} {x m : ℕ} (p : ws ≡ x ∷ us) (q : ms ≡ 
   unfolding kept_of
   drops_first e = rw (p, q, ne_eqb m 1 e)
 
+-- the words from a place on
+pub rest_all : (part : List ℕ) (from : ℕ) → take (length part - from) (drop from part) ≡ drop from part
+rest_all part from = take_all _ _ (simp length-drop (omega arith))
+
+-- the same, where there are as many marks as words, of which the first is read
+module _ {ws us : List ℕ} {x : ℕ} (p : ws ≡ x ∷ us) where
+  pub keeps_one : (ms : List ℕ) → length ws ≤ length ms → get_or ms 0 0 ≡ 1 → kept_of ws ms ≡ x ∷ kept_of us (take (length ms - 1) (drop 1 ms))
+  keeps_one [] l e = absurd (omega (arith, ap length p))
+  keeps_one (m ∷ ns) l e = rw (rest_all (m ∷ ns) 1) (keeps_first p refl e)
+
+  pub drops_one : (ms : List ℕ) → length ws ≤ length ms → (get_or ms 0 0 ≡ 1 → ⊥) → kept_of us (take (length ms - 1) (drop 1 ms)) ≡ kept_of ws ms
+  drops_one [] l e = absurd (omega (arith, ap length p))
+  drops_one (m ∷ ns) l e = rw (rest_all (m ∷ ns) 1) (sym (drops_first p refl e))
+
 -- a part that ascends, as the library has it
 pub never_falls : (part : List ℕ) → Ascends part → IsNonDecreasingBy (λ x. x) part
 never_falls part up i j d l h = by_cases (dec_lt i j) (λ k. rw (get_or_default_zero part i d (omega arith), get_or_default_zero part j d h) (omega (arith, up.rises i j k h))) (λ k. let e : i ≡ j = omega arith in rw e (omega arith))
@@ -78,7 +92,3 @@ kept_ascends (x ∷ ws) (m ∷ ms) up = go (kept_ascends ws ms (record { rises =
 pub all_above : (x : ℕ) (l : List ℕ) → So (ascending (x ∷ l)) → (So (ascending l)) × ((a : ℕ) → a ∈ l → x < a)
 unfolding ascending
 all_above x l o = let w = (and_iff (all (λ y. ltb x y) l) (ascending l)).0 o in (w.1, λ a m. ltb-true x a ((all_iff (λ y. ltb x y) l).0 w.0 a m))
-
--- the words from a place on
-pub rest_all : (part : List ℕ) (from : ℕ) → take (length part - from) (drop from part) ≡ drop from part
-rest_all part from = take_all _ _ (simp length-drop (omega arith))

@@ -3,15 +3,80 @@
 ghost use Rattle.std.specs.Prelude.{◌≡◌, ℕ, ◌≤◌, ◌<◌, length, get_or};
 ghost use Rattle.std.specs.Iterator.{YieldsFirst, item_count};
 ghost use Rattle.std.proofs.Props.{props};
-ghost use Rattle.semantics.specs.Lists.{mem, within};
+ghost use Rattle.semantics.specs.Lists.{mem, within, null};
 ghost use Rattle.table.specs.Slices.{kept_of};
-ghost use Rattle.step_parts.specs.Parts.{Ascends, Sought};
+ghost use Rattle.step_parts.specs.Parts.{Ascends, Sought, single_of};
+
+// ---- tests on the words of a part
+
+// The place of the first word that is not below the atom: by halves.
+pub fn seek(part: &[u16], atom: u16) -> usize
+    requires { Ascends part.now }
+    ensures { Sought part.now atom result }
+{
+    part.partition_point(|word| *word < atom)
+}
+
+// The same from a place before which every word is below the atom: one word after the other.
+pub fn skip(part: &[u16], from: usize, atom: u16) -> usize
+    requires ascends { Ascends part.now }
+    requires within { from ≤ length part.now }
+    requires below { (i : ℕ) → i < from → get_or part.now i 0 < atom }
+    ensures { Sought part.now atom result }
+{
+    let rest = &part[from..];
+    from + rest
+        .iter()
+        .position(|word| atom <= *word)
+        .unwrap_or(rest.len())
+}
+
+// Whether the atom, which was sought and would stand at `at`, stands there and is kept.
+pub fn stands(part: &[u16], marks: &[u8], at: usize, atom: u16) -> bool
+    requires long { length part.now ≤ length marks.now }
+    requires ascends { Ascends part.now }
+    requires sought { Sought part.now atom at }
+    ensures { result ≡ mem atom (kept_of part.now marks.now) }
+{
+    if part.len() <= at {
+        return false;
+    }
+    if part[at] != atom {
+        return false;
+    }
+    marks[at] == 1
+}
+
+// Whether no atom of the part is kept.
+pub fn part_empty(part: &[u16], marks: &[u8]) -> bool
+    requires { length part.now ≤ length marks.now }
+    ensures { result ≡ null (kept_of part.now marks.now) }
+{
+    let mut kept = Kept { words: part, marks };
+    kept.next().is_none()
+}
+
+// The part's only kept atom.
+pub fn part_single(part: &[u16], marks: &[u8]) -> Option<u16>
+    requires { length part.now ≤ length marks.now }
+    ensures { result ≡ single_of (kept_of part.now marks.now) }
+{
+    let mut kept = Kept { words: part, marks };
+    let first = kept.next()?;
+    if kept.next().is_some() {
+        return None;
+    }
+    Some(first)
+}
+
+// ---- a part with its marks
 
 // The kept atoms of a part, one after the other.
 #[derive(Clone, Copy)]
 pub struct Kept<'a> {
     pub words: &'a [u16],
     pub marks: &'a [u8],
+    pub ghost long: { length words.now ≤ length marks.now },
 }
 
 impl<'a> Iterator for Kept<'a> {
@@ -23,10 +88,10 @@ impl<'a> Iterator for Kept<'a> {
 
     fn next(&mut self) -> Option<u16> {
         while let Some((word, words)) = self.words.split_first() {
-            let (mark, marks) = self.marks.split_first()?;
+            let mark = self.marks[0];
             self.words = words;
-            self.marks = marks;
-            if *mark == 1 {
+            self.marks = &self.marks[1..];
+            if mark == 1 {
                 return Some(*word);
             }
         }
@@ -55,45 +120,11 @@ impl<'a> Atoms<'a> {
         }
     }
 
-    // The place of the first word that is not below the atom: by halves.
-    fn seek(&self, atom: u16) -> usize
-        ensures { Sought self.now.words.now atom result }
-    {
-        self.words.partition_point(|word| *word < atom)
-    }
-
-    // The same from a place before which every word is below the atom: one word after the other.
-    fn skip(&self, from: usize, atom: u16) -> usize
-        requires within { from ≤ length self.now.words.now }
-        requires below { (i : ℕ) → i < from → get_or self.now.words.now i 0 < atom }
-        ensures { Sought self.now.words.now atom result }
-    {
-        let rest = &self.words[from..];
-        from + rest
-            .iter()
-            .position(|word| atom <= *word)
-            .unwrap_or(rest.len())
-    }
-
-    // Whether the atom, which was sought and would stand at `at`, stands there and is kept.
-    fn stands(&self, at: usize, atom: u16) -> bool
-        requires { Sought self.now.words.now atom at }
-        ensures { result ≡ mem atom (kept_of self.now.words.now self.now.marks.now) }
-    {
-        if self.words.len() <= at {
-            return false;
-        }
-        if self.words[at] != atom {
-            return false;
-        }
-        self.marks[at] == 1
-    }
-
     // Whether the atom is a kept one of the part.
     pub fn has(&self, atom: u16) -> bool
         ensures { result ≡ mem atom (kept_of self.now.words.now self.now.marks.now) }
     {
-        self.stands(self.seek(atom), atom)
+        stands(self.words, self.marks, seek(self.words, atom), atom)
     }
 
     // Whether each kept atom of the part is a kept one of the other: one walk of both.
@@ -102,8 +133,8 @@ impl<'a> Atoms<'a> {
     {
         let mut at: usize = 0;
         for atom in self.kept() {
-            at = other.skip(at, atom);
-            if !other.stands(at, atom) {
+            at = skip(other.words, at, atom);
+            if !stands(other.words, other.marks, at, atom) {
                 return false;
             }
         }

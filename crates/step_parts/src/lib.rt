@@ -10,7 +10,7 @@ mod linking;
 mod marked;
 mod places;
 
-pub use atoms::{Atoms, Kept};
+pub use atoms::{Atoms, Kept, part_empty, part_single, seek, skip, stands};
 pub use linking::{INDEX, build_index};
 pub use marked::{Indexed, Marked};
 pub use places::Places;

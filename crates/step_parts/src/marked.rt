@@ -5,7 +5,7 @@ ghost use Rattle.std.proofs.Props.{props};
 ghost use Rattle.step_parts.specs.Parts.{Placed};
 
 use crate::linking::{BEFORE, OWNER, build_index, last_at};
-use crate::{Atoms, Bounds, Kept, Part, Places, part_at};
+use crate::{Atoms, Bounds, Kept, Part, Places, part_at, part_empty, part_single};
 
 // A table that passed, and its index.
 #[derive(Clone, Copy)]
@@ -161,7 +161,8 @@ impl<'a> Marked<'a> {
         requires { t < clause_count self.now.table }
         ensures { result ≡ null (part_of part (clause_of self.now t)) }
     {
-        self.atoms(t, part).next().is_none()
+        let atoms = self.part(t, part);
+        part_empty(atoms.words, atoms.marks)
     }
 
     // The only atom of the part of clause t.
@@ -169,12 +170,8 @@ impl<'a> Marked<'a> {
         requires { t < clause_count self.now.table }
         ensures { result ≡ single_of (part_of part (clause_of self.now t)) }
     {
-        let mut atoms = self.atoms(t, part);
-        let first = atoms.next()?;
-        if atoms.next().is_some() {
-            return None;
-        }
-        Some(first)
+        let atoms = self.part(t, part);
+        part_single(atoms.words, atoms.marks)
     }
 
     // Whether every atom of a part of clause p is in a part of clause t.

@@ -41,8 +41,8 @@ module _ (ws ms : List ℕ) (passed : Passed ws) (long : length ws ≤ length ms
 
   -- a clause was deleted: the numbers of kept heads were lowered, and the reach is as it was where it is known still
   pub after_deletion : So (on_target s.kind) → ¬ So (drops s.kind) → (t : ℕ) → t ≡ s.target → (m m' : Memory) → Holding ws ms m
-      → (m.heads_known ≡ true → Tallied (entry (view ws ms) t).clause.head m'.heads.now m.heads.now) → m'.heads_known ≡ m.heads_known → length m'.heads.now ≡ length m.heads.now
-      → m'.reached.now ≡ m.reached.now → (m'.reach_known ≡ true → So (asks_heads s.kind) × (m'.reach_known ≡ m.reach_known))
+      → (m.known.heads ≡ true → Tallied (entry (view ws ms) t).clause.head m'.heads.now m.heads.now) → m'.known.heads ≡ m.known.heads → length m'.heads.now ≡ length m.heads.now
+      → m'.reached.now ≡ m.reached.now → (m'.known.reached ≡ true → So (asks_heads s.kind) × (m'.known.reached ≡ m.known.reached))
       → Holding ws (marks_after ws ms s) m'
   after_deletion on d t e m m' h f k l r g = record {
     room = (omega (arith, h.room.0, l), rw r h.room.1);

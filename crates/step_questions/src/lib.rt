@@ -14,7 +14,7 @@ mod memory;
 
 use answers::StepQuestion;
 pub use conditions::take_step;
-pub use memory::Memory;
+pub use memory::{Memo, Memory};
 use rewriting::Kind;
 use step_conditions::Step;
 use step_parts::{Indexed, Marked, Part};
@@ -28,7 +28,7 @@ fn clause_kept(program: &Marked, t: u16) -> bool
 }
 
 // Question 14.
-fn partner_kept(program: &Marked, s: Step) -> bool
+fn partner_kept(program: &Marked, s: Step<Kind>) -> bool
     ensures { result ≡ partner_kept (program_of program.now) (step_of s) }
 {
     if !s.kind.uses_partner() {
@@ -41,7 +41,7 @@ fn partner_kept(program: &Marked, s: Step) -> bool
 }
 
 // Question 15.
-fn atom_known(table: &Indexed, s: Step) -> bool
+fn atom_known(table: &Indexed, s: Step<Kind>) -> bool
     ensures { result ≡ atom_known (atom_count table.now) (step_of s) }
 {
     if s.kind.uses_atom() {
@@ -52,7 +52,7 @@ fn atom_known(table: &Indexed, s: Step) -> bool
 }
 
 // Question 29: for kind 3, where the partner has exactly one head atom, whether the step names it.
-fn atom_matches(program: &Marked, s: Step) -> bool
+fn atom_matches(program: &Marked, s: Step<Kind>) -> bool
     requires { So (partner_kept (program_of program.now) (step_of s)) }
     ensures { result ≡ atom_matches (program_of program.now) (step_of s) }
 {
@@ -67,7 +67,7 @@ fn atom_matches(program: &Marked, s: Step) -> bool
 
 // Questions 13 to 15 and 29.
 #[tactic(auto, using(crate::proofs::Laws::kind_has_number), unfolding(crate::specs::Questions::shape_questions, answers::specs::Answers::ask))]
-fn shape(program: &Marked, s: Step) -> Result<(), StepQuestion>
+fn shape(program: &Marked, s: Step<Kind>) -> Result<(), StepQuestion>
     ensures { result ≡ shape_of (atom_count program.now.table) (program_of program.now) (step_of s) (Ok tt) }
 {
     if !clause_kept(program, s.target) {

@@ -27,7 +27,7 @@ use Rattle.step_parts.specs.declared.Part.TheVariants.{Pos}
 use Rattle.step_parts.proofs.Walk.{latest_less, latest_above}
 use Rattle.step_parts.proofs.Index.{stands_in, stands_clause, stands_small, stands_kept, kept_stands, stands_once}
 use Rattle.step_reach.specs.Bytes.{in_bytes}
-use Rattle.step_reach.specs.Counts.{Queued, Joined, QueueSpread, lacks, Fired, Rest, Due, Lowered, ReachSettled, WithSettled}
+use Rattle.step_reach.specs.Counts.{Queued, Joined, QueueSpread, lacks, Fired, Rest, CountRoom, Due, Lowered, ReachSettled, WithSettled}
 use Rattle.step_reach.proofs.Queue.{queued_same, take_more, take_sub, queued_few, queued_at}
 
 -- ---- how many pass a test
@@ -97,6 +97,14 @@ few_pos ws ms t p = let s = view_straight ws ms p t in omega (arith, few_from (e
 -- a count is small
 pub lacks_few : (ws ms taken : List ℕ) (t : ℕ) → Passed ws → lacks ws ms taken t ≤ 1024
 lacks_few ws ms taken t p = omega (arith, few_pos ws ms t p, count_bound (λ a. not (mem a taken)) (entry (view ws ms) t).clause.pos)
+
+-- arrays of the same length have the same room
+pub room_same : {ws s missing s' missing' : List ℕ} → length s' ≡ length s → length missing' ≡ length missing → CountRoom ws s missing → CountRoom ws s' missing'
+room_same e f r = record { bytes = omega (arith, e, r.bytes); counts = omega (arith, f, r.counts) }
+
+-- the same three arrays as before, and again
+pub same_trans : {A : Type 0} {b b' b'' m m' m'' q q' q'' : A} → (b' ≡ b) × (m' ≡ m) × (q' ≡ q) → (b'' ≡ b') × (m'' ≡ m') × (q'' ≡ q') → (b'' ≡ b) × (m'' ≡ m) × (q'' ≡ q)
+same_trans e f = (f.0 ∙ e.0, f.1 ∙ e.1, f.2 ∙ e.2)
 
 -- ---- a clause is counted
 

@@ -1,25 +1,17 @@
 -- Sets of atoms as bytes: what grows within every closed set, and that bytes which are within the reach and closed are the reach.
-use mathlib.Core.Path.{◌≡◌, refl, sym, ap, subst, ◌∙◌}
-use mathlib.Core.Logic.{by_cases}
+use mathlib.Core.Path.{◌≡◌, refl, subst, ◌∙◌}
 use mathlib.Core.Bool.{false, So, false≢true}
-use mathlib.Core.List.{List, ◌++◌}
-use Prim.Native.Nat.{ℕ, ◌+◌, ◌-◌, ◌≤◌, ◌<◌}
-use native.Mathlib.Omega.{arith}
-use native.Mathlib.Decide.{dec_lt}
-use lib.Dec.{eqb, ltb}
-use lib.ListN.{length, get_or, take, drop, replicate, get_or-eq_default, get_or-append, length-take}
-use lib.Seq.{get_or-take, get_or-drop, get_or-append_right}
-use borrow.Author.Tests.{ltb-true, lt-ltb}
+use mathlib.Core.List.{List}
+use Prim.Native.Nat.{ℕ, ◌≤◌}
+use lib.Dec.{eqb}
+use lib.ListN.{length, replicate, get_or-eq_default}
 use Rattle.semantics.specs.Programs.{Atoms, Subset}
 use Rattle.semantics.proofs.Tests.{so_ext}
 use Rattle.rewriting.specs.Marked.{Marked, left}
 use Rattle.rewriting.specs.Reach.{closed}
 use Rattle.rewriting.specs.Reaches.{reach}
-use Rattle.rewriting.proofs.Left.{closed_left}
-use Rattle.rewriting.proofs.Reach.{closed_iff, reach_is}
-use Rattle.table.specs.Questions.{Passed}
+use Rattle.rewriting.proofs.Reach.{reach_is}
 use Rattle.table.specs.View.{view}
-use Rattle.table.proofs.Parts.{view_straight}
 use Rattle.table.proofs.Slices.{zero_at}
 use Rattle.step_reach.specs.Bytes.{in_bytes, Grown, Reached}
 
@@ -45,24 +37,9 @@ reached_by ws ms s w c = record {
       ((reach_is (left (view ws ms))).least (in_bytes s) c a);
 }
 
--- what is within every closed set has only atoms of the table
-pub within_below : (ws ms s : List ℕ) → Passed ws → ((T : Atoms) → So (closed T (left (view ws ms))) → Subset (in_bytes s) T) → (a : ℕ) → So (in_bytes s a) → a < get_or ws 0 0
-within_below ws ms s p w a m = ltb-true a (get_or ws 0 0) (w below ((closed_iff below (left (view ws ms))).1 ((closed_left below (view ws ms)).1 (λ t e q b k. lt-ltb b (get_or ws 0 0) ((view_straight ws ms p t).head_below b k)))) a m)
-  where
-    below : Atoms
-    below b = ltb b (get_or ws 0 0)
-
--- its first bytes, where the others are 0
-pub copied_in : (s z : List ℕ) (n k : ℕ) → n ≤ length s → z ≡ replicate k 0 → ((a : ℕ) → So (in_bytes s a) → a < n) → (a : ℕ) → in_bytes (take n s ++ drop n z) a ≡ in_bytes s a
-copied_in s z n k l e f a = by_cases (dec_lt a n)
-    (λ h. ap (λ x. eqb x 1) (get_or-append (take n s) (drop n z) 0 a (simp length-take (omega arith)) ∙ get_or-take n s a 0 h))
-    (λ h. so_ext (in_bytes (take n s ++ drop n z) a) (in_bytes s a) (λ m. absurd (none_in k a (rw (past h) m))) (λ m. absurd (h (f a m))))
-  where
-    past : (a < n → ⊥) → in_bytes (replicate k 0) a ≡ in_bytes (take n s ++ drop n z) a
-    past h =
-        let few : length (take n s) ≡ n = simp length-take (omega arith) in
-        let at : n + (a - n) ≡ a = omega arith in
-        ap (λ x. eqb x 1) (sym (get_or-append_right (take n s) (drop n z) a 0 (omega (arith, few)) ∙ ap (λ i. get_or (drop n z) (a - i) 0) few ∙ get_or-drop n z (a - n) 0 ∙ ap (λ i. get_or z i 0) at ∙ ap (λ l. get_or l a 0) e))
+-- of the same bytes
+pub reached_as : {ws ms s s' : List ℕ} → s' ≡ s → Reached ws ms s → Reached ws ms s'
+reached_as e r = rw e r
 
 -- ---- bytes past the end, and bytes set to 0
 

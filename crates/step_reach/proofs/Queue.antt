@@ -76,6 +76,10 @@ queued_at {s} {q} {top} k z h = go top h (omega (arith, queued_few z, z.room))
     go zero h l = absurd (omega arith)
     go (suc n) h l = subst (λ i. get_or q k 0 ∈ take i q) (add-one n) ((take_more q n (get_or q k 0) (omega arith)).1 (by_cases (ℕ_discrete k n) (λ e. inr (ap (λ i. get_or q i 0) e)) (λ e. inl (go n (omega arith) (omega arith)))))
 
+-- the same of equal arrays
+pub queued_as : {s q s' q' : List ℕ} {top : ℕ} → s' ≡ s → q' ≡ q → Queued s q top → Queued s' q' top
+queued_as d e z = rw (d, e) z
+
 -- nothing has joined yet
 pub queued_none : (k : ℕ) (s q : List ℕ) → s ≡ replicate k 0 → 1024 ≤ length q → Queued s q 0
 queued_none k s q e h = subst (λ s. Queued s q 0) (sym e) (record {
@@ -90,6 +94,18 @@ queued_none k s q e h = subst (λ s. Queued s q 0) (sym e) (record {
     zeros zero k = refl
     zeros (suc n) zero = refl
     zeros (suc n) (suc k) = omega (arith, zeros n k)
+
+-- a word past its end changes nothing
+pub queued_past : (s q : List ℕ) (top a : ℕ) → Queued s q top → Queued s (set q top a) top
+queued_past s q top a z =
+    let same : take top (set q top a) ≡ take top q = take-set-le top q top a (omega arith) in
+    record {
+      same = λ b. rw same (z.same b);
+      once = λ j h. rw (get_or-set_other q top j a 0 (λ e. omega arith), take-set-le j q top a (omega arith)) (z.once j h);
+      below = λ b m. z.below b (rw same at m);
+      size = z.size;
+      room = rw (length-set q top a) z.room;
+    }
 
 -- ---- an atom joins
 
@@ -206,6 +222,9 @@ joined_none s q top z = record { holds = λ a m. absurd (Memᴰ.not-nil m); only
 
 joined_as : {X Y : ℕ → Type 0} {s q s' q' : List ℕ} {k k' : ℕ} → ((a : ℕ) → X a → Y a) → ((a : ℕ) → Y a → X a) → Joined X s q k s' q' k' → Joined Y s q k s' q' k'
 joined_as f g j = record { holds = λ a y. j.holds a (g a y); only = λ T h t. j.only T h (λ a x. t a (f a x)); more = j.more; long = j.long; longer = j.longer; before = j.before; queued = j.queued }
+
+pub joined_at : {X : ℕ → Type 0} {s q s' q' s'' q'' : List ℕ} {k k' : ℕ} → s'' ≡ s' → q'' ≡ q' → Joined X s q k s' q' k' → Joined X s q k s'' q'' k'
+joined_at d e j = rw (d, e) j
 
 -- The atoms of l have joined, but for those of the rest, which ends it.
 pub record Joining (l rest s q : List ℕ) (k : ℕ) (s' q' : List ℕ) (k' : ℕ) : Type 0 where

@@ -54,6 +54,11 @@ pub record Rest (ws ms : List ℕ) (m k : ℕ) (s missing queue : List ℕ) (top
   pub exact : (t : ℕ) → t < m → get_or missing t 0 ≡ lacks ws ms (take k queue) t
   pub heads : (t : ℕ) → t < m → Fired s (entry (view ws ms) t) (get_or missing t 0)
 
+-- Room for a count of each clause, and a byte for each atom.
+pub record CountRoom (ws s missing : List ℕ) : Type 0 where
+  pub bytes : get_or ws 0 0 ≤ length s
+  pub counts : 2048 ≤ length missing
+
 -- Where place i is kept, a positive atom of clause t is still to be counted off; and the last one leaves none outside the set.
 pub record Due (ws ms s missing : List ℕ) (t i : ℕ) : Type 0 where
   pub some : get_or ms i 0 ≡ 1 → 0 < get_or missing t 0

@@ -28,8 +28,7 @@ pub fn find_reach(program: &Marked, bytes: &mut [u8])
     requires { atom_count program.now.table ≤ length bytes.old }
     ensures { Reached (words_of program.now) (marks_of program.now) bytes.new }
 {
-    let reach = Closure::new(program);
-    let n = usize::from(program.table.atom_count());
-    bytes.fill(0);
-    bytes[..n].copy_from_slice(&reach.set.bytes[..n]);
+    let mut missing: [Count; 2048] = [0; 2048];
+    let mut queue = [0u16; 1024];
+    Closure::new(program, bytes, &mut missing, &mut queue);
 }

@@ -80,13 +80,13 @@ marked_of marks = keep (λ a. get_or marks a false) (below (length marks))
 
 -- ---- a line
 
--- a function that reads has answered a number, with the next cursor of the same text, or the first question answered no
+-- a function that reads has answered a number, with what is left of the same text, or the first question answered no
 abbrev pub Numbers : Read ℕ → List ℕ → Result Line Refusal → Type 0
 Numbers x text (Ok line) = (x ≡ done line.count line.next.at) × (line.next.text.now ≡ text)
 Numbers x text (Err r) = x ≡ stop r
 
 module _ {A : Type 0} (words : A → List ℕ) where
-  -- a thing was read: its words are counted, and stand from `used` on, and the next cursor is past it in the same text
+  -- a thing was read: its words are counted, and stand from `used` on, and what is left of the same text is past it
   pub record Held (x : Read A) (text : List ℕ) (line : Line) (used : ℕ) (w w' : List ℕ) : Type 0 where
     pub thing : A
     pub read : x ≡ done thing line.next.at

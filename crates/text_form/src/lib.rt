@@ -12,26 +12,41 @@ pub enum Disorder {
 
 // A place in a text.
 #[derive(Clone, Copy)]
-pub struct Cursor<'a> {
+pub struct Cursor {
+    pub at: usize,
+}
+
+impl Cursor {
+    // That place.
+    pub fn new(at: usize) -> Cursor
+        ensures { result ≡ record { at = at } }
+    {
+        Cursor { at }
+    }
+}
+
+// A text that is read as far as a place in it.
+#[derive(Clone, Copy)]
+pub struct Unread<'a> {
     pub text: &'a [u8],
     pub at: usize,
     pub ghost inside: { at ≤ length text.now },
 }
 
-impl<'a> Cursor<'a> {
-    // That place in the text.
-    pub fn new(text: &'a [u8], at: usize) -> Cursor<'a>
-        requires { at ≤ length text.now }
-        ensures place { result.at ≡ at }
+impl<'a> Unread<'a> {
+    // The text from the cursor on.
+    pub fn new(text: &'a [u8], from: Cursor) -> Unread<'a>
+        requires { from.at ≤ length text.now }
+        ensures place { result.at ≡ from.at }
         ensures same_text { result.text.now ≡ text.now }
     {
-        Cursor { text, at }
+        Unread { text, at: from.at }
     }
 }
 
-// What a line or several come to: a number or how many words, with the next cursor.
+// What a line or several come to: a number or how many words, with the text that is left.
 #[derive(Clone, Copy)]
 pub struct Line<'a> {
     pub count: usize,
-    pub next: Cursor<'a>,
+    pub next: Unread<'a>,
 }

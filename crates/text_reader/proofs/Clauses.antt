@@ -7,7 +7,7 @@ use native.Mathlib.Numerals.{add-one, add-two, add-three}
 use lib.ListN.{length, length-append, set}
 use lib.Seq.{sets}
 use Rattle.answers.specs.declared.Refusal.{Refusal}
-use Rattle.text_form.specs.declared.Cursor.{Cursor}
+use Rattle.text_form.specs.declared.Unread.{Unread}
 use Rattle.semantics.specs.Programs.{Clause}
 use Rattle.table.specs.Encoding.{clause_words, clauses_words}
 use Rattle.text_form.specs.Render.{head_key, pos_key, neg_key}
@@ -122,7 +122,7 @@ module _ (ts : List ℕ) (n m at₀ k used at : ℕ) (w₀ w : List ℕ) (l : k 
       let a : clauses_at ts n (m - k) used at ≡ stop r = rw (q, d) in
       g.whole ∙ ap (join_all g.cs) a
 
-pub going_end : (ts : List ℕ) (n m at₀ k used : ℕ) (next : Cursor) (w₀ w : List ℕ) → m ≤ k → Going ts n m at₀ k used next.at w₀ w → next.text.now ≡ ts
+pub going_end : (ts : List ℕ) (n m at₀ k used : ℕ) (next : Unread) (w₀ w : List ℕ) → m ≤ k → Going ts n m at₀ k used next.at w₀ w → next.text.now ≡ ts
     → Held clauses_words (clauses_at ts n m 2 at₀) ts (record { count = used - 2; next = next }) 2 w₀ w
 unfolding clauses_at
 going_end ts n m at₀ k used next w₀ w l g e =

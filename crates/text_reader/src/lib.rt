@@ -10,11 +10,11 @@ ghost use Rattle.text_form.specs.Stored.{Numbers, Stores};
 
 use answers::{Answer, ByteQuestion, CallQuestion, Refusal};
 use table::Table;
-use text_form::{Cursor, Line};
+use text_form::{Cursor, Line, Unread};
 
 // A line whose value is a number up to a limit, which question 2 or 3 asks.
 pub fn read_count<'a>(
-    c: Cursor<'a>,
+    c: Unread<'a>,
     key: &[u8],
     limit: u16,
     q: ByteQuestion,
@@ -44,7 +44,7 @@ fn put_counts(words: &mut [u16; Table::MAX_WORDS], at: usize, h: usize, p: usize
 // The words and the place `used` stay two parameters: the counts, which stand before the lists, are stored last, so that a struct of both would be wound back.
 // A clause: its three lines. Its words are stored from the place `used` on.
 pub fn read_clause<'a>(
-    c: Cursor<'a>,
+    c: Unread<'a>,
     atoms: u16,
     words: &mut [u16; Table::MAX_WORDS],
     used: usize,
@@ -67,7 +67,7 @@ pub fn read_clause<'a>(
 
 // The lines of the clauses: their words are stored from word 2 on.
 fn read_clauses<'a>(
-    c: Cursor<'a>,
+    c: Unread<'a>,
     atoms: u16,
     clauses: u16,
     words: &mut [u16; Table::MAX_WORDS],
@@ -89,7 +89,7 @@ fn read_clauses<'a>(
 
 // What follows the first two lines, and question 27: the whole table's words are stored from word 0 on.
 fn read_rest<'a>(
-    c: Cursor<'a>,
+    c: Unread<'a>,
     atoms: u16,
     clauses: u16,
     words: &mut [u16; Table::MAX_WORDS],
@@ -116,8 +116,10 @@ fn read_program<'a>(
 ) -> Result<Line<'a>, Refusal>
     ensures { Stores encode (program_at text.now) text.now result 0 words.old words.new }
 {
+    let start = Cursor::new(0);
+    let all = Unread::new(text, start);
     let atoms = read_count(
-        Cursor::new(text, 0),
+        all,
         b"atoms=",
         Table::MAX_ATOMS,
         ByteQuestion::TextAtomLimit,

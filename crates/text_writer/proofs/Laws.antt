@@ -88,6 +88,13 @@ module _ (old out : List ℕ) (at v w left j : ℕ) (s : Placed old out at v w l
 
 -- ---- bytes
 
+-- bytes put one after the other
+pub bytes_on : (out bs : List ℕ) (at i : ℕ) → i < length bs → sets out (at + i) (drop i bs) ≡ sets (set out (at + i) (get_or bs i 0)) (at + (i + 1)) (drop (i + 1) bs)
+bytes_on out bs at i h = let q : at + (i + 1) ≡ suc (at + i) = omega arith in rw (q, drop-cons bs i 0 h, add-one i)
+
+pub bytes_end : (out bs : List ℕ) (at i : ℕ) → length bs ≤ i → sets out (at + i) (drop i bs) ≡ out
+bytes_end out bs at i h = rw (drop_of_length-le bs h)
+
 -- bytes copied over those from `at` on
 pub puts_copied : (w ys bs : List ℕ) (at : ℕ) → at + length bs ≤ length w → ys ≡ bs → Puts w (take at w ++ (ys ++ drop (at + length bs - at) (drop at w))) at (at + length bs) bs
 puts_copied w ys bs at h e =

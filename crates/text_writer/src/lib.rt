@@ -8,6 +8,7 @@ ghost use Rattle.table.specs.Programs.{clause_of, clauses_of};
 ghost use Rattle.text_form.specs.Digits.{width, digits, others, commas};
 ghost use Rattle.text_form.specs.Render.{line_text, clause_text, clauses_text};
 ghost use Rattle.text_form.specs.Writer.{text_of, write_answer, out_after};
+ghost use Rattle.text_form.specs.Stored.{Puts};
 ghost use Rattle.text_writer.specs.Outputs.{HasRoom, Writes};
 
 use answers::{Answer, CallQuestion, Refusal};
@@ -31,6 +32,18 @@ fn digit(x: usize) -> u8
     ensures { result ≡ 48 + x % 10 }
 {
     b'0' + (x % 10) as u8
+}
+
+// Bytes are put from a place on; the place past them.
+// Index loop: one slice is read and another written at the same place. No `copy_from_slice`: with it an archive for C would need `memmove` from its caller.
+fn put_at(out: &mut [u8], at: usize, bytes: &[u8]) -> usize
+    requires { at + length bytes.now ≤ length out.old }
+    ensures { Puts out.old out.new at result bytes.now }
+{
+    for i in 0..bytes.len() {
+        out[at + i] = bytes[i];
+    }
+    at + bytes.len()
 }
 
 // What is written so far: the first `len` bytes of a lent slice.
@@ -73,9 +86,7 @@ impl<'a> Output<'a> {
         ensures same_reference { self.new.bytes.ghost_name ≡ self.old.bytes.ghost_name }
         ensures written { Writes self.old self.new bytes.now }
     {
-        let end = self.len + bytes.len();
-        self.bytes[self.len..end].copy_from_slice(bytes);
-        self.len = end;
+        self.len = put_at(self.bytes, self.len, bytes);
     }
 
     // A comma and a number.

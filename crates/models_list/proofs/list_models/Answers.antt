@@ -14,11 +14,11 @@ bounds-words-0 c = omega (arith, (passed_limits _ (valid_passed _ _ (sym c.check
 pub returns-then-words-gt-MAX_ATOMS : goal.returns-then-words-gt-MAX_ATOMS
 returns-then-words-gt-MAX_ATOMS c = call_many c.args.words.now c.args.out.now (valid_passed _ _ (sym c.check_table-checked.ensures ∙ c.in-Ok.is)).0 c.if-words-gt-MAX_ATOMS.true
 
-pub all_models-found-requires : goal.all_models-found-requires
-all_models-found-requires c = record { passed = (valid_passed _ _ (sym c.check_table-checked.ensures ∙ c.in-Ok.is)).0; few = c.if-words-gt-MAX_ATOMS.false }
+pub all_models-requires-clause-listable : goal.all_models-requires-clause-listable
+all_models-requires-clause-listable c = record { passed = (valid_passed _ _ (sym c.check_table-checked.ensures ∙ c.in-Ok.is)).0; few = c.if-words-gt-MAX_ATOMS.false }
 
 pub returns-then-out-models : goal.returns-then-out-models
-returns-then-out-models c = call_narrow c.args.words.now c.args.out.now (valid_passed _ _ (sym c.check_table-checked.ensures ∙ c.in-Ok.is)).0 c.if-words-gt-MAX_ATOMS.false _ (c.as_slice-models.ensures ∙ c.all_models-found.ensures) c.if-out-models.true
+returns-then-out-models c = call_narrow c.args.words.now c.args.out.now (valid_passed _ _ (sym c.check_table-checked.ensures ∙ c.in-Ok.is)).0 c.if-words-gt-MAX_ATOMS.false _ (c.as_slice-models.ensures ∙ c.all_models.ensures) c.if-out-models.true
 
 pub returns : goal.returns
-returns c = call_done c.args.words.now c.args.out.now (valid_passed _ _ (sym c.check_table-checked.ensures ∙ c.in-Ok.is)).0 c.if-words-gt-MAX_ATOMS.false _ (c.as_slice-models.ensures ∙ c.all_models-found.ensures) _ c.if-out-models.false c.copy_from_slice.ensures.after
+returns c = call_done c.args.words.now c.args.out.now (valid_passed _ _ (sym c.check_table-checked.ensures ∙ c.in-Ok.is)).0 c.if-words-gt-MAX_ATOMS.false _ (c.as_slice-models.ensures ∙ c.all_models.ensures) _ c.if-out-models.false c.copy_from_slice.ensures.after

@@ -12,5 +12,8 @@ narrow-requires c = omega (arith, (passed_limits _ c.args.program.now.table.plac
 pub invariant_of-definite : goal.invariant_of-definite
 invariant_of-definite c = record { long = omega (arith, (passed_limits _ c.args.program.now.table.placed.passed).short, length-replicate {A = ℕ} 8192 0, c.narrow.auto.only) }
 
+pub new-closure-requires-clause-room : goal.new-closure-requires-clause-room
+new-closure-requires-clause-room c = record { bytes = omega (arith, (passed_limits _ c.args.program.now.table.placed.passed).few_atoms, length-replicate {A = ℕ} 1024 0); counts = omega (arith, length-replicate {A = ℕ} 2048 0) }
+
 pub by_atoms-requires-clause-first : goal.by_atoms-requires-clause-first
-by_atoms-requires-clause-first c = first_settled _ _ c.args.can.now c.new-closure.ensures c.first_full-full.ensures
+by_atoms-requires-clause-first c = first_settled _ _ c.args.can.now c.new-closure.ensures.settled c.first_full-full.ensures

@@ -5,7 +5,7 @@ use lib.ListN.{length}
 use Rattle.std.specs.Prelude.{IfSome}
 use Rattle.step_parts.specs.Reading.{atom_count, clause_count, program_of}
 use Rattle.step_reach.specs.Bytes.{in_bytes}
-use Rattle.step_reach.specs.Growing.{IsSettled, taken}
+use Rattle.step_reach.specs.Growing.{HasRoom, IsSettled, taken}
 use Rattle.search_exclusion.specs.Tries.{best_of}
 use Rattle.search_exclusion.proofs.Tries.{Tried}
 use Rattle.search_exclusion.proofs.by_atoms.Given as goal
@@ -18,6 +18,7 @@ invariant-loop-atom l =
     × (length l.todo ≡ 1024)
     × IfSome l.best (λ pair. pair.target < m)
     × Tried (atom_count l.program.table) (program_of l.program) l.atom (best_of m l.best) (in_bytes l.todo)
+    × HasRoom l.definite l.closure
     × IsSettled l.definite l.closure
     × (taken l.closure ≡ taken l.initial.closure)
 

@@ -13,10 +13,13 @@ pub offset_bounds-set-k : goal.offset_bounds-set-k
 offset_bounds-set-k c = omega (arith, queued_few c.loop-k.set.queued)
 
 pub bounds-set-k : goal.bounds-set-k
-bounds-set-k c = omega (arith, queued_few c.loop-k.set.queued)
+bounds-set-k c = omega (arith, queued_few c.loop-k.set.queued, c.loop-k.set.queued.room)
 
-pub spread_atom-requires : goal.spread_atom-requires
-spread_atom-requires c = c.loop-k.set.queued.below _ (queued_at _ c.loop-k.set.queued c.loop-k-test.true)
+pub spread_atom-requires-clause-room : goal.spread_atom-requires-clause-room
+spread_atom-requires-clause-room c = omega (arith, c.requires, c.loop-k.invariant.0.later.long)
+
+pub spread_atom-requires-clause-atom : goal.spread_atom-requires-clause-atom
+spread_atom-requires-clause-atom c = c.loop-k.set.queued.below _ (queued_at _ c.loop-k.set.queued c.loop-k-test.true)
 
 pub overflow_add-k : goal.overflow_add-k
 overflow_add-k c = omega (arith, queued_few c.loop-k.set.queued)

@@ -6,7 +6,7 @@ use Rattle.search_idle.proofs.Forgets.{MetFirst}
 use Rattle.search_idle.proofs.spread.Given as goal
 
 abbrev pub invariant-loop-k : goal.invariant-loop-k
-invariant-loop-k l = GoesOn l.initial.set l.initial.idle l.set l.idle × (l.k ≤ l.set.top) × MetFirst (program_of l.program) l.set.bytes l.set.queue l.k l.idle
+invariant-loop-k l = GoesOn l.initial.set l.initial.idle l.set l.idle × (l.k ≤ l.set.top) × MetFirst (program_of l.program) l.set.bytes.now l.set.queue.now l.k l.idle
 
 abbrev pub decreases-loop-k : goal.decreases-loop-k
 decreases-loop-k l = 1024 - l.k

@@ -10,4 +10,4 @@ invariant-loop-i l =
     goal.iterator-loop-i.can_next l.i-iterator
     × goal.iterator-loop-i.is_finite l.i-iterator
     × GoesOn l.initial.set l.initial.idle l.set l.idle
-    × Walked l.program.table l.fn.part l.fn.atom (Met (program_of l.program) (in_bytes l.set.bytes) l.idle) l.i-iterator
+    × Walked l.program.table l.fn.part l.fn.atom (Met (program_of l.program) (in_bytes l.set.bytes.now) l.idle) l.i-iterator

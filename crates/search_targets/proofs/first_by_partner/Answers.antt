@@ -39,7 +39,7 @@ loop-p-init c =
     let inv = c.search.invariant in
     let k = c.requires.kind in (
       inv.0,
-      (c.partners_end-e.ensures, (c.new-stamps.ensures, (refl, λ q l. calm_from _ _ _ _ c.lift.ensures.swept.calm k c.search.t q (omega (arith, c.flag_at-from.ensures))))),
+      (c.partners_end-e.ensures, (c.stamp_clause.ensures.stamps, (refl, λ q l. calm_from _ _ _ _ c.lift.ensures.swept.calm k c.search.t q (omega (arith, c.flag_at-from.ensures))))),
     )
 
 pub loop-p-smaller : goal.loop-p-smaller

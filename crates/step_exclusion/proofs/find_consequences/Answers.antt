@@ -1,9 +1,10 @@
 -- `step_exclusion::find_consequences` meets its contract.
 use native.Mathlib.Omega.{arith}
+use borrow.Author.Rules.{rules}
 use Prim.Native.Nat.{ℕ}
 use lib.ListN.{length-replicate}
 use Rattle.table.proofs.Encoding.{passed_limits}
-use Rattle.step_exclusion.proofs.Sets.{consequences_by}
+use Rattle.step_exclusion.proofs.Sets.{consequences_by, consequences_as}
 use Rattle.step_exclusion.proofs.find_consequences.Goals as goal
 
 pub narrow-requires : goal.narrow-requires
@@ -13,4 +14,4 @@ pub invariant_of-definite : goal.invariant_of-definite
 invariant_of-definite c = record { long = omega (arith, (passed_limits _ c.args.program.now.table.placed.passed).short, length-replicate {A = ℕ} 8192 0, c.narrow.auto.only) }
 
 pub returns : goal.returns
-returns c = consequences_by _ _ _ _ _ c.narrow.ensures c.close_with.ensures.reached
+returns c = consequences_as (search rules) (consequences_by _ _ _ _ c.close_with.new.self.bytes.now c.narrow.ensures c.close_with.ensures.settled.reached)

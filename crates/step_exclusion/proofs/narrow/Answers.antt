@@ -2,11 +2,11 @@
 use native.Mathlib.Omega.{arith}
 use mathlib.Core.Path.{refl, sym, ◌∙◌}
 use lib.ListN.{length-set}
-use Rattle.step_exclusion.proofs.Sets.{copied_marks, narrow_start, narrow_past, narrow_at, narrow_end}
+use Rattle.step_exclusion.proofs.Sets.{narrow_start, narrow_past, narrow_at, narrow_end}
 use Rattle.step_exclusion.proofs.narrow.Goals as goal
 
 pub loop-t-init : goal.loop-t-init
-loop-t-init c = (c.clause_count-t-end.ensures, omega arith, refl, narrow_start _ _ _ c.args.program.now.table.placed.passed (rw c.copy_from_slice.ensures.after (copied_marks c.args.program.now.marks.now c.args.only.now _ c.args.program.now.long)))
+loop-t-init c = (c.clause_count-t-end.ensures, omega arith, refl, narrow_start _ _ _ c.args.program.now.table.placed.passed c.copy_marks.ensures)
 
 pub loop-t-preserved-then-is_definite : goal.loop-t-preserved-then-is_definite
 loop-t-preserved-then-is_definite c = (c.loop-t.invariant.0, omega arith, c.loop-t.invariant.2, narrow_past _ _ _ _ c.loop-t.invariant.3 (sym c.is_definite.ensures ∙ c.if-is_definite.true))

@@ -7,7 +7,7 @@ use Rattle.step_lists.proofs.Walks.{stepping_start, stepping_on, stepping_no, st
 use Rattle.step_lists.proofs.take_steps.Goals as goal
 
 pub loop-k-init : goal.loop-k-init
-loop-k-init c = let few = (passed_limits _ c.args.table.now.placed.passed).few_atoms in stepping_start _ _ _ _ _ (c.new-memory.ensures _ _ (omega (arith, few)) (omega (arith, few)))
+loop-k-init c = let few = (passed_limits _ c.args.table.now.placed.passed).few_atoms in stepping_start _ _ _ _ _ (c.new-memory.ensures.holding _ _ (omega (arith, few)) (omega (arith, few)))
 
 pub returns-in-Err : goal.returns-in-Err
 returns-in-Err c = let l : c.loop-k.k < length c.args.list.now / 4 = omega (arith, c.loop-k-test.true, c.as_chunks.ensures.front_len) in

@@ -7,4 +7,4 @@ pub returns-in-None : goal.returns-in-None
 returns-in-None c = sym (stable_not _ _ c.in-None.ensures)
 
 pub returns-in-Some : goal.returns-in-Some
-returns-in-Some c = c.minimal.ensures ∙ stable_gathered _ _ _ _ c.in-Some.ensures
+returns-in-Some c = c.minimal_by.ensures ∙ stable_gathered _ _ _ _ c.in-Some.ensures

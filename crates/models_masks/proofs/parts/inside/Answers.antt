@@ -1,13 +1,18 @@
 -- `models_masks::parts::inside` meets its contract.
-use Rattle.std.proofs.Common.{rules, ◌∙◌}
-use lib.Dec.{eqb}
-use Rattle.std.specs.List.{list_any}
-use Rattle.std.proofs.lemmas.Iterator.{YieldsList-from_slice}
-use Rattle.std.proofs.lemmas.Iterator.Search.{all_from_yields_List}
-use Rattle.models_masks.proofs.Lists.{all_list, contains_mem}
+use mathlib.Core.Path.{refl, sym, ◌∙◌}
+use borrow.Author.Rules.{rules}
+use Rattle.semantics.specs.Lists.{mem}
+use Rattle.models_masks.proofs.Search.{all_on, all_lost, all_end}
 use Rattle.models_masks.proofs.parts.inside.Goals as goal
 
+pub loop-i-init : goal.loop-i-init
+loop-i-init c = (refl, (search rules, refl))
+
+pub returns-then-not-has : goal.returns-then-not-has
+returns-then-not-has c = sym (all_lost (λ x. mem x c.args.set.now) _ _ c.loop-i-test.true (sym c.has.ensures ∙ c.if-not-has.true)) ∙ c.loop-i.invariant.1.1
+
+pub loop-i-preserved : goal.loop-i-preserved
+loop-i-preserved c = (refl, (search rules, sym (all_on (λ x. mem x c.args.set.now) _ _ c.loop-i-test.true (sym c.has.ensures ∙ c.if-not-has.false)) ∙ c.loop-i.invariant.1.1))
+
 pub returns : goal.returns
-returns c =
-    all_from_yields_List (λ a. list_any (λ y. eqb y a) c.args.set.now) _ _ _ c.all.ensures.ran (YieldsList-from_slice c.args.part.now cc) (λ x b q k. search rules)
-    ∙ all_list _ _ (λ a. contains_mem a c.args.set.now) c.args.part.now
+returns c = sym (all_end (λ x. mem x c.args.set.now) _ _ c.loop-i-test.false) ∙ c.loop-i.invariant.1.1

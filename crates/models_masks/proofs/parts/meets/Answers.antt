@@ -1,13 +1,18 @@
 -- `models_masks::parts::meets` meets its contract.
-use Rattle.std.proofs.Common.{rules, ◌∙◌}
-use lib.Dec.{eqb}
-use Rattle.std.specs.List.{list_any}
-use Rattle.std.proofs.lemmas.Iterator.{YieldsList-from_slice}
-use Rattle.std.proofs.lemmas.Iterator.Search.{any_from_yields_List}
-use Rattle.models_masks.proofs.Lists.{any_list, contains_mem}
+use mathlib.Core.Path.{refl, sym, ◌∙◌}
+use borrow.Author.Rules.{rules}
+use Rattle.semantics.specs.Lists.{mem}
+use Rattle.models_masks.proofs.Search.{any_on, any_hit, any_end}
 use Rattle.models_masks.proofs.parts.meets.Goals as goal
 
+pub loop-i-init : goal.loop-i-init
+loop-i-init c = (refl, (search rules, refl))
+
+pub returns-then-has : goal.returns-then-has
+returns-then-has c = sym (any_hit (λ x. mem x c.args.set.now) _ _ c.loop-i-test.true (sym c.has.ensures ∙ c.if-has.true)) ∙ c.loop-i.invariant.1.1
+
+pub loop-i-preserved : goal.loop-i-preserved
+loop-i-preserved c = (refl, (search rules, sym (any_on (λ x. mem x c.args.set.now) _ _ c.loop-i-test.true (sym c.has.ensures ∙ c.if-has.false)) ∙ c.loop-i.invariant.1.1))
+
 pub returns : goal.returns
-returns c =
-    any_from_yields_List (λ a. list_any (λ y. eqb y a) c.args.set.now) _ _ _ c.any.ensures.ran (YieldsList-from_slice c.args.part.now cc) (λ x b q k. search rules)
-    ∙ any_list _ _ (λ a. contains_mem a c.args.set.now) c.args.part.now
+returns c = sym (any_end (λ x. mem x c.args.set.now) _ _ c.loop-i-test.false) ∙ c.loop-i.invariant.1.1

@@ -8,4 +8,4 @@ pub returns-clause-marks : goal.returns-clause-marks
 returns-clause-marks c = c.remove_atom.ensures ∙ sym (after_off _ _ (step_of c.args.s) (rw c.requires.kind refl))
 
 pub returns-clause-holding : goal.returns-clause-holding
-returns-clause-holding c = c.forget.ensures _ _ _ c.requires.holding
+returns-clause-holding c = c.forget.ensures.holding _ _ _ c.requires.holding

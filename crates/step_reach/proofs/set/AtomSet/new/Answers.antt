@@ -1,10 +1,10 @@
 -- `AtomSet::new` meets its contract.
-use mathlib.Core.Path.{refl}
-use native.Mathlib.Omega.{arith}
-use Prim.Native.Nat.{ℕ}
-use lib.ListN.{length-replicate}
+use lib.ListN.{length}
 use Rattle.step_reach.proofs.Queue.{queued_none}
 use Rattle.step_reach.proofs.set.AtomSet.new.Goals as goal
 
 pub invariant_of-result : goal.invariant_of-result
-invariant_of-result c = record { queued = queued_none 1024 _ _ refl (omega (arith, length-replicate {A = ℕ} 1024 0)) }
+invariant_of-result c = record { queued = queued_none (length c.args.bytes.now) _ _ (c.fill.ensures.after (λ y d. d)) c.requires }
+
+pub returns-clause-bytes : goal.returns-clause-bytes
+returns-clause-bytes c = c.fill.ensures.after (λ y d. d)
