@@ -1,14 +1,16 @@
 -- What the functions below the reader's and the writer's call answer and store.
 use Rattle.std.specs.Prelude.{ℕ, ◌+◌, ◌≤◌, ◌<◌, ◌≡◌, ◌↔◌, List, [], ◌∷◌, Bool, true, false, length, get_or, Option, Some, None, Result, Ok, Err}
+use Rattle.std.specs.Borrow.{Bor}
 use Rattle.std.proofs.lemmas.List.Edits.{sets}
 use Rattle.semantics.specs.Lists.{◌∈◌, keep}
 use Rattle.sorting.specs.Sorting.{below, sorted}
 use Rattle.table.specs.Places.{cut}
 use Rattle.text_form.specs.declared.Disorder.{Disorder}
 use Rattle.text_form.specs.declared.Disorder.TheVariants.{Unordered, Malformed}
+use Rattle.text_form.specs.declared.Item.{Item}
 use Rattle.text_form.specs.declared.Line.{Line}
 use Rattle.answers.specs.declared.Refusal.{Refusal}
-use Rattle.text_form.specs.Reader.{Read, done, stop, Value, span_at, Scanned, Next, Digit, Comma, Bad, next_of}
+use Rattle.text_form.specs.Reader.{Read, done, stop, Value, span_at, Scanned, emit, scan, Next, Digit, Comma, Bad, next_of}
 
 -- ---- a value
 
@@ -34,7 +36,23 @@ abbrev pub on_digit : Option ℕ → (ℕ → Option ℕ) → Option ℕ
 on_digit (Some w) f = f w
 on_digit None f = None
 
--- the number that stands between two commas of a value, of which `so_far` stands before; or none in form
+-- what is scanned of what stands behind a number: the numbers behind its comma, or nothing behind the last number
+abbrev pub scan_rest : Option (Bor (List ℕ)) → Scanned
+scan_rest (Some rest) = scan false 0 rest.now
+scan_rest None = record { ok = true; xs = [] }
+
+-- how many bytes stand there
+abbrev pub bytes_left : Option (Bor (List ℕ)) → ℕ
+bytes_left (Some rest) = length rest.now
+bytes_left None = 0
+
+-- a value in form as far as its first number, which is followed by the rest
+pub record Begins (l : List ℕ) (item : Item) : Type 0 where
+  pub four_digits : item.number ≤ 9999
+  pub shorter : bytes_left item.rest < length l
+  pub scanned : scan false 0 l ≡ emit item.number (scan_rest item.rest)
+
+-- the number that a whole value is, of which `so_far` stands before; or none in form
 unfoldable pub field_number : Option ℕ → List ℕ → Option ℕ
 field_number so_far [] = so_far
 field_number so_far (b ∷ l) = on_digit (digit_of (next_after so_far b)) (λ w. field_number (Some w) l)

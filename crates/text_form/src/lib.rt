@@ -10,6 +10,13 @@ pub enum Disorder {
     Malformed,
 }
 
+// A number of a value, and what stands behind its comma, if one follows.
+#[derive(Clone, Copy)]
+pub struct Item<'a> {
+    pub number: u16,
+    pub rest: Option<&'a [u8]>,
+}
+
 // A place in a text.
 #[derive(Clone, Copy)]
 pub struct Cursor {

@@ -1,6 +1,6 @@
 pub mod Laws
 pub mod Digits
-pub mod Fields
+pub mod Items
 pub mod Values
 pub mod Marks
 pub mod Answers

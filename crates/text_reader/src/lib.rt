@@ -42,6 +42,7 @@ fn put_counts(words: &mut [u16; Table::MAX_WORDS], at: usize, h: usize, p: usize
 }
 
 // The words and the place `used` stay two parameters: the counts, which stand before the lists, are stored last, so that a struct of both would be wound back.
+// The text is handed on as it was lent: out of an answer it would be copied in one piece right after it was stored in two, which takes as long as a short line.
 // A clause: its three lines. Its words are stored from the place `used` on.
 pub fn read_clause<'a>(
     c: Unread<'a>,
@@ -55,9 +56,17 @@ pub fn read_clause<'a>(
     let a = used + 3;
     let head = text_lines::read_list(c, b"head=", atoms, words, a)?;
     let b = a + head.count;
-    let pos = text_lines::read_list(head.next, b"pos=", atoms, words, b)?;
+    let at_pos = Unread {
+        text: c.text,
+        at: head.next.at,
+    };
+    let pos = text_lines::read_list(at_pos, b"pos=", atoms, words, b)?;
     let d = b + pos.count;
-    let neg = text_lines::read_list(pos.next, b"neg=", atoms, words, d)?;
+    let at_neg = Unread {
+        text: c.text,
+        at: pos.next.at,
+    };
+    let neg = text_lines::read_list(at_neg, b"neg=", atoms, words, d)?;
     put_counts(words, used, head.count, pos.count, neg.count);
     Ok(Line {
         count: 3 + head.count + pos.count + neg.count,

@@ -16,7 +16,7 @@ read_list-requires-2 c = omega (arith, part_room _ _ _ _ _ _ _ _ _ c.in_ok-head.
 pub returns-in_err-pos : goal.returns-in_err-pos
 returns-in_err-pos c =
     let h = c.in_ok-head.ensures in
-    rw (handed_on _ _ c.from_residual-in_err-pos.ensures.1) (pos_stop _ _ _ _ _ _ _ h _ (rw h.same_text at c.in_err-pos.ensures))
+    rw (handed_on _ _ c.from_residual-in_err-pos.ensures.1) (pos_stop _ _ _ _ _ _ _ h _ c.in_err-pos.ensures)
 
 pub overflow_add-d : goal.overflow_add-d
 overflow_add-d c = omega (arith, part_room _ _ _ _ _ _ _ _ _ c.in_ok-pos.ensures)
@@ -27,8 +27,8 @@ read_list-requires-3 c = omega (arith, part_room _ _ _ _ _ _ _ _ _ c.in_ok-pos.e
 pub returns-in_err-neg : goal.returns-in_err-neg
 returns-in_err-neg c =
     let h = c.in_ok-head.ensures in
-    let p = rw h.same_text at c.in_ok-pos.ensures in
-    rw (handed_on _ _ c.from_residual-in_err-neg.ensures.1) (neg_stop _ _ _ _ _ _ _ h _ _ p _ (rw p.same_text at c.in_err-neg.ensures))
+    let p = c.in_ok-pos.ensures in
+    rw (handed_on _ _ c.from_residual-in_err-neg.ensures.1) (neg_stop _ _ _ _ _ _ _ h _ _ p _ c.in_err-neg.ensures)
 
 pub put_counts-requires : goal.put_counts-requires
 put_counts-requires c = let r = part_room _ _ _ _ _ _ _ _ _ c.in_ok-neg.ensures in record { place = omega arith; head = omega arith; pos = omega arith; neg = omega arith }
@@ -45,6 +45,6 @@ overflow_add-result-3 c = omega (arith, part_room _ _ _ _ _ _ _ _ _ c.in_ok-neg.
 pub returns : goal.returns
 returns c =
     let h = c.in_ok-head.ensures in
-    let p = rw h.same_text at c.in_ok-pos.ensures in
-    let q = rw p.same_text at c.in_ok-neg.ensures in
+    let p = c.in_ok-pos.ensures in
+    let q = c.in_ok-neg.ensures in
     clause_read _ _ _ _ _ _ _ h _ _ p _ _ _ q c.put_counts.ensures
