@@ -153,7 +153,7 @@ fn by_atoms(
     best
 }
 
-// The same, with the closure of the facts.
+// The same, with the closure of the facts. All arrays come first: one that is made after a call is cleared twice.
 fn best_pair(program: &Marked, can: &[u8], low: usize) -> Option<Exclusion>
     requires can { 2048 ≤ length can.now }
     requires targets { Targets (atom_count program.now.table) (program_of program.now) can.now }
@@ -161,15 +161,15 @@ fn best_pair(program: &Marked, can: &[u8], low: usize) -> Option<Exclusion>
     ensures best { BestOf (atom_count program.now.table) (program_of program.now) (best_of (clause_count program.now.table) result) }
     ensures known { IfSome result (λ pair. pair.target < clause_count program.now.table) }
 {
+    let mut bytes = [0u8; 1024];
+    let mut missing: [Count; 2048] = [0; 2048];
+    let mut queue = [0u16; 1024];
     let mut marks = [0u8; 8192];
     step_exclusion::narrow(program, &mut marks);
     let definite = Marked {
         table: program.table,
         marks: &marks,
     };
-    let mut bytes = [0u8; 1024];
-    let mut missing: [Count; 2048] = [0; 2048];
-    let mut queue = [0u16; 1024];
     let mut closure = Closure::new(&definite, &mut bytes, &mut missing, &mut queue);
     let missing = &mut *closure.missing;
     let full = search_closure::first_full(&program.table, can, missing);

@@ -50,16 +50,16 @@ fn search_row(
     end: usize,
 ) -> Option<Step<Kind>>
     requires arrays { ArraysOf facts.now kind }
-    requires end { end ≤ clause_count facts.now.program.table }
+    requires end { end ≤ clause_count facts.now.program.now.table }
     requires kind { So (on_target kind) }
-    requires calm { Calm (words_of facts.now.program) (marks_of facts.now.program) flags.old kind }
+    requires calm { Calm (words_of facts.now.program.now) (marks_of facts.now.program.now) flags.old kind }
     requires inside { Inside flags.old (number kind) low end }
-    ensures found { result ≡ found_of (first_target (atom_count facts.now.program.table) (program_of facts.now.program) kind) }
-    ensures swept { Swept (words_of facts.now.program) (marks_of facts.now.program) flags.old flags.new kind }
+    ensures found { result ≡ found_of (first_target (atom_count facts.now.program.now.table) (program_of facts.now.program.now) kind) }
+    ensures swept { Swept (words_of facts.now.program.now) (marks_of facts.now.program.now) flags.old flags.new kind }
     ensures inside { Inside flags.new (number kind) (stopped_at result end) end }
 {
     if kind.uses_partner() {
-        return search_targets::first_by_partner(&facts.program, flags, kind, low, end);
+        return search_targets::first_by_partner(facts.program, flags, kind, low, end);
     }
     search_targets::first_by_atom(facts, flags, kind, low, end)
 }
@@ -82,7 +82,7 @@ fn first_of_kind(
     let low = flags.lowest(row);
     let end = flags.highest(row);
     let facts = Facts {
-        program: *program,
+        program,
         heads,
         reach,
     };

@@ -17,7 +17,7 @@ StateOf p hs rs flags = StateAt p.table (marks_of p) hs rs flags
 
 -- of a program with what is known of it
 abbrev pub StateWith : Facts → List ℕ → Type 0
-StateWith f flags = StateOf f.program f.heads.now f.reach.now flags
+StateWith f flags = StateOf f.program.now f.heads.now f.reach.now flags
 
 -- the search of a kind can begin
 abbrev pub PreparedOf : Marked → List ℕ → List ℕ → List ℕ → Kind → Type 0

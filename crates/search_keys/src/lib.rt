@@ -55,12 +55,12 @@ fn is_subsumed(program: &Marked, flags: &Flags, kind: Kind, x: usize, q: usize) 
 // The targets of a partner. Where a clause before it subsumes it, they are flagged already.
 fn spread_clause(facts: &Facts, flags: &mut Flags, kind: Kind, x: usize)
     requires state { StateWith facts.now flags.old }
-    requires clause { x < clause_count facts.now.program.table }
+    requires clause { x < clause_count facts.now.program.now.table }
     requires kind { PartnerKind kind }
-    ensures { PartnerSpread (words_of facts.now.program) (marks_of facts.now.program) flags.old flags.new kind x }
+    ensures { PartnerSpread (words_of facts.now.program.now) (marks_of facts.now.program.now) flags.old flags.new kind x }
 {
     let q = least_before(flags, kind, x);
-    if is_subsumed(&facts.program, flags, kind, x, q) {
+    if is_subsumed(facts.program, flags, kind, x, q) {
         return;
     }
     search_spreads::spread_partner(facts, flags, kind, x);
@@ -69,10 +69,10 @@ fn spread_clause(facts: &Facts, flags: &mut Flags, kind: Kind, x: usize)
 // The targets of kind 4 or 6 that have an atom, where it is in no kept head.
 fn spread_atom(facts: &Facts, flags: &mut Flags, kind: Kind, atom: u16)
     requires state { StateWith facts.now flags.old }
-    requires some { 0 < clause_count facts.now.program.table }
+    requires some { 0 < clause_count facts.now.program.now.table }
     requires atom { atom < 1024 }
     requires kind { NoHeadKind kind }
-    ensures { Spread (words_of facts.now.program) (marks_of facts.now.program) flags.old flags.new kind 0 atom }
+    ensures { Spread (words_of facts.now.program.now) (marks_of facts.now.program.now) flags.old flags.new kind 0 atom }
 {
     if !step_conditions::no_head(facts.heads, atom) {
         return;
@@ -90,14 +90,14 @@ fn spread_key(facts: &Facts, flags: &mut Flags, kind: Kind, x: usize)
     requires state { StateWith facts.now flags.old }
     requires kind { So (on_target kind) }
     requires key { x < 2048 }
-    ensures { KeySpread (words_of facts.now.program) (marks_of facts.now.program) flags.old flags.new kind x }
+    ensures { KeySpread (words_of facts.now.program.now) (marks_of facts.now.program.now) flags.old flags.new kind x }
 {
     let m = facts.program.table.clause_count();
     if kind.uses_partner() {
         if m <= x {
             return;
         }
-        if !search_spreads::may_partner(&facts.program, kind, x) {
+        if !search_spreads::may_partner(facts.program, kind, x) {
             return;
         }
         spread_clause(facts, flags, kind, x);
@@ -123,7 +123,7 @@ fn pass_key(facts: &Facts, flags: &mut Flags, kind: Kind, x: usize)
     requires state { StateWith facts.now flags.old }
     requires kind { So (on_target kind) }
     requires key { x < 2048 }
-    ensures { KeyPassed (words_of facts.now.program) (marks_of facts.now.program) facts.now.program.table.index.now facts.now.heads.now facts.now.reach.now flags.old flags.new kind x }
+    ensures { KeyPassed (words_of facts.now.program.now) (marks_of facts.now.program.now) facts.now.program.now.table.index.now facts.now.heads.now facts.now.reach.now flags.old flags.new kind x }
 {
     if flags.flag_at(Row::Key(kind), x) == 0 {
         return;
@@ -177,7 +177,7 @@ pub fn prepare(program: &Marked, heads: &[u16], reach: &mut [u8], flags: &mut Fl
 {
     refresh(program, heads, reach, flags, kind);
     let facts = Facts {
-        program: *program,
+        program,
         heads,
         reach,
     };

@@ -10,7 +10,7 @@ use Rattle.search_spreads.specs.Spreads.{Spread}
 
 -- what the kind asks of the whole program is known
 abbrev pub KnownFor : Facts → Kind → Type 0
-KnownFor f kind = Known kind (words_of f.program) (marks_of f.program) f.heads.now f.reach.now
+KnownFor f kind = Known kind (words_of f.program.now) (marks_of f.program.now) f.heads.now f.reach.now
 
 -- every target that has an eligible step with the key is flagged
 abbrev pub KeySpread : Marked → List ℕ → List ℕ → Key → Type 0

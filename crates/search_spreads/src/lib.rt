@@ -19,7 +19,7 @@ use step_parts::{Marked, Part};
 // A program, and what is known of it: the kept heads of each atom, and the reach.
 #[derive(Clone, Copy)]
 pub struct Facts<'a> {
-    pub program: Marked<'a>,
+    pub program: &'a Marked<'a>,
     pub heads: &'a [u16],
     pub reach: &'a [u8],
 }
@@ -52,14 +52,14 @@ fn may_target(program: &Marked, key: Key, t: usize) -> bool
 
 // Whether the condition of the kind holds for target t, the partner and the atom, and the reducer does not pass the step over.
 fn may_take(facts: &Facts, key: Key, t: usize) -> bool
-    requires target { t < clause_count facts.now.program.table }
-    requires partner { key.partner < clause_count facts.now.program.table }
+    requires target { t < clause_count facts.now.program.now.table }
+    requires partner { key.partner < clause_count facts.now.program.now.table }
     requires kind { So (on_target key.kind) }
     requires known { KnownFor facts.now key.kind }
-    ensures { result ≡ false → ¬ So (eligible (atom_count facts.now.program.table) (program_of facts.now.program) (step key.kind t key.partner key.atom)) }
+    ensures { result ≡ false → ¬ So (eligible (atom_count facts.now.program.now.table) (program_of facts.now.program.now) (step key.kind t key.partner key.atom)) }
 {
     if !step_conditions::holds(
-        &facts.program,
+        facts.program,
         facts.heads,
         facts.reach,
         key.kind,
@@ -69,22 +69,22 @@ fn may_take(facts: &Facts, key: Key, t: usize) -> bool
     ) {
         return false;
     }
-    !search_passed::passed_over(&facts.program, key.kind, t, key.partner)
+    !search_passed::passed_over(facts.program, key.kind, t, key.partner)
 }
 
 // Flags the target t of the key, if its step applies and is not passed over.
 fn spread_one(facts: &Facts, flags: &mut Flags, key: Key, t: usize)
-    requires target { t < clause_count facts.now.program.table }
-    requires partner { key.partner < clause_count facts.now.program.table }
+    requires target { t < clause_count facts.now.program.now.table }
+    requires partner { key.partner < clause_count facts.now.program.now.table }
     requires kind { So (on_target key.kind) }
     requires known { KnownFor facts.now key.kind }
     ensures raising { Raising flags.old flags.new (number key.kind) (t + 1) }
-    ensures covered { So (eligible (atom_count facts.now.program.table) (program_of facts.now.program) (step key.kind t key.partner key.atom)) → Covered flags.new (number key.kind) t key.partner }
+    ensures covered { So (eligible (atom_count facts.now.program.now.table) (program_of facts.now.program.now) (step key.kind t key.partner key.atom)) → Covered flags.new (number key.kind) t key.partner }
 {
     if flags.covered(Row::Target(key.kind), t, key.partner) {
         return;
     }
-    if !may_target(&facts.program, key, t) {
+    if !may_target(facts.program, key, t) {
         return;
     }
     if !may_take(facts, key, t) {
@@ -95,10 +95,10 @@ fn spread_one(facts: &Facts, flags: &mut Flags, key: Key, t: usize)
 
 // Flags every target of the key.
 fn spread(facts: &Facts, flags: &mut Flags, key: Key)
-    requires partner { key.partner < clause_count facts.now.program.table }
+    requires partner { key.partner < clause_count facts.now.program.now.table }
     requires kind { So (on_target key.kind) }
     requires known { KnownFor facts.now key.kind }
-    ensures { KeySpread facts.now.program flags.old flags.new key }
+    ensures { KeySpread facts.now.program.now flags.old flags.new key }
 {
     // A loop over clauses: the number is what `spread_one` takes, and no element is indexed here.
     for t in 0..facts.program.table.clause_count() {
@@ -108,12 +108,12 @@ fn spread(facts: &Facts, flags: &mut Flags, key: Key)
 
 // The same as `spread`, where every target has atom a in a part: its places are walked.
 pub fn spread_along(facts: &Facts, flags: &mut Flags, key: Key, part: Part, a: u16)
-    requires partner { key.partner < clause_count facts.now.program.table }
+    requires partner { key.partner < clause_count facts.now.program.now.table }
     requires kind { So (on_target key.kind) }
     requires known { KnownFor facts.now key.kind }
     requires atom { a < 1024 }
-    requires clue { Clue (words_of facts.now.program) (marks_of facts.now.program) key.kind key.partner key.atom part a }
-    ensures { KeySpread facts.now.program flags.old flags.new key }
+    requires clue { Clue (words_of facts.now.program.now) (marks_of facts.now.program.now) key.kind key.partner key.atom part a }
+    ensures { KeySpread facts.now.program.now flags.old flags.new key }
 {
     for i in facts.program.table.places(part, a) {
         spread_one(facts, flags, key, facts.program.table.owner(i));
@@ -137,8 +137,8 @@ pub fn may_partner(program: &Marked, kind: Kind, x: usize) -> bool
 
 // Kind 8: the targets of a partner without a head, by an atom of its body.
 fn spread_body(facts: &Facts, flags: &mut Flags, x: usize)
-    requires { x < clause_count facts.now.program.table }
-    ensures { Spread (words_of facts.now.program) (marks_of facts.now.program) flags.old flags.new subsumed x 0 }
+    requires { x < clause_count facts.now.program.now.table }
+    ensures { Spread (words_of facts.now.program.now) (marks_of facts.now.program.now) flags.old flags.new subsumed x 0 }
 {
     let key = Key {
         kind: Kind::Subsumed,
@@ -146,12 +146,12 @@ fn spread_body(facts: &Facts, flags: &mut Flags, x: usize)
         atom: 0,
     };
     if !facts.program.empty(x, Part::Pos) {
-        let a = step_conditions::first_atom(&facts.program, x, Part::Pos);
+        let a = step_conditions::first_atom(facts.program, x, Part::Pos);
         spread_along(facts, flags, key, Part::Pos, a);
         return;
     }
     if !facts.program.empty(x, Part::Neg) {
-        let a = step_conditions::first_atom(&facts.program, x, Part::Neg);
+        let a = step_conditions::first_atom(facts.program, x, Part::Neg);
         spread_along(facts, flags, key, Part::Neg, a);
         return;
     }
@@ -160,12 +160,12 @@ fn spread_body(facts: &Facts, flags: &mut Flags, x: usize)
 
 // The targets of a partner, by its first head atom.
 pub fn spread_partner(facts: &Facts, flags: &mut Flags, kind: Kind, x: usize)
-    requires clause { x < clause_count facts.now.program.table }
+    requires clause { x < clause_count facts.now.program.now.table }
     requires kind { PartnerKind kind }
-    ensures { PartnerSpread (words_of facts.now.program) (marks_of facts.now.program) flags.old flags.new kind x }
+    ensures { PartnerSpread (words_of facts.now.program.now) (marks_of facts.now.program.now) flags.old flags.new kind x }
 {
     if !facts.program.empty(x, Part::Head) {
-        let a = step_conditions::first_atom(&facts.program, x, Part::Head);
+        let a = step_conditions::first_atom(facts.program, x, Part::Head);
         let key = Key {
             kind,
             partner: x,

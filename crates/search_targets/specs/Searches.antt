@@ -28,7 +28,7 @@ stopped_at None end = end
 
 -- what the search of a kind reads beside the flags
 abbrev pub ArraysOf : Facts → Kind → Type 0
-ArraysOf f kind = Arrays (words_of f.program) (marks_of f.program) f.program.table.index.now f.heads.now f.reach.now kind
+ArraysOf f kind = Arrays (words_of f.program.now) (marks_of f.program.now) f.program.now.table.index.now f.heads.now f.reach.now kind
 
 -- what is left of the walk in clause t: the first of these atoms that makes the condition hold is the first of all
 abbrev pub PartWalk : Marked → Kind → ℕ → List ℕ → Type 0

@@ -40,9 +40,9 @@ fn walk<'a>(program: &Marked<'a>, kind: Kind, t: usize) -> Kept<'a>
 // Whether an atom of the walked part makes the kind's condition hold.
 fn passes(facts: &Facts, kind: Kind, t: usize, atom: u16) -> bool
     requires arrays { ArraysOf facts.now kind }
-    requires target { t < clause_count facts.now.program.table }
+    requires target { t < clause_count facts.now.program.now.table }
     requires kind { AtomKind kind }
-    ensures { result ≡ asked kind (left (program_of facts.now.program)) (clause_of facts.now.program t) atom }
+    ensures { result ≡ asked kind (left (program_of facts.now.program.now)) (clause_of facts.now.program.now t) atom }
 {
     match kind {
         Kind::Tautology => facts.program.has(t, Part::Pos, atom),
@@ -61,12 +61,12 @@ pub fn first_by_atom(
     end: usize,
 ) -> Option<Step<Kind>>
     requires arrays { ArraysOf facts.now kind }
-    requires end { end ≤ clause_count facts.now.program.table }
+    requires end { end ≤ clause_count facts.now.program.now.table }
     requires kind { AtomKind kind }
-    requires calm { Calm (words_of facts.now.program) (marks_of facts.now.program) flags.old kind }
+    requires calm { Calm (words_of facts.now.program.now) (marks_of facts.now.program.now) flags.old kind }
     requires inside { Inside flags.old (number kind) low end }
-    ensures found { result ≡ found_of (first_target (atom_count facts.now.program.table) (program_of facts.now.program) kind) }
-    ensures swept { Swept (words_of facts.now.program) (marks_of facts.now.program) flags.old flags.new kind }
+    ensures found { result ≡ found_of (first_target (atom_count facts.now.program.now.table) (program_of facts.now.program.now) kind) }
+    ensures swept { Swept (words_of facts.now.program.now) (marks_of facts.now.program.now) flags.old flags.new kind }
     ensures inside { Inside flags.new (number kind) (stopped_at result end) end }
 {
     let row = Row::Target(kind);
@@ -74,7 +74,7 @@ pub fn first_by_atom(
     // Nested loops over targets and atoms, left by a label at the first step: the search's form is fixed.
     'search: for t in low..end {
         if flags.flag_at(row, t) != 0 {
-            for atom in walk(&facts.program, kind, t) {
+            for atom in walk(facts.program, kind, t) {
                 if passes(facts, kind, t, atom) {
                     found = Some(Step::new(kind, t as u16, 0, atom));
                     break 'search;

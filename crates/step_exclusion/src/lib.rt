@@ -55,19 +55,20 @@ pub fn narrow(program: &Marked, only: &mut [u8])
 }
 
 // The consequences of the atom: afterwards the byte of an atom is 1 exactly where the atom is one.
+// All arrays come first: one that is made after a call is cleared twice.
 pub fn find_consequences(program: &Marked, atom: u16, bytes: &mut [u8])
     requires atom { atom < atom_count program.now.table }
     requires room { atom_count program.now.table ≤ length bytes.old }
     ensures { ConsequencesIn (words_of program.now) (marks_of program.now) atom bytes.new }
 {
+    let mut missing: [Count; 2048] = [0; 2048];
+    let mut queue = [0u16; 1024];
     let mut marks = [0u8; 8192];
     narrow(program, &mut marks);
     let definite = Marked {
         table: program.table,
         marks: &marks,
     };
-    let mut missing: [Count; 2048] = [0; 2048];
-    let mut queue = [0u16; 1024];
     let mut closure = Closure::new(&definite, bytes, &mut missing, &mut queue);
     closure.close_with(&definite, atom);
 }
@@ -95,17 +96,19 @@ fn join_clause(program: &Marked, t: usize, set: &mut AtomSet)
 }
 
 // The atoms that occur: afterwards the byte of an atom is 1 exactly where the atom is in a kept clause.
+// It works on a copy of the program: what is lent would be read again after every byte that is written.
 pub fn find_present(program: &Marked, bytes: &mut [u8])
     requires { atom_count program.now.table ≤ length bytes.old }
     ensures { Occurring (words_of program.now) (marks_of program.now) bytes.new }
 {
+    let program = *program;
     let mut queue = [0u16; 1024];
     let mut present = AtomSet::new(bytes, &mut queue);
     for t in 0..program.table.clause_count() {
         if !program.kept(t) {
             continue;
         }
-        join_clause(program, t, &mut present);
+        join_clause(&program, t, &mut present);
     }
 }
 

@@ -28,6 +28,7 @@ impl<'a> Closure<'a> {
     ghost use Rattle.step_reach.specs.Growing.{IsQueued, HasRoom, HasGained, HasSpread, IsSameClosure, Leaves, HasLowered, IsSettled, IsSettledWith};
 
     // The reach, with every atom of it taken.
+    // It works on a copy of the program: what is lent would be read again after every byte that is written.
     pub fn new(
         program: &Marked,
         bytes: &'a mut [u8],
@@ -49,8 +50,9 @@ impl<'a> Closure<'a> {
             top: 0,
             missing,
         };
-        closure.begin(program);
-        closure.close(program, 0);
+        let program = *program;
+        closure.begin(&program);
+        closure.close(&program, 0);
         closure
     }
 

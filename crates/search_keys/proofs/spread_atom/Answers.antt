@@ -11,4 +11,4 @@ pub returns : goal.returns
 returns c = c.spread_along.ensures
 
 pub spread_along-requires-clause-clue : goal.spread_along-requires-clause-clue
-spread_along-requires-clause-clue c = subst (λ x. Clue c.args.facts.now.program.table.words.now c.args.facts.now.program.marks.now c.args.kind 0 c.args.atom x c.args.atom) (sym c.walked_part.ensures) (clue_atom _ _ _ _ c.requires.kind)
+spread_along-requires-clause-clue c = subst (λ x. Clue c.args.facts.now.program.now.table.words.now c.args.facts.now.program.now.marks.now c.args.kind 0 c.args.atom x c.args.atom) (sym c.walked_part.ensures) (clue_atom _ _ _ _ c.requires.kind)

@@ -12,7 +12,7 @@ spread_one-requires-clause-target c = omega (arith, c.loop-t-test.true, c.clause
 
 pub loop-t-preserved : goal.loop-t-preserved
 loop-t-preserved c =
-    let few = (passed_limits _ c.args.facts.now.program.table.placed.passed).few_clauses in
+    let few = (passed_limits _ c.args.facts.now.program.now.table.placed.passed).few_clauses in
     spreading_on _ _ _ _ _ _ _ _ c.loop-t.invariant _ (omega (arith, c.loop-t-test.true, c.clause_count-t-end.ensures)) (omega (arith, c.loop-t-test.true, c.clause_count-t-end.ensures)) (c.spread_one.ensures.raising, c.spread_one.ensures.covered)
 
 pub returns : goal.returns

@@ -6,19 +6,19 @@ use Rattle.search_spreads.proofs.spread_along.Goals as goal
 
 pub loop-i-init : goal.loop-i-init
 loop-i-init c =
-    let p = c.args.facts.now.program in
+    let p = c.args.facts.now.program.now in
     let last = c.places-i-items.ensures.last in
     rw c.into_iter-i-iterator.ensures.into_iter_gives (tt, tt, along_none _ p.marks.now _ _ _ _ _ _ _ _ p.table.placed.passed last, walk_start p.table c.args.part c.args.a (λ t. Unit {0}) _ c.places-i-items.ensures.of last)
 
 pub owner-requires : goal.owner-requires
-owner-requires c = (walk_at c.args.facts.now.program.table c.args.part c.args.a c.in-Some.ensures.steps (λ t. Unit {0}) c.loop-i.invariant.3).0
+owner-requires c = (walk_at c.args.facts.now.program.now.table c.args.part c.args.a c.in-Some.ensures.steps (λ t. Unit {0}) c.loop-i.invariant.3).0
 
 pub spread_one-requires-clause-target : goal.spread_one-requires-clause-target
-spread_one-requires-clause-target c = rw c.owner.ensures (walk_at c.args.facts.now.program.table c.args.part c.args.a c.in-Some.ensures.steps (λ t. Unit {0}) c.loop-i.invariant.3).1.clause
+spread_one-requires-clause-target c = rw c.owner.ensures (walk_at c.args.facts.now.program.now.table c.args.part c.args.a c.in-Some.ensures.steps (λ t. Unit {0}) c.loop-i.invariant.3).1.clause
 
 pub loop-i-preserved : goal.loop-i-preserved
 loop-i-preserved c =
-    let p = c.args.facts.now.program in
+    let p = c.args.facts.now.program.now in
     let k = c.args.key in
     let g = c.in-Some.ensures.steps in
     let w = c.loop-i.invariant.3 in
@@ -30,4 +30,4 @@ loop-i-preserved c =
     )
 
 pub returns : goal.returns
-returns c = along_end _ _ _ _ _ _ _ _ _ _ _ c.loop-i.invariant.2 c.args.facts.now.program.table.placed.passed c.in-None.ensures.steps c.requires.clue
+returns c = along_end _ _ _ _ _ _ _ _ _ _ _ c.loop-i.invariant.2 c.args.facts.now.program.now.table.placed.passed c.in-None.ensures.steps c.requires.clue

@@ -18,13 +18,13 @@ pub returns : goal.returns
 returns c = c.spread.ensures
 
 pub spread_along-requires-clause-atom : goal.spread_along-requires-clause-atom
-spread_along-requires-clause-atom c = subst (λ b. b < 1024) (sym c.first_atom-a.ensures) (part_small _ _ (ready c.args.facts.now.program).placed.passed _ _ Pos (first_in_lem _ (sym c.empty.ensures ∙ c.if-not-empty.true)))
+spread_along-requires-clause-atom c = subst (λ b. b < 1024) (sym c.first_atom-a.ensures) (part_small _ _ (ready c.args.facts.now.program.now).placed.passed _ _ Pos (first_in_lem _ (sym c.empty.ensures ∙ c.if-not-empty.true)))
 
 pub spread_along-requires-clause-clue : goal.spread_along-requires-clause-clue
-spread_along-requires-clause-clue c = subst (λ b. Clue c.args.facts.now.program.table.words.now c.args.facts.now.program.marks.now subsumed c.args.x 0 Pos b) (sym c.first_atom-a.ensures) (clue_pos _ _ _ (sym c.empty.ensures ∙ c.if-not-empty.true))
+spread_along-requires-clause-clue c = subst (λ b. Clue c.args.facts.now.program.now.table.words.now c.args.facts.now.program.now.marks.now subsumed c.args.x 0 Pos b) (sym c.first_atom-a.ensures) (clue_pos _ _ _ (sym c.empty.ensures ∙ c.if-not-empty.true))
 
 pub spread_along-requires-then-not-empty-2-clause-atom : goal.spread_along-requires-then-not-empty-2-clause-atom
-spread_along-requires-then-not-empty-2-clause-atom c = subst (λ b. b < 1024) (sym c.first_atom-a-then-not-empty-2.ensures) (part_small _ _ (ready c.args.facts.now.program).placed.passed _ _ Neg (first_in_lem _ (sym c.empty-2.ensures ∙ c.if-not-empty-2.true)))
+spread_along-requires-then-not-empty-2-clause-atom c = subst (λ b. b < 1024) (sym c.first_atom-a-then-not-empty-2.ensures) (part_small _ _ (ready c.args.facts.now.program.now).placed.passed _ _ Neg (first_in_lem _ (sym c.empty-2.ensures ∙ c.if-not-empty-2.true)))
 
 pub spread_along-requires-then-not-empty-2-clause-clue : goal.spread_along-requires-then-not-empty-2-clause-clue
-spread_along-requires-then-not-empty-2-clause-clue c = subst (λ b. Clue c.args.facts.now.program.table.words.now c.args.facts.now.program.marks.now subsumed c.args.x 0 Neg b) (sym c.first_atom-a-then-not-empty-2.ensures) (clue_neg _ _ _ (sym c.empty-2.ensures ∙ c.if-not-empty-2.true))
+spread_along-requires-then-not-empty-2-clause-clue c = subst (λ b. Clue c.args.facts.now.program.now.table.words.now c.args.facts.now.program.now.marks.now subsumed c.args.x 0 Neg b) (sym c.first_atom-a-then-not-empty-2.ensures) (clue_neg _ _ _ (sym c.empty-2.ensures ∙ c.if-not-empty-2.true))

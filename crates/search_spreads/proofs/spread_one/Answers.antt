@@ -15,13 +15,13 @@ pub returns-then-not-may_take : goal.returns-then-not-may_take
 returns-then-not-may_take c = record { raising = raising_none _ _ _; covered = λ h. absurd (c.may_take.ensures (c.if-not-may_take.true) h) }
 
 pub covered-requires-clause-target : goal.covered-requires-clause-target
-covered-requires-clause-target c = omega (arith, c.requires.target, (passed_limits _ (ready c.args.facts.now.program).placed.passed).few_clauses)
+covered-requires-clause-target c = omega (arith, c.requires.target, (passed_limits _ (ready c.args.facts.now.program.now).placed.passed).few_clauses)
 
 pub covered-requires-clause-key : goal.covered-requires-clause-key
-covered-requires-clause-key c = omega (arith, c.requires.partner, (passed_limits _ (ready c.args.facts.now.program).placed.passed).few_clauses)
+covered-requires-clause-key c = omega (arith, c.requires.partner, (passed_limits _ (ready c.args.facts.now.program.now).placed.passed).few_clauses)
 
 pub cover-requires-clause-target : goal.cover-requires-clause-target
-cover-requires-clause-target c = omega (arith, c.requires.target, (passed_limits _ (ready c.args.facts.now.program).placed.passed).few_clauses)
+cover-requires-clause-target c = omega (arith, c.requires.target, (passed_limits _ (ready c.args.facts.now.program.now).placed.passed).few_clauses)
 
 pub cover-requires-clause-key : goal.cover-requires-clause-key
-cover-requires-clause-key c = omega (arith, c.requires.partner, (passed_limits _ (ready c.args.facts.now.program).placed.passed).few_clauses)
+cover-requires-clause-key c = omega (arith, c.requires.partner, (passed_limits _ (ready c.args.facts.now.program.now).placed.passed).few_clauses)

@@ -29,7 +29,7 @@ pub loop-atom-init : goal.loop-atom-init
 loop-atom-init c = rw c.into_iter-atom-iterator.ensures.into_iter_gives (tt, tt, c.search.invariant.0, c.walk-atom-items.ensures)
 
 pub loop-atom-preserved : goal.loop-atom-preserved
-loop-atom-preserved c = (tt, tt, c.loop-atom.invariant.2, walk_on c.args.facts.now.program c.args.kind c.search.t _ c.loop-atom.invariant.3 _ _ c.in-Some.ensures.steps (sym c.passes.ensures ∙ c.if-passes.false))
+loop-atom-preserved c = (tt, tt, c.loop-atom.invariant.2, walk_on c.args.facts.now.program.now c.args.kind c.search.t _ c.loop-atom.invariant.3 _ _ c.in-Some.ensures.steps (sym c.passes.ensures ∙ c.if-passes.false))
 
 pub search-preserved : goal.search-preserved
 search-preserved c =
@@ -40,7 +40,7 @@ search-preserved c =
     let r : number c.args.kind * 2048 + c.search.t < length c.search.flags = omega (arith, l, s.calm.rows.long, k) in
     elim c.if-flag_at-ne0.branch [
       | then-flag_at-ne0+in-None w ↦
-          let e = walk_end c.args.facts.now.program c.args.kind c.search.t _ w.loop-atom.invariant.3 w.in-None.ensures.steps.0 in
+          let e = walk_end c.args.facts.now.program.now c.args.kind c.search.t _ w.loop-atom.invariant.3 w.in-None.ensures.steps.0 in
           (w.found-is ∙ w.loop-atom.invariant.2, rw (w.flags-is, w.set_flag.ensures) (swept_clear _ _ _ _ _ s _ l e, inside_clear c.search.flags (number c.args.kind) c.search.t _ inv.1.1 r))
       | else-flag_at-ne0 w ↦
           (w.found-is ∙ inv.0, rw w.flags-is (s, inside_past c.search.flags (number c.args.kind) c.search.t _ inv.1.1 (sym c.flag_at.ensures ∙ w.if-flag_at-ne0.false)))
@@ -51,7 +51,7 @@ returns-after-search c =
     let inv = c.search.invariant in
     let l = (passed_limits _ c.requires.arrays.ready.placed.passed).few_clauses in
     record {
-      found = inv.0 ∙ targets_end c.args.facts.now.program.table.words.now c.args.facts.now.program.marks.now c.args.kind (swept_all _ _ _ _ _ inv.1.0 _ _ inv.1.1 l c.search-test.false);
+      found = inv.0 ∙ targets_end c.args.facts.now.program.now.table.words.now c.args.facts.now.program.now.marks.now c.args.kind (swept_all _ _ _ _ _ inv.1.0 _ _ inv.1.1 l c.search-test.false);
       swept = inv.1.0;
       inside = stopped_end c.search.flags c.args.kind _ _ inv.1.1 _ inv.0 c.search-test.false;
     }
@@ -62,7 +62,7 @@ returns-then-passes c =
     let l = (passed_limits _ c.requires.arrays.ready.placed.passed).few_clauses in
     let b = swept_before _ _ _ _ _ inv.1.0 c.search.t _ inv.1.1 l (omega (arith, c.search-test.true, c.requires.end)) in
     record {
-      found = ap Some c.new.ensures ∙ targets_hit c.args.facts.now.program.table.words.now c.args.facts.now.program.marks.now c.args.kind c.search.t _ _ (omega (arith, c.search-test.true, c.requires.end)) b (walk_hit c.args.facts.now.program c.args.kind c.search.t _ c.loop-atom.invariant.3 _ _ c.in-Some.ensures.steps (sym c.passes.ensures ∙ c.if-passes.true));
+      found = ap Some c.new.ensures ∙ targets_hit c.args.facts.now.program.now.table.words.now c.args.facts.now.program.now.marks.now c.args.kind c.search.t _ _ (omega (arith, c.search-test.true, c.requires.end)) b (walk_hit c.args.facts.now.program.now c.args.kind c.search.t _ c.loop-atom.invariant.3 _ _ c.in-Some.ensures.steps (sym c.passes.ensures ∙ c.if-passes.true));
       swept = inv.1.0;
       inside = stopped_there c.search.flags c.args.kind c.search.t _ inv.1.1 _ _ refl (ap (λ x. x.target) c.new.ensures);
     }

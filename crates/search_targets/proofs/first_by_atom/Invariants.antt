@@ -14,10 +14,10 @@ invariant-loop-atom l =
     goal.iterator-loop-atom.can_next l.atom-iterator
     × goal.iterator-loop-atom.is_finite l.atom-iterator
     × (l.found ≡ None)
-    × PartWalk l.facts.program l.kind l.t (kept_of l.atom-iterator.words.now l.atom-iterator.marks.now)
+    × PartWalk l.facts.program.now l.kind l.t (kept_of l.atom-iterator.words.now l.atom-iterator.marks.now)
 
 abbrev pub invariant-search : goal.invariant-search
-invariant-search l = (l.found ≡ None) × (Swept l.facts.program.table.words.now l.facts.program.marks.now l.initial.flags l.flags l.kind × Inside l.flags (number l.kind) l.t l.end)
+invariant-search l = (l.found ≡ None) × (Swept l.facts.program.now.table.words.now l.facts.program.now.marks.now l.initial.flags l.flags l.kind × Inside l.flags (number l.kind) l.t l.end)
 
 abbrev pub decreases-search : goal.decreases-search
 decreases-search l = l.end - l.t
