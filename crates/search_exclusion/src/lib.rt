@@ -139,7 +139,7 @@ fn by_atoms(
     ensures known { IfSome result (λ pair. pair.target < clause_count program.now.table) }
 {
     let mut todo = [0u8; 1024];
-    step_exclusion::find_present(program, &mut todo);
+    step_exclusion::fill_present(program, &mut todo);
     let mut best = None;
     for atom in 0..program.table.atom_count() {
         if target_or(best, program.table.clause_count()) <= low {

@@ -11,6 +11,7 @@ ghost use Rattle.table.specs.Places.{start_of};
 ghost use Rattle.table.specs.Clearing.{clear_part, clear_clause, marks_without};
 ghost use Rattle.step_parts.specs.Reading.{atom_count, clause_count, clause_of, program_of, words_of, marks_of};
 ghost use Rattle.step_reach.specs.Bytes.{in_bytes};
+ghost use Rattle.step_reach.specs.Counts.{CountRoom};
 ghost use Rattle.step_reach.specs.Growing.{HasJoined, IsSameSet};
 ghost use Rattle.step_exclusion.specs.Exclusions.{Narrowed, ConsequencesIn, Occurring, part_without};
 
@@ -54,23 +55,45 @@ pub fn narrow(program: &Marked, only: &mut [u8])
     }
 }
 
-// The consequences of the atom: afterwards the byte of an atom is 1 exactly where the atom is one.
-// All arrays come first: one that is made after a call is cleared twice.
-pub fn find_consequences(program: &Marked, atom: u16, bytes: &mut [u8])
+// The consequences of the atom, as a set in arrays that are lent: the byte of an atom is 1 exactly where the atom is one.
+pub fn find_consequences<'a>(
+    program: &Marked,
+    atom: u16,
+    bytes: &'a mut [u8],
+    missing: &'a mut [Count],
+    queue: &'a mut [u16],
+) -> AtomSet<'a>
     requires atom { atom < atom_count program.now.table }
-    requires room { atom_count program.now.table ≤ length bytes.old }
-    ensures { ConsequencesIn (words_of program.now) (marks_of program.now) atom bytes.new }
+    requires room { CountRoom (words_of program.now) bytes.old missing.old }
+    requires queue { 1024 ≤ length queue.old }
+    ensures same_bytes { result.bytes.ghost_name ≡ bytes.entry.ghost_name }
+    ensures same_queue { result.queue.ghost_name ≡ queue.entry.ghost_name }
+    ensures consequences { ConsequencesIn (words_of program.now) (marks_of program.now) atom result.bytes.now }
 {
-    let mut missing: [Count; 2048] = [0; 2048];
-    let mut queue = [0u16; 1024];
     let mut marks = [0u8; 8192];
     narrow(program, &mut marks);
     let definite = Marked {
         table: program.table,
         marks: &marks,
     };
-    let mut closure = Closure::new(&definite, bytes, &mut missing, &mut queue);
+    let mut closure = Closure::new(&definite, bytes, missing, queue);
     closure.close_with(&definite, atom);
+    AtomSet {
+        bytes: closure.bytes,
+        queue: closure.queue,
+        top: closure.top,
+    }
+}
+
+// Their bytes alone. All arrays come first: one that is made after a call is cleared twice.
+pub fn fill_consequences(program: &Marked, atom: u16, bytes: &mut [u8])
+    requires atom { atom < atom_count program.now.table }
+    requires room { atom_count program.now.table ≤ length bytes.old }
+    ensures { ConsequencesIn (words_of program.now) (marks_of program.now) atom bytes.new }
+{
+    let mut missing: [Count; 2048] = [0; 2048];
+    let mut queue = [0u16; 1024];
+    find_consequences(program, atom, bytes, &mut missing, &mut queue);
 }
 
 // ---- the condition
@@ -95,21 +118,33 @@ fn join_clause(program: &Marked, t: usize, set: &mut AtomSet)
     set.join_part(program, t, Part::Neg);
 }
 
-// The atoms that occur: afterwards the byte of an atom is 1 exactly where the atom is in a kept clause.
+// The atoms that occur, as a set in arrays that are lent: the byte of an atom is 1 exactly where the atom is in a kept clause.
 // It works on a copy of the program: what is lent would be read again after every byte that is written.
-pub fn find_present(program: &Marked, bytes: &mut [u8])
-    requires { atom_count program.now.table ≤ length bytes.old }
-    ensures { Occurring (words_of program.now) (marks_of program.now) bytes.new }
+pub fn find_present<'a>(program: &Marked, bytes: &'a mut [u8], queue: &'a mut [u16]) -> AtomSet<'a>
+    requires room { atom_count program.now.table ≤ length bytes.old }
+    requires queue { 1024 ≤ length queue.old }
+    ensures same_bytes { result.bytes.ghost_name ≡ bytes.entry.ghost_name }
+    ensures same_queue { result.queue.ghost_name ≡ queue.entry.ghost_name }
+    ensures present { Occurring (words_of program.now) (marks_of program.now) result.bytes.now }
 {
     let program = *program;
-    let mut queue = [0u16; 1024];
-    let mut present = AtomSet::new(bytes, &mut queue);
+    let mut present = AtomSet::new(bytes, queue);
     for t in 0..program.table.clause_count() {
         if !program.kept(t) {
             continue;
         }
         join_clause(&program, t, &mut present);
     }
+    present
+}
+
+// Their bytes alone.
+pub fn fill_present(program: &Marked, bytes: &mut [u8])
+    requires { atom_count program.now.table ≤ length bytes.old }
+    ensures { Occurring (words_of program.now) (marks_of program.now) bytes.new }
+{
+    let mut queue = [0u16; 1024];
+    find_present(program, bytes, &mut queue);
 }
 
 // Whether every positive atom of clause t is in the set.
@@ -132,11 +167,11 @@ pub fn excluded(program: &Marked, t: usize, atom: u16) -> bool
         return false;
     }
     let mut bytes = [0u8; 1024];
-    find_present(program, &mut bytes);
+    fill_present(program, &mut bytes);
     if !step_reach::is_in(&bytes, atom) {
         return false;
     }
-    find_consequences(program, atom, &mut bytes);
+    fill_consequences(program, atom, &mut bytes);
     body_in(program, t, &bytes)
 }
 
@@ -196,5 +231,32 @@ pub fn remove_atom(table: &Indexed, marks: &mut [u8], atom: u16)
 {
     for t in 0..table.clause_count() {
         clear_clause(table, marks, t, atom);
+    }
+}
+
+#[cfg(test)]
+mod tests {
+    use super::*;
+
+    // 0 or 1. 2 if 0. Not 0 and 2. Of the atoms 0 to 3 the last one occurs nowhere, and 0 and 2 follow from 0.
+    const WORDS: [u16; 17] = [4, 3, 2, 0, 0, 0, 1, 1, 1, 0, 2, 0, 0, 2, 0, 0, 2];
+
+    #[test]
+    fn finds(rt: HostRuntime) {
+        let mut index = [0u16; step_parts::INDEX];
+        let table = Indexed::new(&WORDS, &mut index);
+        let program = Marked {
+            table,
+            marks: &[1; 17],
+        };
+        let mut bytes = [7u8; 4];
+        let mut missing: [Count; 2048] = [0; 2048];
+        let mut queue = [0u16; 1024];
+        let present = find_present(&program, &mut bytes, &mut queue);
+        assert_eq!(rt; present.top, 3);
+        assert_eq!(rt; bytes, [1, 1, 1, 0]);
+        let follows = find_consequences(&program, 0, &mut bytes, &mut missing, &mut queue);
+        assert_eq!(rt; follows.top, 2);
+        assert_eq!(rt; bytes, [1, 0, 1, 0]);
     }
 }

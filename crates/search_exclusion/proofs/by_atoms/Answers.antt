@@ -12,11 +12,11 @@ use Rattle.search_exclusion.proofs.Targets.{improves_as}
 use Rattle.search_exclusion.proofs.Tries.{tried_start, tried_on}
 use Rattle.search_exclusion.proofs.by_atoms.Goals as goal
 
-pub find_present-requires : goal.find_present-requires
-find_present-requires c = omega (arith, (passed_limits _ c.args.program.now.table.placed.passed).few_atoms, length-replicate {A = ℕ} 1024 0)
+pub fill_present-requires : goal.fill_present-requires
+fill_present-requires c = omega (arith, (passed_limits _ c.args.program.now.table.placed.passed).few_atoms, length-replicate {A = ℕ} 1024 0)
 
 pub loop-atom-init : goal.loop-atom-init
-loop-atom-init c = let p = c.args.program.now in (c.atom_count-atom-end.ensures, omega arith, search rules, tt, tried_start _ (program_of p) _ c.requires.targets _ _ (sym (length_view p.table.words.now p.marks.now)) refl c.find_present.ensures.is, c.requires.room, c.requires.settled, refl)
+loop-atom-init c = let p = c.args.program.now in (c.atom_count-atom-end.ensures, omega arith, search rules, tt, tried_start _ (program_of p) _ c.requires.targets _ _ (sym (length_view p.table.words.now p.marks.now)) refl c.fill_present.ensures.is, c.requires.room, c.requires.settled, refl)
 
 pub loop-atom-preserved : goal.loop-atom-preserved
 loop-atom-preserved c =

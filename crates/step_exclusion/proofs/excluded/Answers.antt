@@ -12,14 +12,14 @@ use Rattle.step_exclusion.proofs.excluded.Goals as goal
 pub returns-then-not-is_plain : goal.returns-then-not-is_plain
 returns-then-not-is_plain c = let p = c.args.program.now in not_plain (left (program_of p)) (clause_of p c.args.t) c.args.atom (sym c.is_plain.ensures ∙ c.if-not-is_plain.true)
 
-pub find_present-requires : goal.find_present-requires
-find_present-requires c = omega (arith, (passed_limits _ c.args.program.now.table.placed.passed).few_atoms, length-replicate {A = ℕ} 1024 0)
+pub fill_present-requires : goal.fill_present-requires
+fill_present-requires c = omega (arith, (passed_limits _ c.args.program.now.table.placed.passed).few_atoms, length-replicate {A = ℕ} 1024 0)
 
-pub find_consequences-requires-clause-room : goal.find_consequences-requires-clause-room
-find_consequences-requires-clause-room c = omega (arith, (passed_limits _ c.args.program.now.table.placed.passed).few_atoms, length-replicate {A = ℕ} 1024 0, c.find_present.auto.bytes)
+pub fill_consequences-requires-clause-room : goal.fill_consequences-requires-clause-room
+fill_consequences-requires-clause-room c = omega (arith, (passed_limits _ c.args.program.now.table.placed.passed).few_atoms, length-replicate {A = ℕ} 1024 0, c.fill_present.auto.bytes)
 
 pub returns-then-not-is_in : goal.returns-then-not-is_in
-returns-then-not-is_in c = let p = c.args.program.now in condition_none (left (program_of p)) (clause_of p c.args.t) c.args.atom (sym c.is_plain.ensures ∙ c.if-not-is_plain.false) (sym (c.find_present.ensures.is c.args.atom) ∙ sym c.is_in.ensures ∙ c.if-not-is_in.true)
+returns-then-not-is_in c = let p = c.args.program.now in condition_none (left (program_of p)) (clause_of p c.args.t) c.args.atom (sym c.is_plain.ensures ∙ c.if-not-is_plain.false) (sym (c.fill_present.ensures.is c.args.atom) ∙ sym c.is_in.ensures ∙ c.if-not-is_in.true)
 
 pub returns : goal.returns
-returns c = let p = c.args.program.now in c.body_in.ensures ∙ condition_all (left (program_of p)) (clause_of p c.args.t) c.args.atom _ (sym c.is_plain.ensures ∙ c.if-not-is_plain.false) (sym (c.find_present.ensures.is c.args.atom) ∙ sym c.is_in.ensures ∙ c.if-not-is_in.false) c.find_consequences.ensures.is
+returns c = let p = c.args.program.now in c.body_in.ensures ∙ condition_all (left (program_of p)) (clause_of p c.args.t) c.args.atom _ (sym c.is_plain.ensures ∙ c.if-not-is_plain.false) (sym (c.fill_present.ensures.is c.args.atom) ∙ sym c.is_in.ensures ∙ c.if-not-is_in.false) c.fill_consequences.ensures.is

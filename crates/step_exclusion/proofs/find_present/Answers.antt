@@ -30,5 +30,5 @@ loop-t-preserved c =
       seen = seen_on _ _ _ n.seen (sym c.kept.ensures ∙ c.if-not-kept.false) j.joined;
     }
 
-pub returns : goal.returns
-returns c = occurring_as (search rules) (seen_end _ _ c.loop-t.t c.loop-t.present.bytes.now (omega (arith, c.loop-t.invariant.end)) c.loop-t.invariant.seen)
+pub returns-clause-present : goal.returns-clause-present
+returns-clause-present c = occurring_as (search rules) (seen_end _ _ c.loop-t.t c.loop-t.present.bytes.now (omega (arith, c.loop-t.invariant.end)) c.loop-t.invariant.seen)
