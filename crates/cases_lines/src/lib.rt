@@ -6,6 +6,10 @@ ghost use Rattle.cases_lines.specs.Signs.{sign_of, mark_of};
 
 use text_writer::Output;
 
+mod displays;
+
+pub use displays::{Answered, Marks, Text, Words};
+
 // The descriptor of standard output.
 const STDOUT_FILENO: i32 = 1;
 
