@@ -1,5 +1,5 @@
 // What is printed of a call, for any writer: each type says which bytes it writes.
-// Words, marks and texts are three types, each with a loop of its own, since callers name them.
+// Words, marks and texts are three public types, each with a loop of its own.
 
 use crate::{PLACES, exchanged};
 use std::fmt;

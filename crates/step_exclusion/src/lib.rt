@@ -85,7 +85,7 @@ pub fn find_consequences<'a>(
     }
 }
 
-// Their bytes alone. All arrays come first: one that is made after a call is cleared twice.
+// The bytes of that set alone. All arrays come first: one that is made after a call is cleared twice.
 pub fn fill_consequences(program: &Marked, atom: u16, bytes: &mut [u8])
     requires atom { atom < atom_count program.now.table }
     requires room { atom_count program.now.table ≤ length bytes.old }
@@ -138,7 +138,7 @@ pub fn find_present<'a>(program: &Marked, bytes: &'a mut [u8], queue: &'a mut [u
     present
 }
 
-// Their bytes alone.
+// The bytes of that set alone.
 pub fn fill_present(program: &Marked, bytes: &mut [u8])
     requires { atom_count program.now.table ≤ length bytes.old }
     ensures { Occurring (words_of program.now) (marks_of program.now) bytes.new }
